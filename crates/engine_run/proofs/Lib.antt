@@ -1,5 +1,7 @@
+pub mod GroupLemmas
 pub mod RoundLemmas
 pub mod AnswerLemmas
+pub mod AskLemmas
 pub mod TellLemmas
 pub mod TakeLemmas
 pub mod SendLemmas

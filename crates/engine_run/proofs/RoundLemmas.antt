@@ -8,7 +8,9 @@ use Rattle.studio_session.specs.Event.{TraceEvent, Arrival, Reading, Closing}
 use Rattle.studio_session.specs.Fault.{closed_at, time_at}
 use Rattle.studio_engine.specs.Session.{turned}
 use Rattle.studio_io.specs.Clocks.{TellsTime, time_with}
-use Rattle.engine_run.specs.Rounds.{AreArrivals, AreNext, AreRounds, Round, answers_of, arrivals_on, datagram_in, datagrams_on, events_by, time_by}
+use Rattle.studio_io.specs.Answers.{Answer}
+use Rattle.engine_run.specs.Asked.{round_datagrams, round_left}
+use Rattle.engine_run.specs.Rounds.{AreArrivals, AreNext, AreRounds, GivesByRounds, Round, answers_of, arrivals_on, datagram_in, datagrams_on, events_by, time_by}
 
 pub datagrams-append : (s p : ℕ) (xs ys : List TraceEvent) → datagrams_on s p (xs ++ ys) ≡ datagrams_on s p xs ++ datagrams_on s p ys
 datagrams-append s p xs ys = flat_map-append (λ event. datagram_in s p event) xs ys
@@ -91,30 +93,30 @@ more-rounds time (first ∷ rounds) round =
     ∙ sym (append_assoc (turned time t []) (first.arrivals ++ events_by t rounds) rest))
 
 -- the events of one round more
-pub one-round : (open_at : ℤ) (rounds : List Round) (answer : ℤ) (arrivals : List TraceEvent) (old new : ℤ) → old ≡ time_by open_at rounds → new ≡ time_with old answer
-    → turned old new (events_by open_at rounds) ++ arrivals ≡ events_by open_at (rounds ++ record { answer = answer; arrivals = arrivals } ∷ [])
-one-round open_at rounds answer arrivals old new old_is new_is =
+pub one-round : (open_at : ℤ) (rounds : List Round) (answer : ℤ) (asked : Bool) (arrivals : List TraceEvent) (old new : ℤ) → old ≡ time_by open_at rounds → new ≡ time_with old answer
+    → turned old new (events_by open_at rounds) ++ arrivals ≡ events_by open_at (rounds ++ record { answer = answer; asked = asked; arrivals = arrivals } ∷ [])
+one-round open_at rounds answer asked arrivals old new old_is new_is =
     let events = events_by open_at rounds in
     let last = time_by open_at rounds in
     ap (λ l. l ++ arrivals) (turned-after old new events)
     ∙ (append_assoc events (turned old new []) arrivals
     ∙ (ap (λ t. events ++ (turned t new [] ++ arrivals)) old_is
     ∙ (ap (λ t. events ++ (turned last t [] ++ arrivals)) (new_is ∙ ap (λ t. time_with t answer) old_is)
-    ∙ sym (more-rounds open_at rounds (record { answer = answer; arrivals = arrivals })))))
+    ∙ sym (more-rounds open_at rounds (record { answer = answer; asked = asked; arrivals = arrivals })))))
 
 -- what arrives after the last reading stands behind the events
 pub last-takes : (time : ℤ) (front : List Round) (answer : ℤ) (arrivals : List TraceEvent)
-    → events_by time (front ++ record { answer = answer; arrivals = arrivals } ∷ []) ≡ events_by time (front ++ record { answer = answer; arrivals = [] } ∷ []) ++ arrivals
+    → events_by time (front ++ record { answer = answer; asked = true; arrivals = arrivals } ∷ []) ≡ events_by time (front ++ record { answer = answer; asked = false; arrivals = [] } ∷ []) ++ arrivals
 last-takes time front answer arrivals =
     let events = events_by time front in
     let turn = turned (time_by time front) (time_with (time_by time front) answer) [] in
-    more-rounds time front (record { answer = answer; arrivals = arrivals })
+    more-rounds time front (record { answer = answer; asked = true; arrivals = arrivals })
     ∙ (sym (append_assoc events turn arrivals)
-    ∙ ap (λ l. l ++ arrivals) (ap (λ l. events ++ l) (sym (append-nil turn)) ∙ sym (more-rounds time front (record { answer = answer; arrivals = [] }))))
+    ∙ ap (λ l. l ++ arrivals) (ap (λ l. events ++ l) (sym (append-nil turn)) ∙ sym (more-rounds time front (record { answer = answer; asked = false; arrivals = [] }))))
 
 -- and changes no answer
 pub answers-last : (front : List Round) (answer : ℤ) (arrivals : List TraceEvent)
-    → answers_of (front ++ record { answer = answer; arrivals = [] } ∷ []) ≡ answers_of (front ++ record { answer = answer; arrivals = arrivals } ∷ [])
+    → answers_of (front ++ record { answer = answer; asked = false; arrivals = [] } ∷ []) ≡ answers_of (front ++ record { answer = answer; asked = true; arrivals = arrivals } ∷ [])
 answers-last [] answer arrivals = refl
 answers-last (round ∷ front) answer arrivals = ap (λ l. round.answer ∷ l) (answers-last front answer arrivals)
 
@@ -171,7 +173,19 @@ pub next-more : (told left : List ℤ) (answer : ℤ) (later : List ℤ) → Tel
 next-more [] left answer later tells next = tt
 next-more (first ∷ told) left answer later tells next = (tells.0, rw tells.1 at next)
 
-pub answers-more : (rounds : List Round) (answer : ℤ) (arrivals : List TraceEvent) (later : List ℤ)
-    → answers_of rounds ++ answer ∷ later ≡ answers_of (rounds ++ record { answer = answer; arrivals = arrivals } ∷ []) ++ later
-answers-more [] answer arrivals later = refl
-answers-more (round ∷ rounds) answer arrivals later = ap (λ l. round.answer ∷ l) (answers-more rounds answer arrivals later)
+pub answers-more : (rounds : List Round) (answer : ℤ) (asked : Bool) (arrivals : List TraceEvent) (later : List ℤ)
+    → answers_of rounds ++ answer ∷ later ≡ answers_of (rounds ++ record { answer = answer; asked = asked; arrivals = arrivals } ∷ []) ++ later
+answers-more [] answer asked arrivals later = refl
+answers-more (round ∷ rounds) answer asked arrivals later = ap (λ l. round.answer ∷ l) (answers-more rounds answer asked arrivals later)
+
+-- what a feed gave round by round, and in one round more
+pub by-rounds-more : (stream path : ℕ) (told mid left : List Answer) (rounds : List Round) (round : Round) → GivesByRounds stream path told rounds mid
+    → datagrams_on stream path round.arrivals ≡ round_datagrams round.asked mid → left ≡ round_left round.asked mid → GivesByRounds stream path told (rounds ++ round ∷ []) left
+by-rounds-more stream path told mid left [] round h given rest = (given ∙ ap (round_datagrams round.asked) (sym h), ap (round_left round.asked) h ∙ sym rest)
+by-rounds-more stream path told mid left (first ∷ rounds) round h given rest = (h.0, by-rounds-more stream path (round_left first.asked told) mid left rounds round h.1 given rest)
+
+-- without a last round that asked nothing
+pub by-rounds-front : (stream path : ℕ) (told left : List Answer) (front : List Round) (answer : ℤ)
+    → GivesByRounds stream path told (front ++ record { answer = answer; asked = false; arrivals = [] } ∷ []) left → GivesByRounds stream path told front left
+by-rounds-front stream path told left [] answer h = h.1
+by-rounds-front stream path told left (first ∷ front) answer h = (h.0, by-rounds-front stream path (round_left first.asked told) left front answer h.1)

@@ -3,6 +3,7 @@ use Rattle.std.proofs.Common.{◌≡◌, ℕ, ◌+◌, ◌<◌, ◌^◌, true, f
 use Rattle.std.specs.declared.vec.Vec.{Vec}
 use Rattle.std.specs.declared.alloc.Global.{Global}
 use Rattle.std.proofs.lemmas.Bool.{false≢true}
+use Rattle.rtp_stream.specs.declared.stream_spec.Stream.{Stream}
 use Rattle.studio_config.specs.Studio.{Studio}
 use Rattle.studio_mix.proofs.FirstBlockLemmas.{first_all}
 use Rattle.studio_session.specs.Event.{TraceEvent}
@@ -15,8 +16,10 @@ use Rattle.studio_io.specs.Answers.{Answer}
 use Rattle.studio_io.specs.Clocks.{TellsTime, time_with}
 use Rattle.studio_io.specs.Sinks.{Hands}
 use Rattle.studio_io.specs.declared.report.WorkReport.{WorkReport}
-use Rattle.engine_run.specs.Rounds.{AreNext, AreRounds, Round, answers_of, datagrams_on, events_by, events_of, time_by}
-use Rattle.engine_run.specs.Runs.{IsDone, IsSettledRun, IsTurned, IsUnderWay}
+use Rattle.engine_run.specs.Asked.{left_by, until_end}
+use Rattle.engine_run.specs.Rounds.{AreNext, AreRounds, GivesByRounds, Round, answers_of, datagrams_on, events_by, events_of, time_by}
+use Rattle.engine_run.specs.Grouping.{grouped}
+use Rattle.engine_run.specs.Runs.{AreTakenByRounds, HaveAllArrived, IsDone, IsSettledRun, IsTurned, IsUnderWay}
 use Rattle.engine_run.specs.Output.{HasSent}
 use Rattle.engine_run.specs.Intake.{AllEnded, HasCome, HaveBegun, HaveGiven, TakesAll}
 use Rattle.engine_run.specs.Observers.{Closed, Heard, Hears, heard_by}
@@ -36,6 +39,11 @@ pub if-five : {T E : Type 0} (r : Result T E) (A B C D F Q : T → Type 0) → I
 if-five (Ok x) A B C D F Q a b c d f all = all x a b c d f
 if-five (Err e) A B C D F Q a b c d f all = tt
 
+-- one fact of an answer
+pub if-one : {T E : Type 0} (r : Result T E) (A Q : T → Type 0) → IfOk r A → ((x : T) → A x → Q x) → IfOk r Q
+if-one (Ok x) A Q a all = all x a
+if-one (Err e) A Q a all = tt
+
 -- more that was sent and counted
 count-more : (old mid : ℕ) (xs ys : List (List ℕ)) → (length xs < 2 ^ 64 → old ≡ length xs) → (old + length ys < 2 ^ 64 → mid ≡ old + length ys) → length (xs ++ ys) < 2 ^ 64 → mid ≡ length (xs ++ ys)
 count-more old mid xs ys h k few =
@@ -47,16 +55,16 @@ count-more old mid xs ys h k few =
 module _ {F C K T : Type 0} (feed_told : F → List Answer) (clock_told : C → List ℤ) (sink_handed : K → Option (List (List ℕ))) (tap_heard : T → Option (List Heard))
     (studio : Studio) (all : List (List (List Answer))) (clock : List ℤ) (before : Option (List (List ℕ))) (earlier : Option (List Heard)) where
   -- before the first round
-  pub run-begins : (feeds : List (Vec F Global)) (state : RunState F C K T) → all ≡ map (λ (own : Vec F Global). map feed_told own.items) feeds → clock ≡ clock_told state.clock → before ≡ sink_handed state.sink → earlier ≡ tap_heard state.tap
-      → HasSession studio state.engine [] [] → HaveBegun feeds state.readers.items → state.counts.blocks ≡ 0 → IsUnderWay feed_told clock_told sink_handed tap_heard studio all clock before earlier state
-  run-begins feeds state all_is clock_is before_is earlier_is s begun none = record {
+  pub run-begins : (feeds : List F) (state : RunState F C K T) (streams : List Stream) → streams ≡ studio.streams → all ≡ grouped studio.streams (map feed_told feeds) → clock ≡ clock_told state.clock → before ≡ sink_handed state.sink → earlier ≡ tap_heard state.tap
+      → HasSession studio state.engine [] [] → HaveBegun streams feeds state.readers.items → state.counts.blocks ≡ 0 → IsUnderWay feed_told clock_told sink_handed tap_heard studio all clock before earlier state
+  run-begins feeds state streams streams_are all_is clock_is before_is earlier_is s begun none = record {
     rounds = [];
     datagrams = [];
     stands = s;
     time = s.time;
     bounded = tt;
     clocked = λ later next. subst (λ l. AreNext l later) (sym clock_is) next;
-    given = subst (λ l. HaveGiven feed_told l state.readers.items []) (sym all_is) (given-none feed_told feeds state.readers.items begun);
+    given = subst (λ l. HaveGiven feed_told l state.readers.items [] []) (sym all_is) (given-none feed_told studio.streams feeds state.readers.items (subst (λ (l : List Stream). HaveBegun l feeds state.readers.items) streams_are begun));
     count = λ few. none;
     handed = subst (λ o. Hands o [] (sink_handed state.sink)) (sym before_is) (adds_none (sink_handed state.sink));
     heard = subst (λ o. Hears o [] (tap_heard state.tap)) (sym earlier_is) (adds_none (tap_heard state.tap));
@@ -69,19 +77,19 @@ module _ {F C K T : Type 0} (feed_told : F → List Answer) (clock_told : C → 
       → new.engine.time ≡ now → new.readers.items ≡ old.readers.items → new.tap ≡ old.tap
       → IsTurned feed_told clock_told sink_handed tap_heard studio all clock before earlier new
   turn-more old new h answer now now_is tells sent there readers tap =
-      let round : Round = record { answer = answer; arrivals = [] } in
+      let round : Round = record { answer = answer; asked = false; arrivals = [] } in
       let before_it = events_by studio.open_at h.rounds in
       let turn = turned old.engine.time now before_it in
-      let events : turn ≡ events_by studio.open_at (h.rounds ++ round ∷ []) = sym (append-nil turn) ∙ one-round studio.open_at h.rounds answer [] old.engine.time now h.time now_is in
+      let events : turn ≡ events_by studio.open_at (h.rounds ++ round ∷ []) = sym (append-nil turn) ∙ one-round studio.open_at h.rounds answer false [] old.engine.time now h.time now_is in
       record {
         run = record {
           rounds = h.rounds ++ round ∷ [];
           datagrams = h.datagrams ++ sent.more;
           stands = subst (λ l. HasSession studio new.engine l (h.datagrams ++ sent.more)) events sent.stands;
           time = there ∙ (now_is ∙ (ap (λ t. time_with t answer) h.time ∙ sym (time-more studio.open_at h.rounds round)));
-          bounded = rounds-more h.rounds round h.bounded (record { arrive = tt; few = λ stream path. omega arith }, tt);
-          clocked = λ later next. subst (AreNext clock) (answers-more h.rounds answer [] later) (h.clocked (answer ∷ later) (next-more (clock_told old.clock) (clock_told new.clock) answer later tells next));
-          given = subst (HaveGiven feed_told all new.readers.items) events (subst (λ l. HaveGiven feed_told all l turn) (sym readers) (given-turned feed_told all old.readers.items old.engine.time now before_it h.given));
+          bounded = rounds-more h.rounds round h.bounded (record { arrive = tt; few = λ stream path. omega arith; none = λ _. refl }, tt);
+          clocked = λ later next. subst (AreNext clock) (answers-more h.rounds answer false [] later) (h.clocked (answer ∷ later) (next-more (clock_told old.clock) (clock_told new.clock) answer later tells next));
+          given = subst (λ l. HaveGiven feed_told all new.readers.items l (h.rounds ++ round ∷ [])) events (subst (λ l. HaveGiven feed_told all l turn (h.rounds ++ round ∷ [])) (sym readers) (given-turned feed_told all old.readers.items old.engine.time now before_it h.rounds answer h.given));
           count = count-more old.counts.blocks new.counts.blocks h.datagrams sent.more h.count sent.count;
           handed = adds_more before (sink_handed old.sink) (sink_handed new.sink) h.datagrams sent.more h.handed sent.handed;
           heard = subst (λ l. Hears earlier (heard_by studio.open_at l) (tap_heard new.tap)) events
@@ -118,14 +126,14 @@ module _ {F C K T : Type 0} (feed_told : F → List Answer) (clock_told : C → 
       }
 
   -- what arrived since the last
-  pub take-more : (old new : RunState F C K T) (h : IsTurned feed_told clock_told sink_handed tap_heard studio all clock before earlier old) (olds news : List (Vec (FeedReader F) Global)) (count : ℕ)
+  pub take-more : (old new : RunState F C K T) (h : IsTurned feed_told clock_told sink_handed tap_heard studio all clock before earlier old) (olds news : List (Vec (FeedReader F) Global)) (count : ℕ) → count ≡ length olds
       → old.readers.items ≡ olds → new.readers.items ≡ news → new.clock ≡ old.clock → new.sink ≡ old.sink → new.counts ≡ old.counts
       → TakesAll feed_told studio new.engine (events_by studio.open_at h.run.rounds) h.run.datagrams olds news (tap_heard old.tap) (tap_heard new.tap) count
       → IsUnderWay feed_told clock_told sink_handed tap_heard studio all clock before earlier new
-  take-more old new h olds news count olds_is news_is clock_is sink_is counts_is t =
+  take-more old new h olds news count all_count olds_is news_is clock_is sink_is counts_is t =
       let run = h.run in
-      let last : Round = record { answer = h.answer; arrivals = [] } in
-      let round : Round = record { answer = h.answer; arrivals = t.arrivals } in
+      let last : Round = record { answer = h.answer; asked = false; arrivals = [] } in
+      let round : Round = record { answer = h.answer; asked = true; arrivals = t.arrivals } in
       let before_it = events_by studio.open_at run.rounds in
       let events : before_it ++ t.arrivals ≡ events_by studio.open_at (h.front ++ round ∷ []) = ap (λ l. events_by studio.open_at l ++ t.arrivals) h.last ∙ sym (last-takes studio.open_at h.front h.answer t.arrivals) in
       let times : time_by studio.open_at run.rounds ≡ time_by studio.open_at (h.front ++ round ∷ []) = ap (time_by studio.open_at) h.last ∙ (time-more studio.open_at h.front last ∙ sym (time-more studio.open_at h.front round)) in
@@ -135,11 +143,11 @@ module _ {F C K T : Type 0} (feed_told : F → List Answer) (clock_told : C → 
         datagrams = run.datagrams;
         stands = subst (λ l. HasSession studio new.engine l run.datagrams) events t.stands;
         time = t.stands.time ∙ (time-arrivals studio.open_at before_it t.arrivals t.arrive ∙ (sym run.stands.time ∙ (run.time ∙ times)));
-        bounded = rounds-more h.front round (rounds-front h.front (last ∷ []) (subst AreRounds h.last run.bounded)) (record { arrive = t.arrive; few = t.few }, tt);
+        bounded = rounds-more h.front round (rounds-front h.front (last ∷ []) (subst AreRounds h.last run.bounded)) (record { arrive = t.arrive; few = t.few; none = λ e. absurd (false≢true (sym e)) }, tt);
         clocked = λ later next. subst (λ l. AreNext clock (l ++ later)) answers (run.clocked later (subst (λ (c : C). AreNext (clock_told c) later) clock_is next));
-        given = subst (HaveGiven feed_told all new.readers.items) events (subst (λ l. HaveGiven feed_told all l (before_it ++ t.arrivals)) (sym news_is)
-            (given-more feed_told studio new.engine all olds news before_it run.datagrams (tap_heard old.tap) (tap_heard new.tap) count
-            (subst (λ l. HaveGiven feed_told all l before_it) olds_is run.given) t));
+        given = subst (λ l. HaveGiven feed_told all new.readers.items l (h.front ++ round ∷ [])) events (subst (λ l. HaveGiven feed_told all l (before_it ++ t.arrivals) (h.front ++ round ∷ [])) (sym news_is)
+            (given-more feed_told studio new.engine all olds news before_it run.datagrams (tap_heard old.tap) (tap_heard new.tap) count h.front h.answer all_count
+            (subst (HaveGiven feed_told all olds before_it) h.last (subst (λ l. HaveGiven feed_told all l before_it run.rounds) olds_is run.given)) t));
         count = λ few. ap (λ counts. counts.blocks) counts_is ∙ run.count few;
         handed = subst (λ (k : K). Hands before run.datagrams (sink_handed k)) (sym sink_is) run.handed;
         heard = subst (λ l. Hears earlier (heard_by studio.open_at l) (tap_heard new.tap)) events
@@ -168,20 +176,26 @@ module _ {F C K T : Type 0} (feed_told : F → List Answer) (clock_told : C → 
             let reader = found.2 path told there in
             let over = ended stream found.0 found.1 path reader.0 reader.1 in
             subst (λ b. HasCome told b reader.0.state.in_a_row (feed_told reader.0.feed) (datagrams_on stream path (events_by studio.open_at h.rounds))) over (reader.2 whole);
+        taken = λ stream path own told at there whole.
+            let found = h.given.each stream own at in
+            let reader = found.2 path told there in
+            let over = ended stream found.0 found.1 path reader.0 reader.1 in
+            subst (λ b. GivesByRounds stream path (until_end 0 told) h.rounds (left_by b reader.0.state.in_a_row (feed_told reader.0.feed))) over (reader.3 whole).1;
         count = count-more old.counts.blocks new.counts.blocks h.datagrams sent.more h.count sent.count;
         handed = adds_more before (sink_handed old.sink) (sink_handed new.sink) h.datagrams sent.more h.handed sent.handed;
         heard = hears_close studio.open_at (events_by studio.open_at h.rounds) earlier (tap_heard old.tap) (tap_heard new.tap) mid.time closed.time h.heard told;
       }
 
   -- and its report
-  pub run-settled : (state : RunState F C K T) (report : WorkReport) (after : Option (List (List ℕ))) (later : Option (List Heard)) (d : IsDone sink_handed tap_heard studio all clock before earlier state)
-      → AreCounts studio (events_of studio d.rounds) report.streams.items → report.blocks ≡ state.counts.blocks → after ≡ sink_handed state.sink → later ≡ tap_heard state.tap
-      → IsSettledRun studio all clock report before after earlier later
-  run-settled state report after later d counts blocks after_is later_is = record {
+  pub run-settled : (feeds : List (List Answer)) (state : RunState F C K T) (report : WorkReport) (after : Option (List (List ℕ))) (later : Option (List Heard)) (d : IsDone sink_handed tap_heard studio all clock before earlier state)
+      → all ≡ grouped studio.streams feeds → AreCounts studio (events_of studio d.rounds) report.streams.items → report.blocks ≡ state.counts.blocks → after ≡ sink_handed state.sink → later ≡ tap_heard state.tap
+      → IsSettledRun studio feeds clock report before after earlier later
+  run-settled feeds state report after later d all_is counts blocks after_is later_is = record {
     rounds = d.rounds;
     bounded = d.bounded;
     clocked = d.clocked;
-    arrived = d.arrived;
+    arrived = subst (λ l. HaveAllArrived studio l d.rounds) all_is d.arrived;
+    taken = subst (λ l. AreTakenByRounds l d.rounds) all_is d.taken;
     lawful = d.stands.lawful;
     datagrams = d.datagrams;
     given = first_all studio (feeds_of studio (events_of studio d.rounds)) d.datagrams d.stands.given.first (settled_ready studio state.engine (events_of studio d.rounds) d.datagrams d.stands d.settled);

@@ -1,11 +1,12 @@
 -- What was taken of the feeds, one answer, one feed and one stream further.
-use Rattle.std.proofs.Common.{◌≡◌, ◌≢◌, inl, inr, ℕ, zero, suc, ◌+◌, ◌≤◌, ◌<◌, true, List, [], ◌∷◌, ◌++◌, length, map, get_or, ℤ, Option, Some, slice_get, unwrap_or, refl, sym, ap, subst, ◌∙◌, arith, append_assoc, append-nil, length-append}
+use Rattle.std.proofs.Common.{◌≡◌, ◌≢◌, inl, inr, ℕ, zero, suc, ◌+◌, ◌≤◌, ◌<◌, true, false, List, [], ◌∷◌, ◌++◌, length, map, get_or, ℤ, Option, Some, slice_get, unwrap_or, refl, sym, ap, subst, ◌∙◌, arith, append_assoc, append-nil, length-append}
 use Rattle.std.specs.declared.vec.Vec.{Vec}
 use Rattle.std.specs.declared.alloc.Global.{Global}
 use Rattle.std.proofs.Math.ListN.{set}
 use Rattle.std.proofs.lemmas.Bool.{cases_eq}
 use Rattle.std.proofs.lemmas.List.{get_or-set_other, length-set}
 use Rattle.std.proofs.lemmas.Option.{get_or_from_slice_get, slice_get_read, slice_get_within}
+use Rattle.rtp_stream.specs.declared.stream_spec.Stream.{Stream}
 use Rattle.studio_config.specs.Studio.{Studio}
 use Rattle.studio_session.specs.Event.{TraceEvent, Arrival}
 use Rattle.studio_session.specs.Fault.{time_at}
@@ -13,12 +14,16 @@ use Rattle.studio_session.proofs.PlayLemmas.{set_here}
 use Rattle.studio_engine.specs.Engine.{EngineState}
 use Rattle.studio_engine.specs.Session.{HasSession, turned}
 use Rattle.studio_io.specs.Answers.{Answer, reaches_end, told_datagrams}
-use Rattle.engine_run.specs.Rounds.{arrivals_on, datagrams_on}
-use Rattle.engine_run.specs.Intake.{AllEnded, GoesOn, HaveBegun, HaveEnded, HaveGiven, IsGiven, Takes, TakesAll, TakesStream, new_reader}
+use Rattle.engine_run.specs.Grouping.{grouped}
+use Rattle.engine_run.specs.Asked.{until_end}
+use Rattle.engine_run.specs.Rounds.{Round, arrivals_on, datagrams_on}
+use Rattle.engine_run.specs.Intake.{AllEnded, Asks, GoesOn, HaveBegun, HaveEnded, HaveGiven, IsGiven, Takes, TakesAll, TakesStream, left_in, new_reader}
 use Rattle.engine_run.specs.Observers.{Heard, Hears, heard_by}
 use Rattle.engine_run.specs.declared.feed_reader.FeedReader.{FeedReader}
 use Rattle.engine_run.proofs.AnswerLemmas.{goes-further, goes-nowhere}
-use Rattle.engine_run.proofs.RoundLemmas.{are_arrivals, arrivals-append, datagrams-append, datagrams-turned, more_beside, more_elsewhere, more_here, none_more, none_before}
+use Rattle.engine_run.proofs.AskLemmas.{asks-more, asks-stop}
+use Rattle.engine_run.proofs.GroupLemmas.{grouped-map}
+use Rattle.engine_run.proofs.RoundLemmas.{are_arrivals, arrivals-append, by-rounds-front, by-rounds-more, datagrams-append, datagrams-turned, more_beside, more_elsewhere, more_here, none_more, none_before}
 use Rattle.engine_run.proofs.TellLemmas.{adds_none, hears_more}
 
 -- an element beside one that was written
@@ -80,33 +85,54 @@ module _ {F : Type 0} where
 module _ {F : Type 0} (feed_told : F → List Answer) where
   -- a feed that gave nothing
   pub takes-none : (studio : Studio) (engine : EngineState) (events : List TraceEvent) (datagrams : List (List ℕ)) (stream path : ℕ) (old new : FeedReader F) (o : Option (List Heard)) (most : ℕ)
-      → HasSession studio engine events datagrams → GoesOn feed_told old new [] → Takes feed_told studio engine events datagrams stream path old new o o most
-  takes-none studio engine events datagrams stream path old new o most s goes = record {
-    given = [];
-    few = omega arith;
-    stands = subst (λ l. HasSession studio engine l datagrams) (sym (append-nil events)) s;
-    heard = adds_none o;
-    goes_on = goes;
-  }
+      → HasSession studio engine events datagrams → GoesOn feed_told old new [] → Asks feed_told most old new []
+      → (t : Takes feed_told studio engine events datagrams stream path old new o o most) × (t.given ≡ [])
+  takes-none studio engine events datagrams stream path old new o most s goes asks = (
+    record {
+      given = [];
+      few = omega arith;
+      stands = subst (λ l. HasSession studio engine l datagrams) (sym (append-nil events)) s;
+      heard = adds_none o;
+      goes_on = goes;
+      asks = asks;
+    },
+    refl,
+  )
 
-  -- one answer more
-  pub takes-more : (studio : Studio) (mid new : EngineState) (events : List TraceEvent) (datagrams : List (List ℕ)) (stream path : ℕ) (a b c : FeedReader F) (o p q : Option (List Heard)) (most : ℕ)
-      → (t : Takes feed_told studio mid events datagrams stream path a b o p most) → Takes feed_told studio new (events ++ arrivals_on stream path t.given) datagrams stream path b c p q 1
-      → Takes feed_told studio new events datagrams stream path a c o q (most + 1)
-  takes-more studio mid new events datagrams stream path a b c o p q most t one = record {
-    given = t.given ++ one.given;
-    few = let f = t.few in let g = one.few in omega (arith, f, g, length-append t.given one.given);
-    stands = subst (λ l. HasSession studio new l datagrams)
-        (append_assoc events (arrivals_on stream path t.given) (arrivals_on stream path one.given) ∙ ap (λ l. events ++ l) (sym (arrivals-more stream path t.given one.given))) one.stands;
-    heard = subst (λ l. Hears o (heard_by (time_at studio.open_at events) l) q) (sym (arrivals-more stream path t.given one.given))
-        (hears_more studio.open_at events o p q (arrivals_on stream path t.given) (arrivals_on stream path one.given) t.heard one.heard);
-    goes_on = goes-further feed_told a b c t.given one.given t.goes_on one.goes_on;
-  }
+  module _ (studio : Studio) (mid new : EngineState) (events : List TraceEvent) (datagrams : List (List ℕ)) (stream path : ℕ) (a b c : FeedReader F) (o p q : Option (List Heard)) (k : ℕ)
+      (t : Takes feed_told studio mid events datagrams stream path a b o p k) (full : length t.given ≡ k) (one : Takes feed_told studio new (events ++ arrivals_on stream path t.given) datagrams stream path b c p q 1) where
+    stands_more : HasSession studio new (events ++ arrivals_on stream path (t.given ++ one.given)) datagrams
+    stands_more = subst (λ l. HasSession studio new l datagrams)
+        (append_assoc events (arrivals_on stream path t.given) (arrivals_on stream path one.given) ∙ ap (λ l. events ++ l) (sym (arrivals-more stream path t.given one.given))) one.stands
 
-  -- fewer than so many
-  pub takes-within : (studio : Studio) (engine : EngineState) (events : List TraceEvent) (datagrams : List (List ℕ)) (stream path : ℕ) (old new : FeedReader F) (o p : Option (List Heard)) (n most : ℕ)
-      → n ≤ most → Takes feed_told studio engine events datagrams stream path old new o p n → Takes feed_told studio engine events datagrams stream path old new o p most
-  takes-within studio engine events datagrams stream path old new o p n most h t = record { given = t.given; few = (let f = t.few in omega (arith, f, h)); stands = t.stands; heard = t.heard; goes_on = t.goes_on }
+    heard_more : Hears o (heard_by (time_at studio.open_at events) (arrivals_on stream path (t.given ++ one.given))) q
+    heard_more = subst (λ l. Hears o (heard_by (time_at studio.open_at events) l) q) (sym (arrivals-more stream path t.given one.given))
+        (hears_more studio.open_at events o p q (arrivals_on stream path t.given) (arrivals_on stream path one.given) t.heard one.heard)
+
+    -- one datagram more, all so far being one each
+    pub takes-more : length one.given ≡ 1 → (s : Takes feed_told studio new events datagrams stream path a c o q (k + 1)) × (length s.given ≡ k + 1)
+    takes-more single = (
+      record {
+        given = t.given ++ one.given;
+        few = omega (arith, full, single, length-append t.given one.given);
+        stands = stands_more;
+        heard = heard_more;
+        goes_on = goes-further feed_told a b c t.given one.given t.goes_on one.goes_on;
+        asks = asks-more feed_told k a b c t.given one.given full t.asks one.asks;
+      },
+      omega (arith, full, single, length-append t.given one.given),
+    )
+
+    -- one answer more, which was no datagram: a feed that is asked more often gives no more
+    pub takes-last : (most : ℕ) → k + 1 ≤ most → one.given ≡ [] → Takes feed_told studio new events datagrams stream path a c o q most
+    takes-last most le none = record {
+      given = t.given ++ one.given;
+      few = (let empty = ap length none in omega (arith, full, empty, le, length-append t.given one.given));
+      stands = stands_more;
+      heard = heard_more;
+      goes_on = goes-further feed_told a b c t.given one.given t.goes_on one.goes_on;
+      asks = asks-stop feed_told k most a b c t.given one.given full le none t.asks one.asks;
+    }
 
   -- no feed of a stream yet
   pub stream-none : (studio : Studio) (engine : EngineState) (events : List TraceEvent) (datagrams : List (List ℕ)) (stream : ℕ) (readers : List (FeedReader F)) (o : Option (List Heard))
@@ -120,7 +146,7 @@ module _ {F : Type 0} (feed_told : F → List Answer) where
     later = λ path h. refl;
     others = λ t path ne. refl;
     rest = λ path reader h at. at;
-    each = λ path old at. (old, at, goes-nowhere feed_told old);
+    each = λ path old at. (old, at, goes-nowhere feed_told old, λ h. absurd (omega (arith, h)));
   }
 
   module _ (studio : Studio) (mid new : EngineState) (events : List TraceEvent) (datagrams : List (List ℕ)) (stream i : ℕ) (olds now : List (FeedReader F)) (d moved : FeedReader F) (o p q : Option (List Heard))
@@ -153,10 +179,11 @@ module _ {F : Type 0} (feed_told : F → List Answer) where
               moved,
               subst (λ p. slice_get (set now i moved) p ≡ Some moved) (sym e) (set_here now i moved within),
               subst (GoesOn feed_told old moved) (sym (here path e)) (subst (λ o. GoesOn feed_told o moved t.given) old_is t.goes_on),
+              λ _. subst (Asks feed_told 64 old moved) (sym (here path e)) (subst (λ o. Asks feed_told 64 o moved t.given) old_is t.asks),
             )
         | inr ne ↦
             let found = before.each path old at in
-            (found.0, set_apart now i path moved found.0 ne found.1, subst (GoesOn feed_told old found.0) (sym (beside path ne)) found.2)
+            (found.0, set_apart now i path moved found.0 ne found.1, subst (GoesOn feed_told old found.0) (sym (beside path ne)) found.2, λ h. subst (Asks feed_told 64 old found.0) (sym (beside path ne)) (found.3 (omega (arith, h, ne))))
       ];
     }
 
@@ -171,7 +198,7 @@ module _ {F : Type 0} (feed_told : F → List Answer) where
     few = λ stream path. omega arith;
     later = λ stream path h. refl;
     rest = λ stream own h at. at;
-    each = λ stream own at. (own, at, λ path old there. (old, there, goes-nowhere feed_told old));
+    each = λ stream own at. (own, at, λ path old there. (old, there, goes-nowhere feed_told old, λ h. absurd (omega (arith, h))));
   }
 
   module _ (studio : Studio) (mid new : EngineState) (events : List TraceEvent) (datagrams : List (List ℕ)) (i : ℕ) (olds now : List (Vec (FeedReader F) Global)) (d moved : Vec (FeedReader F) Global) (o p q : Option (List Heard))
@@ -203,8 +230,10 @@ module _ {F : Type 0} (feed_told : F → List Answer) where
               moved,
               subst (λ s. slice_get (set now i moved) s ≡ Some moved) (sym e) (set_here now i moved within),
               λ path old found.
-                  let more = t.each path old (subst (λ (v : Vec (FeedReader F) Global). slice_get v.items path ≡ Some old) (sym is) found) in
-                  (more.0, more.1, subst (GoesOn feed_told old more.0) (sym (own stream path e)) more.2),
+                  let found_now : slice_get (get_or now i d).items path ≡ Some old = subst (λ (v : Vec (FeedReader F) Global). slice_get v.items path ≡ Some old) (sym is) found in
+                  let more = t.each path old found_now in
+                  let within_it : path < length (get_or now i d).items = slice_get_within (get_or now i d).items path old found_now in
+                  (more.0, more.1, subst (GoesOn feed_told old more.0) (sym (own stream path e)) more.2, λ _. subst (Asks feed_told 64 old more.0) (sym (own stream path e)) (more.3 within_it)),
             )
         | inr ne ↦
             let found = before.each stream readers at in (
@@ -212,38 +241,54 @@ module _ {F : Type 0} (feed_told : F → List Answer) where
               set_apart now i stream moved found.0 ne found.1,
               λ path old there.
                   let more = found.2 path old there in
-                  (more.0, more.1, subst (GoesOn feed_told old more.0) (sym (other stream path ne)) more.2),
+                  (more.0, more.1, subst (GoesOn feed_told old more.0) (sym (other stream path ne)) more.2, λ h. subst (Asks feed_told 64 old more.0) (sym (other stream path ne)) (more.3 (omega (arith, h, ne)))),
             )
       ];
     }
 
   -- what the feeds gave stays so after a reading
-  pub given-turned : (all : List (List (List Answer))) (readers : List (Vec (FeedReader F) Global)) (old new : ℤ) (events : List TraceEvent)
-      → HaveGiven feed_told all readers events → HaveGiven feed_told all readers (turned old new events)
-  given-turned all readers old new events h = record {
+  pub given-turned : (all : List (List (List Answer))) (readers : List (Vec (FeedReader F) Global)) (old new : ℤ) (events : List TraceEvent) (rounds : List Round) (answer : ℤ)
+      → HaveGiven feed_told all readers events rounds → HaveGiven feed_told all readers (turned old new events) (rounds ++ record { answer = answer; asked = false; arrivals = [] } ∷ [])
+  given-turned all readers old new events rounds answer h = record {
     each = λ stream own at.
         let found = h.each stream own at in (
           found.0,
           found.1,
           λ path told there.
-              let more = found.2 path told there in
-              (more.0, more.1, subst (IsGiven feed_told told more.0) (sym (datagrams-turned stream path old new events)) more.2),
+              let more = found.2 path told there in (
+                more.0,
+                more.1,
+                subst (IsGiven feed_told told more.0) (sym (datagrams-turned stream path old new events)) more.2,
+                λ whole. let k = more.3 whole in (k.0, by-rounds-more stream path (until_end 0 told) (left_in feed_told more.0) (left_in feed_told more.0) rounds (record { answer = answer; asked = false; arrivals = [] }) k.1 refl refl),
+              ),
         );
   }
 
   -- and goes on by what was taken
-  pub given-more : (studio : Studio) (engine : EngineState) (all : List (List (List Answer))) (olds news : List (Vec (FeedReader F) Global)) (events : List TraceEvent) (datagrams : List (List ℕ)) (o p : Option (List Heard)) (count : ℕ)
-      → HaveGiven feed_told all olds events → (t : TakesAll feed_told studio engine events datagrams olds news o p count) → HaveGiven feed_told all news (events ++ t.arrivals)
-  given-more studio engine all olds news events datagrams o p count h t = record {
+  pub given-more : (studio : Studio) (engine : EngineState) (all : List (List (List Answer))) (olds news : List (Vec (FeedReader F) Global)) (events : List TraceEvent) (datagrams : List (List ℕ)) (o p : Option (List Heard)) (count : ℕ) (front : List Round) (answer : ℤ) → count ≡ length olds
+      → HaveGiven feed_told all olds events (front ++ record { answer = answer; asked = false; arrivals = [] } ∷ []) → (t : TakesAll feed_told studio engine events datagrams olds news o p count)
+      → HaveGiven feed_told all news (events ++ t.arrivals) (front ++ record { answer = answer; asked = true; arrivals = t.arrivals } ∷ [])
+  given-more studio engine all olds news events datagrams o p count front answer all_count h t = record {
     each = λ stream own at.
         let found = h.each stream own at in
-        let moved = t.each stream found.0 found.1 in (
+        let moved = t.each stream found.0 found.1 in
+        let within : stream < length olds = slice_get_within olds stream found.0 found.1 in (
           moved.0,
           moved.1,
           λ path told there.
               let reader = found.2 path told there in
-              let more = moved.2 path reader.0 reader.1 in
-              (more.0, more.1, subst (IsGiven feed_told told more.0) (sym (datagrams-append stream path events t.arrivals)) (more.2 told (datagrams_on stream path events) reader.2)),
+              let more = moved.2 path reader.0 reader.1 in (
+                more.0,
+                more.1,
+                subst (IsGiven feed_told told more.0) (sym (datagrams-append stream path events t.arrivals)) (more.2 told (datagrams_on stream path events) reader.2),
+                λ whole.
+                    let k = reader.3 whole in
+                    let a = more.3 (omega (arith, within, all_count)) k.0 in (
+                      a.0,
+                      by-rounds-more stream path (until_end 0 told) (left_in feed_told reader.0) (left_in feed_told more.0) front (record { answer = answer; asked = true; arrivals = t.arrivals })
+                          (by-rounds-front stream path (until_end 0 told) (left_in feed_told reader.0) front answer k.1) a.1 a.2,
+                    ),
+              ),
         );
   }
 
@@ -261,19 +306,21 @@ module _ {F : Type 0} (feed_told : F → List Answer) where
   at_map v (y ∷ xs) (suc i) x e = at_map v xs i x e
 
   -- before the first round
-  pub given-none : (feeds : List (Vec F Global)) (readers : List (Vec (FeedReader F) Global)) → HaveBegun feeds readers → HaveGiven feed_told (map (λ (own : Vec F Global). map feed_told own.items) feeds) readers []
-  given-none feeds readers begun = record {
+  pub given-none : (streams : List Stream) (feeds : List F) (readers : List (Vec (FeedReader F) Global)) → HaveBegun streams feeds readers → HaveGiven feed_told (grouped streams (map feed_told feeds)) readers [] []
+  given-none streams feeds readers begun = record {
     each = λ stream own at.
-        let found = map_at (λ (v : Vec F Global). map feed_told v.items) feeds stream own at in
-        let beside = at_map (λ (v : Vec F Global). map new_reader v.items) feeds stream found.0 found.1 in
-        let new = map_at (λ (v : Vec (FeedReader F) Global). v.items) readers stream (map new_reader found.0.items) (subst (λ l. slice_get l stream ≡ Some (map new_reader found.0.items)) (sym begun) beside) in (
+        let groups = grouped streams feeds in
+        let found = map_at (λ (l : List F). map feed_told l) groups stream own (subst (λ l. slice_get l stream ≡ Some own) (grouped-map feed_told streams feeds) at) in
+        let beside = at_map (λ (l : List F). map new_reader l) groups stream found.0 found.1 in
+        let new = map_at (λ (v : Vec (FeedReader F) Global). v.items) readers stream (map new_reader found.0) (subst (λ l. slice_get l stream ≡ Some (map new_reader found.0)) (sym (begun ∙ grouped-map new_reader streams feeds)) beside) in (
           new.0,
           new.1,
           λ path told there.
-              let feed = map_at feed_told found.0.items path told (subst (λ l. slice_get l path ≡ Some told) found.2 there) in (
+              let feed = map_at feed_told found.0 path told (subst (λ l. slice_get l path ≡ Some told) found.2 there) in (
                 new_reader feed.0,
-                subst (λ l. slice_get l path ≡ Some (new_reader feed.0)) new.2 (at_map new_reader found.0.items path feed.0 feed.1),
+                subst (λ l. slice_get l path ≡ Some (new_reader feed.0)) new.2 (at_map new_reader found.0 path feed.0 feed.1),
                 λ whole. (omega arith, subst (λ l. reaches_end 0 l ≡ true) feed.2 whole, ap (told_datagrams 0) (sym feed.2)),
+                λ whole. ((omega arith, subst (λ l. reaches_end 0 l ≡ true) feed.2 whole), ap (until_end 0) feed.2),
               ),
         );
   }

@@ -1,7 +1,8 @@
 -- What was taken of feeds.
-use Rattle.std.specs.Prelude.{◌≡◌, ◌≢◌, ℕ, ◌≤◌, Bool, true, false, List, [], ◌++◌, length, map, slice_get, Option, Some}
+use Rattle.std.specs.Prelude.{◌≡◌, ◌≢◌, ℕ, ◌≤◌, ◌<◌, Bool, true, false, List, [], ◌++◌, flat_map, length, map, slice_get, Option, Some}
 use Rattle.std.specs.declared.vec.Vec.{Vec}
 use Rattle.std.specs.declared.alloc.Global.{Global}
+use Rattle.rtp_stream.specs.declared.stream_spec.Stream.{Stream}
 use Rattle.studio_config.specs.Studio.{Studio}
 use Rattle.studio_session.specs.Event.{TraceEvent}
 use Rattle.studio_session.specs.Fault.{time_at}
@@ -9,9 +10,19 @@ use Rattle.studio_engine.specs.Engine.{EngineState}
 use Rattle.studio_engine.specs.Session.{HasSession}
 use Rattle.studio_io.specs.Answers.{Answer, reaches_end, told_datagrams}
 use Rattle.studio_io.specs.FeedStates.{new_state}
-use Rattle.engine_run.specs.Rounds.{AreArrivals, arrivals_on, datagrams_on}
+use Rattle.engine_run.specs.Grouping.{grouped}
+use Rattle.engine_run.specs.Asked.{AreKnown, asked_datagrams, asked_left, left_by, until_end}
+use Rattle.engine_run.specs.Rounds.{AreArrivals, GivesByRounds, Round, arrivals_on, datagrams_on}
 use Rattle.engine_run.specs.Observers.{Heard, Hears, heard_by}
 use Rattle.engine_run.specs.declared.feed_reader.FeedReader.{FeedReader}
+use Rattle.engine_run.specs.declared.intake.FeedOutcome.{FeedOutcome}
+use Rattle.engine_run.specs.declared.intake.FeedOutcome.TheVariants.{Datagram, Fault, Nothing}
+
+-- what a feed gave that was asked once: a datagram, or none
+abbrev pub GaveBy : FeedOutcome → List (List ℕ) → Type 0
+GaveBy Datagram given = length given ≡ 1
+GaveBy Fault given = given ≡ []
+GaveBy Nothing given = given ≡ []
 
 -- of all datagrams of these answers so many came, with these answers left after so many faults in a row; all, once the feed ended
 abbrev pub HasCome : List Answer → Bool → ℕ → List Answer → List (List ℕ) → Type 0
@@ -23,9 +34,17 @@ module _ {F : Type 0} where
   abbrev pub new_reader : F → FeedReader F
   new_reader feed = record { feed = feed; state = new_state }
 
-  -- each feed of a stream wasn't asked yet
-  abbrev pub HaveBegun : List (Vec F Global) → List (Vec (FeedReader F) Global) → Type 0
-  HaveBegun feeds readers = map (λ (own : Vec (FeedReader F) Global). own.items) readers ≡ map (λ (own : Vec F Global). map new_reader own.items) feeds
+  -- each stream has its feeds, none of which was asked yet
+  abbrev pub HaveBegun : List Stream → List F → List (Vec (FeedReader F) Global) → Type 0
+  HaveBegun streams feeds readers = map (λ (own : Vec (FeedReader F) Global). own.items) readers ≡ grouped streams (map new_reader feeds)
+
+  -- how many faults a feed had
+  abbrev pub fault_number : FeedReader F → ℕ
+  fault_number reader = reader.state.faults
+
+  -- those of all feeds, stream by stream and path by path
+  abbrev pub fault_numbers : List (Vec (FeedReader F) Global) → List ℕ
+  fault_numbers readers = flat_map (λ (own : Vec (FeedReader F) Global). map fault_number own.items) readers
 
   -- each of them has ended
   abbrev pub HaveEnded : List (FeedReader F) → Type 0
@@ -42,6 +61,22 @@ module _ {F : Type 0} where
   abbrev pub GoesOn : (F → List Answer) → FeedReader F → FeedReader F → List (List ℕ) → Type 0
   GoesOn feed_told old new given = (all : List Answer) (before : List (List ℕ)) → IsGiven feed_told all old before → IsGiven feed_told all new (before ++ given)
 
+  -- the answers of a feed that are left until its end, and that they are known
+  abbrev pub left_in : (F → List Answer) → FeedReader F → List Answer
+  left_in feed_told reader = left_by reader.state.ended reader.state.in_a_row (feed_told reader.feed)
+
+  abbrev pub IsKnown : (F → List Answer) → FeedReader F → Type 0
+  IsKnown feed_told reader = AreKnown reader.state.ended reader.state.in_a_row (feed_told reader.feed)
+
+  -- a feed that is known to its end was asked until it gave no datagram, but at most so often
+  abbrev pub Asks : (F → List Answer) → ℕ → FeedReader F → FeedReader F → List (List ℕ) → Type 0
+  Asks feed_told most old new given = IsKnown feed_told old
+      → IsKnown feed_told new × (given ≡ asked_datagrams most (left_in feed_told old)) × (left_in feed_told new ≡ asked_left most (left_in feed_told old))
+
+  -- round by round these of a feed's answers came
+  abbrev pub IsAsked : (F → List Answer) → ℕ → ℕ → List Answer → FeedReader F → List Round → Type 0
+  IsAsked feed_told stream path all reader rounds = reaches_end 0 all ≡ true → IsKnown feed_told reader × GivesByRounds stream path (until_end 0 all) rounds (left_in feed_told reader)
+
   -- a feed was asked, and at most so many datagrams of it arrived, of which the tap was told
   pub record Takes (feed_told : F → List Answer) (studio : Studio) (engine : EngineState) (events : List TraceEvent) (datagrams : List (List ℕ)) (stream path : ℕ) (old new : FeedReader F) (before after : Option (List Heard)) (most : ℕ) : Type 0 where
     pub given : List (List ℕ)
@@ -49,6 +84,7 @@ module _ {F : Type 0} where
     pub stands : HasSession studio engine (events ++ arrivals_on stream path given) datagrams
     pub heard : Hears before (heard_by (time_at studio.open_at events) (arrivals_on stream path given)) after
     pub goes_on : GoesOn feed_told old new given
+    pub asks : Asks feed_told most old new given
 
   -- so were the first feeds of a stream
   pub record TakesStream (feed_told : F → List Answer) (studio : Studio) (engine : EngineState) (events : List TraceEvent) (datagrams : List (List ℕ)) (stream : ℕ) (olds news : List (FeedReader F)) (before after : Option (List Heard)) (count : ℕ) : Type 0 where
@@ -62,6 +98,7 @@ module _ {F : Type 0} where
     pub rest : (path : ℕ) (reader : FeedReader F) → count ≤ path → slice_get olds path ≡ Some reader → slice_get news path ≡ Some reader
     pub each : (path : ℕ) (old : FeedReader F) → slice_get olds path ≡ Some old
         → (new : FeedReader F) × (slice_get news path ≡ Some new) × GoesOn feed_told old new (datagrams_on stream path arrivals)
+        × (path < count → Asks feed_told 64 old new (datagrams_on stream path arrivals))
 
   -- so were those of the first streams
   pub record TakesAll (feed_told : F → List Answer) (studio : Studio) (engine : EngineState) (events : List TraceEvent) (datagrams : List (List ℕ)) (olds news : List (Vec (FeedReader F) Global)) (before after : Option (List Heard)) (count : ℕ) : Type 0 where
@@ -75,11 +112,13 @@ module _ {F : Type 0} where
     pub each : (stream : ℕ) (own : Vec (FeedReader F) Global) → slice_get olds stream ≡ Some own
         → (now : Vec (FeedReader F) Global) × (slice_get news stream ≡ Some now)
         × ((path : ℕ) (old : FeedReader F) → slice_get own.items path ≡ Some old
-        → (new : FeedReader F) × (slice_get now.items path ≡ Some new) × GoesOn feed_told old new (datagrams_on stream path arrivals))
+        → (new : FeedReader F) × (slice_get now.items path ≡ Some new) × GoesOn feed_told old new (datagrams_on stream path arrivals)
+        × (stream < count → Asks feed_told 64 old new (datagrams_on stream path arrivals)))
 
-  -- of each feed that is known to give these answers, its datagrams among the events are those that came
-  pub record HaveGiven (feed_told : F → List Answer) (all : List (List (List Answer))) (readers : List (Vec (FeedReader F) Global)) (events : List TraceEvent) : Type 0 where
+  -- of each feed that is known to give these answers, its datagrams among the events are those that came, round by round
+  pub record HaveGiven (feed_told : F → List Answer) (all : List (List (List Answer))) (readers : List (Vec (FeedReader F) Global)) (events : List TraceEvent) (rounds : List Round) : Type 0 where
     pub each : (stream : ℕ) (own : List (List Answer)) → slice_get all stream ≡ Some own
         → (now : Vec (FeedReader F) Global) × (slice_get readers stream ≡ Some now)
         × ((path : ℕ) (told : List Answer) → slice_get own path ≡ Some told
-        → (reader : FeedReader F) × (slice_get now.items path ≡ Some reader) × IsGiven feed_told told reader (datagrams_on stream path events))
+        → (reader : FeedReader F) × (slice_get now.items path ≡ Some reader) × IsGiven feed_told told reader (datagrams_on stream path events)
+        × IsAsked feed_told stream path told reader rounds)

@@ -1,5 +1,7 @@
+pub mod Asked
 pub mod Rounds
 pub mod Observers
+pub mod Grouping
 pub mod Intake
 pub mod Output
 pub mod Runs

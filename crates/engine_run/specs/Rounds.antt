@@ -3,7 +3,9 @@ use Rattle.std.specs.Prelude.{◌≡◌, ℕ, ◌≤◌, Bool, true, false, ◌&
 use Rattle.studio_config.specs.Studio.{Studio}
 use Rattle.studio_session.specs.Event.{TraceEvent, Arrival, Reading, Closing}
 use Rattle.studio_engine.specs.Session.{turned}
+use Rattle.studio_io.specs.Answers.{Answer}
 use Rattle.studio_io.specs.Clocks.{time_with}
+use Rattle.engine_run.specs.Asked.{round_datagrams, round_left}
 
 -- the datagram, where it arrived on this path of this stream
 abbrev pub datagram_in : ℕ → ℕ → TraceEvent → List (List ℕ)
@@ -29,15 +31,17 @@ abbrev pub AreArrivals : List TraceEvent → Type 0
 AreArrivals [] = Unit {0}
 AreArrivals (event ∷ events) = (is_arrival event ≡ true) × AreArrivals events
 
--- what the clock answered, and what arrived after it
+-- what the clock answered, whether the feeds were asked after it, and what arrived then
 pub record Round : Type 0 where
   pub answer : ℤ
+  pub asked : Bool
   pub arrivals : List TraceEvent
 
--- arrivals alone, at most 64 of each path
+-- arrivals alone, at most 64 of each path, and none where no feed was asked
 pub record IsRound (round : Round) : Type 0 where
   pub arrive : AreArrivals round.arrivals
   pub few : (stream path : ℕ) → length (datagrams_on stream path round.arrivals) ≤ 64
+  pub none : round.asked ≡ false → round.arrivals ≡ []
 
 abbrev pub AreRounds : List Round → Type 0
 AreRounds [] = Unit {0}
@@ -65,3 +69,9 @@ abbrev pub AreNext : List ℤ → List ℤ → Type 0
 AreNext [] answers = Unit {0}
 AreNext (next ∷ told) [] = Unit {0}
 AreNext (next ∷ told) (answer ∷ answers) = (answer ≡ next) × AreNext told answers
+
+-- of a feed with these answers came in each round what asking it then gives; so many answers are left
+abbrev pub GivesByRounds : ℕ → ℕ → List Answer → List Round → List Answer → Type 0
+GivesByRounds stream path told [] left = told ≡ left
+GivesByRounds stream path told (round ∷ rounds) left =
+    (datagrams_on stream path round.arrivals ≡ round_datagrams round.asked told) × GivesByRounds stream path (round_left round.asked told) rounds left

@@ -1,5 +1,5 @@
 -- What a run in one thread comes to.
-use Rattle.std.specs.Prelude.{◌≡◌, ℕ, ◌<◌, ◌^◌, true, None, List, [], ◌∷◌, ◌++◌, length, slice_get, ℤ, Option, Some}
+use Rattle.std.specs.Prelude.{◌≡◌, ℕ, ◌<◌, ◌^◌, true, false, None, List, [], ◌∷◌, ◌++◌, length, slice_get, ℤ, Option, Some}
 use Rattle.studio_config.specs.Studio.{Studio}
 use Rattle.studio_session.specs.Fault.{session_fault_of}
 use Rattle.studio_session.specs.Report.{AreCounts}
@@ -9,7 +9,9 @@ use Rattle.studio_engine.specs.Session.{HasSession}
 use Rattle.studio_io.specs.Answers.{Answer, reaches_end, told_datagrams}
 use Rattle.studio_io.specs.Sinks.{Hands}
 use Rattle.studio_io.specs.declared.report.WorkReport.{WorkReport}
-use Rattle.engine_run.specs.Rounds.{AreNext, AreRounds, Round, answers_of, datagrams_on, events_by, events_of, time_by}
+use Rattle.engine_run.specs.Asked.{until_end}
+use Rattle.engine_run.specs.Rounds.{AreNext, AreRounds, GivesByRounds, Round, answers_of, datagrams_on, events_by, events_of, time_by}
+use Rattle.engine_run.specs.Grouping.{grouped}
 use Rattle.engine_run.specs.Intake.{HaveGiven}
 use Rattle.engine_run.specs.Observers.{Heard, Hears, heard_by}
 use Rattle.engine_run.specs.declared.state.RunState.{RunState}
@@ -18,6 +20,12 @@ use Rattle.engine_run.specs.declared.state.RunState.{RunState}
 abbrev pub HaveAllArrived : Studio → List (List (List Answer)) → List Round → Type 0
 HaveAllArrived studio all rounds = (stream path : ℕ) (own : List (List Answer)) (told : List Answer) → slice_get all stream ≡ Some own → slice_get own path ≡ Some told
     → reaches_end 0 told ≡ true → datagrams_on stream path (events_by studio.open_at rounds) ≡ told_datagrams 0 told
+
+-- and in each round that asks the feeds such a feed was asked until it gave no datagram, but at most 64 times: so each of
+-- its datagrams has the reading of the round that it was taken in
+abbrev pub AreTakenByRounds : List (List (List Answer)) → List Round → Type 0
+AreTakenByRounds all rounds = (stream path : ℕ) (own : List (List Answer)) (told : List Answer) → slice_get all stream ≡ Some own → slice_get own path ≡ Some told
+    → reaches_end 0 told ≡ true → GivesByRounds stream path (until_end 0 told) rounds []
 
 module _ {F C K T : Type 0} where
   -- a run that began with such feeds and such a clock is on its way
@@ -28,7 +36,7 @@ module _ {F C K T : Type 0} where
     pub time : state.engine.time ≡ time_by studio.open_at rounds
     pub bounded : AreRounds rounds
     pub clocked : (later : List ℤ) → AreNext (clock_told state.clock) later → AreNext clock (answers_of rounds ++ later)
-    pub given : HaveGiven feed_told all state.readers.items (events_by studio.open_at rounds)
+    pub given : HaveGiven feed_told all state.readers.items (events_by studio.open_at rounds) rounds
     pub count : length datagrams < 2 ^ 64 → state.counts.blocks ≡ length datagrams
     pub handed : Hands before datagrams (sink_handed state.sink)
     pub heard : Hears earlier (heard_by studio.open_at (events_by studio.open_at rounds)) (tap_heard state.tap)
@@ -38,7 +46,7 @@ module _ {F C K T : Type 0} where
     pub run : IsUnderWay feed_told clock_told sink_handed tap_heard studio all clock before earlier state
     pub front : List Round
     pub answer : ℤ
-    pub last : run.rounds ≡ front ++ record { answer = answer; arrivals = [] } ∷ []
+    pub last : run.rounds ≡ front ++ record { answer = answer; asked = false; arrivals = [] } ∷ []
 
   -- and has come to its end
   pub record IsDone (sink_handed : K → Option (List (List ℕ))) (tap_heard : T → Option (List Heard)) (studio : Studio) (all : List (List (List Answer))) (clock : List ℤ) (before : Option (List (List ℕ))) (earlier : Option (List Heard)) (state : RunState F C K T) : Type 0 where
@@ -50,16 +58,21 @@ module _ {F C K T : Type 0} where
     pub bounded : AreRounds rounds
     pub clocked : AreNext clock (answers_of rounds)
     pub arrived : HaveAllArrived studio all rounds
+    pub taken : AreTakenByRounds all rounds
     pub count : length datagrams < 2 ^ 64 → state.counts.blocks ≡ length datagrams
     pub handed : Hands before datagrams (sink_handed state.sink)
     pub heard : Hears earlier (heard_by studio.open_at (events_of studio rounds)) (tap_heard state.tap)
 
--- what a settled run came to: rounds that go by what the clock was known to tell, in which all arrived that the feeds were known to give. None of their events is at fault, the report has the counts of `run_studio` for them, a sink that tells at the end was handed its datagrams, in order, and a tap that does was told its arrivals, each with the reading before it, and its close
-pub record IsSettledRun (studio : Studio) (all : List (List (List Answer))) (clock : List ℤ) (report : WorkReport) (before after : Option (List (List ℕ))) (earlier later : Option (List Heard)) : Type 0 where
+-- what a settled run came to, of feeds that stand path by path: rounds that go by what the clock was known to tell, in
+-- which all arrived that the feeds were known to give, round by round. None of their events is at fault, the report has the counts of
+-- `run_studio` for them, a sink that tells at the end was handed its datagrams, in order, and a tap that does was told its
+-- arrivals, each with the reading before it, and its close
+pub record IsSettledRun (studio : Studio) (all : List (List Answer)) (clock : List ℤ) (report : WorkReport) (before after : Option (List (List ℕ))) (earlier later : Option (List Heard)) : Type 0 where
   pub rounds : List Round
   pub bounded : AreRounds rounds
   pub clocked : AreNext clock (answers_of rounds)
-  pub arrived : HaveAllArrived studio all rounds
+  pub arrived : HaveAllArrived studio (grouped studio.streams all) rounds
+  pub taken : AreTakenByRounds (grouped studio.streams all) rounds
   pub lawful : session_fault_of studio (events_of studio rounds) ≡ None
   pub datagrams : List (List ℕ)
   pub given : AreDatagrams studio (events_of studio rounds) datagrams

@@ -1,8 +1,12 @@
 //! A feed of a run with the state of reading it.
-ghost use Rattle.std.specs.Prelude.{◌≡◌, map, IsTrue, IfOk};
+ghost use Rattle.std.specs.Prelude.{◌≡◌, drop, length, map, take, true, IsTrue, IfOk, OnOk};
+ghost use Rattle.std.specs.Vec.Iter.{into_iter_items};
+ghost use Rattle.engine_run.specs.Grouping.{path_total};
 ghost use Rattle.engine_run.specs.Intake.{AllEnded, HaveBegun, HaveEnded, new_reader};
 
+use rtp_stream::StreamSpec;
 use std::alloc::{AllocError, Global};
+use std::vec::IntoIter;
 use studio_io::FeedState;
 
 /// A feed with the state of reading it.
@@ -24,29 +28,46 @@ impl<F: Drop> FeedReader<F> {
     }
 }
 
-/// Allocates the readers of a stream's feeds, none of which was asked yet.
-fn readers_of<F: Drop>(alloc: Global, feeds: Vec<F>) -> Result<Vec<FeedReader<F>>, AllocError>
-    ensures { IfOk result (λ readers. readers.items ≡ map new_reader feeds.items) }
+/// Allocates the readers of the next `count` feeds, or of those that are left. None of the feeds was asked yet.
+fn next_readers<F: Drop>(
+    alloc: Global,
+    feeds: &mut IntoIter<F>,
+    count: u8,
+) -> Result<Vec<FeedReader<F>>, AllocError>
+    ensures taken { IfOk result (λ own. own.items ≡ map new_reader (take count (into_iter_items feeds.old))) }
+    ensures left { OnOk result (into_iter_items feeds.new ≡ drop count (into_iter_items feeds.old)) }
 {
-    let mut readers = Vec::with_capacity(alloc, feeds.len())?;
-    for feed in feeds {
-        readers.push(FeedReader::new(feed))?;
+    let mut own = Vec::with_capacity(alloc, usize::from(count))?;
+    for _ in 0..count {
+        let Some(feed) = feeds.next() else {
+            return Ok(own);
+        };
+        own.push(FeedReader::new(feed))?;
     }
-    Ok(readers)
+    Ok(own)
 }
 
-/// Allocates the readers of the feeds of all streams, none of which was asked yet.
+/// Allocates the readers of these streams' feeds, which are ordered by stream and then by path. None was asked yet.
+/// Also returns true if there is one feed for each path.
 pub(crate) fn all_readers<F: Drop>(
     alloc: Global,
-    feeds: Vec<Vec<F>>,
-) -> Result<Vec<Vec<FeedReader<F>>>, AllocError>
-    ensures { IfOk result (λ readers. HaveBegun feeds.items readers.items) }
+    feeds: Vec<F>,
+    specs: &[StreamSpec],
+) -> Result<(Vec<Vec<FeedReader<F>>>, bool), AllocError>
+    ensures begun { IfOk result (λ r. HaveBegun specs.now feeds.items r.0.items) }
+    ensures fits { IfOk result (λ r. r.1 ≡ true → length feeds.items ≡ path_total specs.now) }
 {
-    let mut readers = Vec::with_capacity(alloc, feeds.len())?;
-    for own in feeds {
-        readers.push(readers_of(alloc, own)?)?;
+    let mut readers = Vec::with_capacity(alloc, specs.len())?;
+    let mut feeds = feeds.into_iter();
+    let mut enough = true;
+    for stream in 0..specs.len() {
+        let count = specs[stream].paths();
+        let own = next_readers(alloc, &mut feeds, count)?;
+        enough &= own.len() == usize::from(count);
+        readers.push(own)?;
     }
-    Ok(readers)
+    let fits = enough & (feeds.len() == 0);
+    Ok((readers, fits))
 }
 
 /// Returns true if every feed of a stream has ended.

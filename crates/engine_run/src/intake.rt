@@ -3,7 +3,7 @@ ghost use Rattle.std.specs.Prelude.{◌≡◌, ℕ, List, length, IfOk, OnOk};
 ghost use Rattle.studio_config.specs.Studio.{Studio};
 ghost use Rattle.studio_session.specs.Event.{TraceEvent};
 ghost use Rattle.studio_engine.specs.Session.{HasSession};
-ghost use Rattle.engine_run.specs.Intake.{Takes, TakesAll, TakesStream};
+ghost use Rattle.engine_run.specs.Intake.{GaveBy, Takes, TakesAll, TakesStream};
 
 use crate::feed_reader::FeedReader;
 use crate::observer::RunObserver;
@@ -45,10 +45,10 @@ fn take_one<F: Feed, T: RunObserver<F>>(
     buf: &mut [u8],
 ) -> Result<FeedOutcome, ArriveFault>
     requires room { length buf.old ≡ 2048 }
-    ensures { OnOk result ((studio : Studio) (events : List TraceEvent) (datagrams : List (List ℕ))
+    ensures { IfOk result (λ outcome. (studio : Studio) (events : List TraceEvent) (datagrams : List (List ℕ))
         → HasSession studio engine.old events datagrams
-        → Takes F.told studio engine.new events datagrams stream path reader.old reader.new (T.heard tap.old)
-        (T.heard tap.new) 1) }
+        → (t : Takes F.told studio engine.new events datagrams stream path reader.old reader.new (T.heard tap.old)
+        (T.heard tap.new) 1) × GaveBy outcome t.given) }
 {
     if reader.state.ended {
         return Ok(FeedOutcome::Nothing);
@@ -84,7 +84,8 @@ fn take_some<F: Feed, T: RunObserver<F>>(
         (T.heard tap.new) 64) }
 {
     for _ in 0..MAX_TAKEN {
-        match take_one(engine, stream, path, reader, tap, buf)? {
+        let outcome = take_one(engine, stream, path, reader, tap, buf)?;
+        match outcome {
             FeedOutcome::Datagram => {}
             FeedOutcome::Fault => return Ok(FAULT_REST),
             FeedOutcome::Nothing => return Ok(LONGEST_REST),

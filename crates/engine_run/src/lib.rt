@@ -1,7 +1,7 @@
 //! Runs an engine in one thread: datagrams of feeds go in, and the mix goes to a sink, by a clock.
 //!
-//! Begin with `run_engine`. It takes a list of `Feed`s for each stream, one per path, a `Clock`, a
-//! `Sink`, a `RunObserver` and an `IdleWait`. Each round
+//! Begin with `run_engine`. It takes the `Feed`s, one per path, a `Clock`, a `Sink`, a `RunObserver`
+//! and an `IdleWait`. Each round
 //!
 //! 1. reads the clock and sends what is due by then;
 //! 2. calls `before_wait` of the observer;
@@ -21,11 +21,8 @@ mod intake;
 mod observer;
 mod output;
 mod report;
-mod rest;
 mod run;
-mod settle;
 mod state;
 
 pub use observer::{NoObserver, RunObserver};
-pub use rest::IdleWait;
-pub use run::run_engine;
+pub use run::{IdleWait, run_engine};

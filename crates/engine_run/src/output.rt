@@ -1,14 +1,21 @@
-//! Sends the engine's datagrams to the sink.
-ghost use Rattle.std.specs.Prelude.{◌≡◌, ℕ, List, None, OnOk};
+//! Sends the engine's datagrams to the sink, in the rounds and after the close.
+ghost use Rattle.std.specs.Prelude.{◌≡◌, ℕ, ℤ, List, Option, None, IsTrue, OnOk};
 ghost use Rattle.path_merge.specs.Clock.{clock_fault_of};
 ghost use Rattle.studio_config.specs.Studio.{Studio};
 ghost use Rattle.studio_session.specs.Event.{TraceEvent};
 ghost use Rattle.studio_engine.specs.Session.{HasSession, turned};
+ghost use Rattle.studio_io.specs.Answers.{Answer};
 ghost use Rattle.engine_run.specs.Output.{HasSent};
+ghost use Rattle.engine_run.specs.Runs.{IsDone, IsUnderWay};
+ghost use Rattle.engine_run.specs.Intake.{AllEnded};
+ghost use Rattle.engine_run.specs.Observers.{Heard};
 
+use crate::observer::RunObserver;
+use crate::state::RunState;
+use mix_packets::MAX_OUTPUT_OCTETS;
 use path_merge::ClockFault;
 use studio_engine::Engine;
-use studio_io::{SendCounts, Sink};
+use studio_io::{Clock, Feed, SendCounts, Sink};
 
 /// Moves the engine on to a clock reading and sends each datagram that is due by then. Returns a `ClockFault` if the
 /// engine refuses the reading.
@@ -26,9 +33,8 @@ pub(crate) fn send_due<K: Sink>(
         → HasSession studio engine.old events datagrams
         → engine.new.time ≡ now) }
 {
-    // The longest datagram: a header of 12 octets and a payload of 1,440.
-    let mut out = [0u8; 1452];
-    // Called for its contract: a datagram has at most 1,452 octets, so it fits `out`.
+    let mut out = [0u8; MAX_OUTPUT_OCTETS];
+    // Called for its contract: a datagram has at most so many octets, so it fits `out`.
     let _short = engine.output().datagram_len();
     while let Some(len) = engine.turn(now, &mut out)? {
         let answer = sink.send(&out[..len]);
@@ -45,12 +51,30 @@ pub(crate) fn send_rest<K: Sink>(engine: &mut Engine, sink: &mut K, counts: &mut
         (K.handed sink.new) counts.old.blocks counts.new.blocks }
     ensures settled { engine.new.settled ≡ engine.old.closed }
 {
-    // The longest datagram: a header of 12 octets and a payload of 1,440.
-    let mut out = [0u8; 1452];
-    // Called for its contract: a datagram has at most 1,452 octets, so it fits `out`.
+    let mut out = [0u8; MAX_OUTPUT_OCTETS];
+    // Called for its contract: a datagram has at most so many octets, so it fits `out`.
     let _short = engine.output().datagram_len();
     while let Some(len) = engine.drain(&mut out) {
         let answer = sink.send(&out[..len]);
         counts.add(answer);
     }
+}
+
+/// Closes the engine, notifies the observer, and sends the datagrams that are left. Returns true if the engine closed
+/// and all its datagrams were sent.
+pub(crate) fn settle<F: Feed, C: Clock, K: Sink, T: RunObserver<F>>(
+    state: &mut RunState<F, C, K, T>,
+) -> bool
+    ensures { IsTrue result → (studio : Studio) (all : List (List (List Answer))) (clock : List ℤ)
+        (before : Option (List (List ℕ))) (earlier : Option (List Heard))
+        → AllEnded state.old.readers.items
+        → IsUnderWay F.told C.told K.handed T.heard studio all clock before earlier state.old
+        → IsDone K.handed T.heard studio all clock before earlier state.new }
+{
+    if state.engine.close().is_err() {
+        return false;
+    }
+    state.tap.closed(&state.engine);
+    send_rest(&mut state.engine, &mut state.sink, &mut state.counts);
+    state.engine.settled()
 }

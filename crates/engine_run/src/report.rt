@@ -1,5 +1,5 @@
 //! Makes the report of a run.
-ghost use Rattle.std.specs.Prelude.{◌≡◌, ◌<◌, ℕ, List, Some, slice_get, IfOk};
+ghost use Rattle.std.specs.Prelude.{◌≡◌, ◌<◌, ◌++◌, ℕ, List, Some, map, slice_get, IfOk, OnOk};
 ghost use Rattle.rtp_stream.specs.declared.stream_spec.Stream.{Stream};
 ghost use Rattle.rtp_stream.specs.PathCounts.{tallies_of};
 ghost use Rattle.studio_config.specs.Studio.{Studio};
@@ -9,6 +9,7 @@ ghost use Rattle.studio_session.specs.Report.{AreCounts, AreCountsOf};
 ghost use Rattle.studio_engine.specs.Engine.{HasAllMarks};
 ghost use Rattle.studio_engine.specs.Session.{HasSession};
 ghost use Rattle.studio_io.specs.Balances.{Balances};
+ghost use Rattle.engine_run.specs.Intake.{fault_number, fault_numbers};
 
 use crate::feed_reader::FeedReader;
 use crate::state::RunState;
@@ -113,17 +114,27 @@ fn all_counts(
     Ok(counts)
 }
 
+/// Appends the number of faults of each feed of a stream.
+fn push_faults<F: Drop>(own: Vec<FeedReader<F>>, faults: &mut Vec<u64>) -> Result<(), AllocError>
+    ensures { OnOk result (faults.new.items ≡ faults.old.items ++ map fault_number own.items) }
+{
+    for reader in own {
+        faults.push(reader.state.faults)?;
+    }
+    Ok(())
+}
+
 /// Returns the number of faults of each feed, ordered by stream and then by path, in `room`.
 fn all_faults<F: Drop>(
-    streams: &[Vec<FeedReader<F>>],
+    streams: Vec<Vec<FeedReader<F>>>,
     room: Vec<u64>,
-) -> Result<Vec<u64>, AllocError> {
+) -> Result<Vec<u64>, AllocError>
+    ensures { IfOk result (λ faults. faults.items ≡ fault_numbers streams.items) }
+{
     let mut faults = room;
     faults.clear();
     for own in streams {
-        for reader in own {
-            faults.push(reader.state.faults)?;
-        }
+        push_faults(own, &mut faults)?;
     }
     Ok(faults)
 }
@@ -141,6 +152,7 @@ pub(crate) fn work_report<F: Drop, C: Drop, K: Drop, T: Drop>(
     ensures blocks { IfOk result (λ r. r.0.blocks ≡ state.counts.blocks) }
     ensures sink { IfOk result (λ r. r.1 ≡ state.sink) }
     ensures tap { IfOk result (λ r. r.2 ≡ state.tap) }
+    ensures faults { IfOk result (λ r. r.0.feed_faults.items ≡ fault_numbers state.readers.items) }
     ensures counts { IfOk result (λ r. (studio : Studio) (events : List TraceEvent) (datagrams : List (List ℕ))
         → HasSession studio state.engine events datagrams → HasAllMarks state.engine → specs.now ≡ studio.streams
         → AreCounts studio events r.0.streams.items) }
@@ -159,7 +171,7 @@ pub(crate) fn work_report<F: Drop, C: Drop, K: Drop, T: Drop>(
         faults,
     } = room;
     let streams = all_counts(alloc, &engine, specs, streams, paths)?;
-    let faults = all_faults(readers.as_slice(), faults)?;
+    let faults = all_faults(readers, faults)?;
     let report = WorkReport::new(streams, faults, counts, settled);
     Ok((report, sink, tap))
 }

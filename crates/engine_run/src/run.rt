@@ -1,34 +1,46 @@
-//! Runs a studio in one thread, from its feeds, clock and sink to the report.
-ghost use Rattle.std.specs.Prelude.{◌≡◌, ℕ, ℤ, List, Option, true, map, IfOk};
+//! Runs a studio in one thread, from its feeds, clock and sink to the report. Between two rounds it waits for input.
+ghost use Rattle.std.specs.Prelude.{◌≡◌, ℕ, ℤ, List, Option, true, length, map, IfOk};
 ghost use Rattle.studio_config.specs.Studio.{Studio};
 ghost use Rattle.studio_io.specs.Answers.{Answer};
 ghost use Rattle.studio_io.specs.Balances.{Balances};
 ghost use Rattle.engine_run.specs.Runs.{IsDone, IsSettledRun, IsUnderWay};
 ghost use Rattle.engine_run.specs.Intake.{AllEnded};
+ghost use Rattle.engine_run.specs.Grouping.{path_total};
 ghost use Rattle.engine_run.specs.Observers.{Heard};
 
 use crate::feed_reader::all_readers;
 use crate::observer::RunObserver;
+use crate::output::settle;
 use crate::report::{ReportBuffers, work_report};
-use crate::rest::IdleWait;
-use crate::settle::settle;
 use crate::state::RunState;
+use rtp_wire::MAX_ARRIVAL_OCTETS;
 use std::alloc::{AllocError, Global};
 use std::sync::Wait;
 use studio_config::StudioSpec;
 use studio_engine::Engine;
 use studio_io::{Clock, Feed, SendCounts, Sink, WorkReport};
 
+/// A way to wait until a feed may have a datagram.
+pub trait IdleWait: Drop {
+    /// Waits until a feed may have a datagram, at most `most` sampling instants at 48 kHz, which may be 0.
+    ///
+    /// Returns true if the datagrams that arrived are to be judged by the clock reading before the wait, the engine's
+    /// time. After false the clock is read again first. It may end early. If it ends late, the datagrams that arrived
+    /// meanwhile are judged late.
+    fn wait_for_input(&mut self, engine: &Engine, most: i64) -> bool;
+}
+
 /// Runs a studio in this thread until all feeds have ended and all datagrams were sent.
 ///
-/// The caller passes a list of feeds for each stream, one for each of its paths, in order. All memory is allocated
-/// before the clock is first read, and `AllocError` is returned if that fails. A run is settled unless it was passed
-/// a feed for a path that its stream does not have, or took 2^62 events.
+/// The caller passes a feed for each path, ordered by stream and then by path. All memory is allocated before the clock
+/// is first read, and `AllocError` is returned if that fails. A run is settled unless there was not one feed for each
+/// path, or it took 2^62 events. If there are too few feeds the last paths have none, and feeds beyond the last path
+/// are not asked.
 pub fn run_engine<R: Wait, F: Feed, C: Clock, K: Sink, T: RunObserver<F>, P: IdleWait>(
     rt: &R,
     alloc: Global,
     studio: &StudioSpec,
-    feeds: Vec<Vec<F>>,
+    feeds: Vec<F>,
     clock: C,
     sink: K,
     tap: T,
@@ -36,14 +48,17 @@ pub fn run_engine<R: Wait, F: Feed, C: Clock, K: Sink, T: RunObserver<F>, P: Idl
 ) -> Result<(WorkReport, K, T), AllocError>
     ensures balance { IfOk result (λ r. Balances r.0.blocks r.0.sent_a r.0.fault_a r.0.sent_b r.0.fault_b) }
     ensures settled { IfOk result (λ r. r.0.settled ≡ true
-        → IsSettledRun studio.now (map (λ own. map F.told own.items) feeds.items) (C.told clock) r.0 (K.handed sink)
-        (K.handed r.1) (T.heard tap) (T.heard r.2)) }
+        → IsSettledRun studio.now (map F.told feeds.items) (C.told clock) r.0 (K.handed sink) (K.handed r.1)
+        (T.heard tap) (T.heard r.2)) }
+    ensures feeds { IfOk result (λ r. r.0.settled ≡ true → length feeds.items ≡ path_total studio.now.streams) }
 {
     let specs = studio.streams();
     let room = ReportBuffers::new(alloc, specs)?;
+    let engine = Engine::new(alloc, studio)?;
+    let (readers, fits) = all_readers(alloc, feeds, specs)?;
     let mut state = RunState {
-        engine: Engine::new(alloc, studio)?,
-        readers: all_readers(alloc, feeds)?,
+        engine,
+        readers,
         clock,
         sink,
         tap,
@@ -53,7 +68,8 @@ pub fn run_engine<R: Wait, F: Feed, C: Clock, K: Sink, T: RunObserver<F>, P: Idl
     let ended = run_rounds(rt, &mut state, &mut rest);
     // The engine is closed also after rounds that stopped early, so that the sink gets the datagrams that are left.
     let settled = settle(&mut state) && ended;
-    work_report(alloc, state, specs, room, settled)
+    let whole = settled && fits;
+    work_report(alloc, state, specs, room, whole)
 }
 
 /// Makes rounds until all feeds have ended. Returns false if the engine stopped taking events before that.
@@ -70,8 +86,8 @@ fn run_rounds<R: Wait, F: Feed, C: Clock, K: Sink, T: RunObserver<F>, P: IdleWai
 {
     // The first round does not rest: no feed was asked yet.
     let mut most = 0;
-    // 2,048 octets, the length for which `Feed::next` says what it gives: more than a standard Ethernet frame carries.
-    let mut buf = [0u8; 2048];
+    // The length for which `Feed::next` says what it gives.
+    let mut buf = [0u8; MAX_ARRIVAL_OCTETS];
     for _ in rt.forever() {
         match state.round(rest, most, &mut buf) {
             Ok(Some(instants)) => most = instants,

@@ -11,14 +11,11 @@ use crate::feed_reader::{FeedReader, have_all_ended};
 use crate::intake::take_all;
 use crate::observer::RunObserver;
 use crate::output::send_due;
-use crate::rest::IdleWait;
+use crate::run::IdleWait;
 use path_merge::ClockFault;
+use rtp_stream::MAX_TIME;
 use studio_engine::{ArriveFault, Engine};
 use studio_io::{Clock, Feed, SendCounts, Sink};
-
-/// The greatest clock reading that the engine takes: 2^60 sampling instants.
-// A later one would be a clock fault, so readings are limited to it.
-const LATEST: i64 = 1_152_921_504_606_846_976;
 
 /// The error of an engine that takes no more events: it has taken 2^62, or was passed a datagram of a path that it does
 /// not have.
@@ -140,11 +137,11 @@ impl<F: Feed, C: Clock, K: Sink, T: RunObserver<F>> RunState<F, C, K, T> {
 }
 
 /// Returns the greatest clock reading so far with one more, at most 2^60.
-// A clock that goes back would be a clock fault; its earlier readings are ignored.
+// A clock that goes back, or beyond 2^60, would be a clock fault: such readings are ignored or limited.
 fn greatest(time: i64, answer: i64) -> i64
     ensures { result ≡ time_with time answer }
 {
-    time.max(answer.min(LATEST))
+    time.max(answer.min(MAX_TIME))
 }
 
 /// Returns the time that a run may rest, in sampling instants: `most`, or the time to the engine's next deadline if

@@ -1,33 +1,40 @@
-use Rattle.std.proofs.Common.{[], ◌∷◌, take, arith}
+use Rattle.std.proofs.Common.{[], ◌∷◌, take, refl, arith}
 use Rattle.studio_io.specs.declared.feed.FeedAnswer.TheVariants.{Datagram, Nothing, Fault, Ended}
 use Rattle.engine_run.proofs.AnswerLemmas.{goes-answer, goes-nowhere}
+use Rattle.engine_run.proofs.AskLemmas.{asks-answer, asks-ended}
 use Rattle.engine_run.proofs.TakeLemmas.{takes-none}
 use Rattle.engine_run.proofs.TellLemmas.{hears_one}
 use Rattle.engine_run.proofs.intake.take_one.Goals as goal
 
 pub returns-then-reader : goal.returns-then-reader
-returns-then-reader g c = λ studio events datagrams s. takes-none g.F.Feed.told studio _ events datagrams _ _ _ _ _ 1 s (goes-nowhere g.F.Feed.told c.args.reader.now)
+returns-then-reader g c = λ studio events datagrams s. takes-none g.F.Feed.told studio _ events datagrams _ _ _ _ _ 1 s (goes-nowhere g.F.Feed.told c.args.reader.now) (asks-ended g.F.Feed.told 1 c.args.reader.now c.if-reader.true)
 
 pub returns-in_ok-receipt-in-Datagram : goal.returns-in_ok-receipt-in-Datagram
 returns-in_ok-receipt-in-Datagram g c = λ studio events datagrams s.
-    let stands = c.in_ok-receipt-in-Datagram.ensures.stands studio events datagrams s in
-    record {
-      given = take c.in-Datagram.count c.next-answer.new.buf ∷ [];
-      few = omega arith;
-      stands = stands;
-      heard = hears_one studio.open_at events (g.T.RunObserver.heard c.args.tap.now) (g.T.RunObserver.heard c.arrived.new.self) c.args.stream c.args.path c.arrive.new.self.time (take c.in-Datagram.count c.next-answer.new.buf)
-          stands.time c.arrived.ensures.heard;
-      goes_on = goes-answer g.F.Feed.told c.args.reader.now (record { feed = c.next-answer.new.self; state = c.note.new.self }) c.next-answer.new.buf _ (Datagram c.in-Datagram.count) c.in-Datagram.is c.if-reader.false c.note.ensures.noted (c.next-answer.ensures.tells c.requires.room);
-    }
+    let stands = c.in_ok-receipt-in-Datagram.ensures.stands studio events datagrams s in (
+      record {
+        given = take c.in-Datagram.count c.next-answer.new.buf ∷ [];
+        few = omega arith;
+        stands = stands;
+        heard = hears_one studio.open_at events (g.T.RunObserver.heard c.args.tap.now) (g.T.RunObserver.heard c.arrived.new.self) c.args.stream c.args.path c.arrive.new.self.time (take c.in-Datagram.count c.next-answer.new.buf)
+            stands.time c.arrived.ensures.heard;
+        goes_on = goes-answer g.F.Feed.told c.args.reader.now (record { feed = c.next-answer.new.self; state = c.note.new.self }) c.next-answer.new.buf _ (Datagram c.in-Datagram.count) c.in-Datagram.is c.if-reader.false c.note.ensures.noted (c.next-answer.ensures.tells c.requires.room);
+        asks = asks-answer g.F.Feed.told c.args.reader.now (record { feed = c.next-answer.new.self; state = c.note.new.self }) c.next-answer.new.buf _ (Datagram c.in-Datagram.count) c.in-Datagram.is c.if-reader.false c.note.ensures.noted (c.next-answer.ensures.tells c.requires.room);
+      },
+      refl,
+    )
 
 pub returns-in-Nothing : goal.returns-in-Nothing
 returns-in-Nothing g c = λ studio events datagrams s. takes-none g.F.Feed.told studio _ events datagrams _ _ _ _ _ 1 s
     (goes-answer g.F.Feed.told c.args.reader.now (record { feed = c.next-answer.new.self; state = c.note.new.self }) c.next-answer.new.buf _ Nothing c.in-Nothing.is c.if-reader.false c.note.ensures.noted (c.next-answer.ensures.tells c.requires.room))
+    (asks-answer g.F.Feed.told c.args.reader.now (record { feed = c.next-answer.new.self; state = c.note.new.self }) c.next-answer.new.buf _ Nothing c.in-Nothing.is c.if-reader.false c.note.ensures.noted (c.next-answer.ensures.tells c.requires.room))
 
 pub returns-in-Fault : goal.returns-in-Fault
 returns-in-Fault g c = λ studio events datagrams s. takes-none g.F.Feed.told studio _ events datagrams _ _ _ _ _ 1 s
     (goes-answer g.F.Feed.told c.args.reader.now (record { feed = c.next-answer.new.self; state = c.note.new.self }) c.next-answer.new.buf _ Fault c.in-Fault.is c.if-reader.false c.note.ensures.noted (c.next-answer.ensures.tells c.requires.room))
+    (asks-answer g.F.Feed.told c.args.reader.now (record { feed = c.next-answer.new.self; state = c.note.new.self }) c.next-answer.new.buf _ Fault c.in-Fault.is c.if-reader.false c.note.ensures.noted (c.next-answer.ensures.tells c.requires.room))
 
 pub returns-in-Ended : goal.returns-in-Ended
 returns-in-Ended g c = λ studio events datagrams s. takes-none g.F.Feed.told studio _ events datagrams _ _ _ _ _ 1 s
     (goes-answer g.F.Feed.told c.args.reader.now (record { feed = c.next-answer.new.self; state = c.note.new.self }) c.next-answer.new.buf _ Ended c.in-Ended.is c.if-reader.false c.note.ensures.noted (c.next-answer.ensures.tells c.requires.room))
+    (asks-answer g.F.Feed.told c.args.reader.now (record { feed = c.next-answer.new.self; state = c.note.new.self }) c.next-answer.new.buf _ Ended c.in-Ended.is c.if-reader.false c.note.ensures.noted (c.next-answer.ensures.tells c.requires.room))

@@ -5,10 +5,10 @@ use Rattle.studio_engine.specs.Session.{HasSession}
 use Rattle.engine_run.specs.Intake.{Takes}
 use Rattle.engine_run.proofs.intake.take_some.Given as goal
 
--- the answers so far
+-- the answers so far, each of which was a datagram
 abbrev pub invariant-loop : goal.invariant-loop
 invariant-loop g l = record {
   room : length l.buf ≡ 2048;
   takes : (studio : Studio) (events : List TraceEvent) (datagrams : List (List ℕ)) → HasSession studio l.fn.engine events datagrams
-      → Takes g.F.Feed.told studio l.engine events datagrams l.stream l.path l.fn.reader l.reader (g.T.RunObserver.heard l.fn.tap) (g.T.RunObserver.heard l.tap) l.counter;
+      → (t : Takes g.F.Feed.told studio l.engine events datagrams l.stream l.path l.fn.reader l.reader (g.T.RunObserver.heard l.fn.tap) (g.T.RunObserver.heard l.tap) l.counter) × (length t.given ≡ l.counter);
 }

@@ -43,7 +43,7 @@ loop-len-preserved g c =
           c.loop-len.out c.turn.new.out c.in-Some.len same within before
           (subst (λ l. Gives studio c.turn.new.self l (datagrams ++ before.more) c.loop-len.out c.turn.new.out c.in-Some.len) (turned_twice now first mid last events inv.time c.in_ok-len.ensures.time)
           (gives studio (turned first mid events) (datagrams ++ before.more) before.stands))
-          c.send-answer.ensures.handed c.add.ensures;
+          c.send-answer.ensures.handed c.add.ensures.blocks;
     }
 
 pub returns-clause-sent : goal.returns-clause-sent

@@ -30,7 +30,7 @@ loop-len-preserved g c =
           (g.K.Sink.handed c.args.sink.now) (g.K.Sink.handed c.loop-len.sink) (g.K.Sink.handed c.send-answer.new.self) c.args.counts.now.blocks c.loop-len.counts.blocks c.add.new.self.blocks
           c.loop-len.out c.drain.new.out c.in-Some.len same within before
           (gives studio events (datagrams ++ before.more) before.stands)
-          c.send-answer.ensures.handed c.add.ensures;
+          c.send-answer.ensures.handed c.add.ensures.blocks;
     }
 
 pub returns-clause-sent : goal.returns-clause-sent

@@ -1,7 +1,7 @@
 use Rattle.std.proofs.Common.{◌≡◌, false, is_err, sym, ◌∙◌}
 use Rattle.engine_run.specs.Rounds.{events_by}
 use Rattle.engine_run.proofs.RunLemmas.{on-fine, run-ends}
-use Rattle.engine_run.proofs.settle.settle.Goals as goal
+use Rattle.engine_run.proofs.output.settle.Goals as goal
 
 pub returns : goal.returns
 returns g c = λ e studio all clock before earlier ended h.
