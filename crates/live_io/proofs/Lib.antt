@@ -1,5 +1,6 @@
 pub mod AddressLemmas
 pub mod BackoffLemmas
+pub mod DescriptorLemmas
 pub mod NameLemmas
 pub mod PortLemmas
 pub mod PutLemmas

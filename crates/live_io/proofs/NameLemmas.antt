@@ -1,18 +1,27 @@
 -- The names of sockets, octet by octet.
-use Rattle.std.proofs.Common.{◌≡◌, ◌<◌, ◌≤◌, ◌+◌, ℕ, zero, suc, List, [], ◌∷◌, ◌++◌, refl, sym, ap, ◌∙◌, arith}
-use Rattle.std.specs.Prelude.{decimal}
-use Rattle.std.proofs.lemmas.Fmt.{decimal_digit}
+use Rattle.std.proofs.Common.{◌≡◌, ◌≢◌, ◌<◌, ◌≤◌, ◌+◌, ◌^◌, ◌/◌, ◌%◌, ℕ, List, [], ◌∷◌, ◌++◌, refl, ap, ◌∙◌, arith}
+use Rattle.std.specs.Prelude.{codes, decimal}
+use Rattle.std.proofs.lemmas.Fmt.{decimal_digit, decimal_step}
+use Rattle.live_io.specs.Names.{IsNoName, IsRole, name_of, path_name}
+use Rattle.live_io.specs.declared.sockets.names.SocketRole.{SocketRole}
+use Rattle.live_io.specs.declared.sockets.names.SocketRole.TheVariants as role
 
 -- the name of a path of one of the first ten streams
-pub name_one : (stream path : ℕ) → stream < 10 → decimal stream ++ (97 + path) ∷ [] ≡ (48 + stream) ∷ (97 + path) ∷ []
+pub name_one : (stream path : ℕ) → stream < 10 → path_name stream path ≡ (48 + stream) ∷ (97 + path) ∷ []
 name_one stream path few = ap (λ l. l ++ (97 + path) ∷ []) (decimal_digit stream few)
 
--- that of a path of one of the six that follow
-pub name_two : (digit path : ℕ) → digit < 6 → decimal (10 + digit) ++ (97 + path) ∷ [] ≡ 49 ∷ (48 + digit) ∷ (97 + path) ∷ []
-name_two zero path few = refl
-name_two (suc zero) path few = refl
-name_two (suc (suc zero)) path few = refl
-name_two (suc (suc (suc zero))) path few = refl
-name_two (suc (suc (suc (suc zero)))) path few = refl
-name_two (suc (suc (suc (suc (suc zero))))) path few = refl
-name_two (suc (suc (suc (suc (suc (suc digit)))))) path few = absurd (omega (arith, few))
+-- that of a path of one of those that follow
+pub name_two : (stream path : ℕ) → 10 ≤ stream → stream < 16 → path_name stream path ≡ 49 ∷ (48 + (stream - 10)) ∷ (97 + path) ∷ []
+name_two stream path many few =
+    let tens : stream / 10 ≡ 1 = omega (arith, many, few) in
+    let ones : stream % 10 ≡ stream - 10 = omega (arith, many, few) in
+    let one : decimal (stream / 10) ≡ 49 ∷ [] = ap decimal tens ∙ decimal_digit 1 (omega arith) in
+    let digits : decimal stream ≡ 49 ∷ (48 + (stream - 10)) ∷ [] =
+    decimal_step stream many (omega (arith, few)) ∙ (ap (λ l. l ++ (48 + stream % 10) ∷ []) one ∙ ap (λ n. 49 ∷ (48 + n) ∷ []) ones) in
+    ap (λ l. l ++ (97 + path) ∷ []) digits
+
+-- no socket has a name that is no path's and no copy's
+pub no_name : (name : List ℕ) → ((stream path : ℕ) → stream < 16 → path < 4 → name ≢ path_name stream path) → name ≢ codes "to_a" → name ≢ codes "to_b" → IsNoName name
+no_name name paths a b (role.Path stream path) is = paths stream path is.0 is.1
+no_name name paths a b role.ToA is = a
+no_name name paths a b role.ToB is = b

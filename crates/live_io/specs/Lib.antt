@@ -1,6 +1,7 @@
 pub mod Addresses
 pub mod Backoff
 pub mod Clock
+pub mod Inherited
 pub mod Names
 pub mod Ports
 pub mod RecordBlocks

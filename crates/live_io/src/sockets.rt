@@ -1,6 +1,7 @@
 //! The sockets of a run. `ports` and `addresses` find where they are bound, `inherited` has those that were passed in,
 //! and `receiver` and `sink` those that receive and send. `feed` makes a feed of a receiver; `unexpected` tests and
-//! counts the sources of datagrams. `sharing` says which paths can be at one place. `health` has what the sockets count, and `udp_table` what the kernel counts.
+//! counts the sources of datagrams. `sharing` says which paths can be at one place. A socket that fails is read by
+//! `retrying`, as `backoff` says. `health` has what the sockets count, and `udp_table` what the kernel counts.
 
 use crate::sockets::addresses::{PathAddress, addresses_of};
 use crate::sockets::health::RunHealth;

@@ -175,7 +175,10 @@ fn a_datagram_ends_the_back_off(rt: HostRuntime) {
 
 /// The kernel's table as Linux 6.1 prints it, with two sockets.
 const TABLE: &[u8] =
-    b"  sl  local_address rem_address   st tx_queue rx_queue tr tm->when retrnsmt   uid  timeout inode ref pointer drops            \n   61: 0100007F:F03D 00000000:0000 07 00000000:00000000 00:00000000 00000000  1000        0 31527 2 0000000000000000 0             \n 8107: 0109EFE0:138C 00000000:0000 07 00000000:00002280 00:00000000 00000000     0        0 4026531 2 0000000000000000 18446744073709551615\n";
+    b"  sl  local_address rem_address   st tx_queue rx_queue tr tm->when retrnsmt   uid  timeout inode \
+    ref pointer drops            \n   61: 0100007F:F03D 00000000:0000 07 00000000:00000000 00:00000000 00000000  1000 \
+           0 31527 2 0000000000000000 0             \n 8107: 0109EFE0:138C 00000000:0000 07 00000000:00002280 \
+    00:00000000 00000000     0        0 4026531 2 0000000000000000 18446744073709551615\n";
 
 /// The drops of a socket are those of the line with its inode; no other number of a line is taken for one.
 #[test]
@@ -198,7 +201,8 @@ fn drops_are_read_by_the_inode(rt: HostRuntime) {
     assert_eq!(rt; drops_in(whole, 4_026_531), None);
 }
 
-/// A clock whose monotonic reading steps by so many microseconds each time, for so many readings, and then stands still.
+/// A clock whose monotonic reading steps by so many microseconds each time, for so many readings, and then stands
+/// still.
 #[derive(Drop)]
 struct SteppingClock {
     readings: Cell<u64>,
@@ -222,7 +226,7 @@ impl time::Clock for SteppingClock {
 /// The clocks are read again until 100 microseconds at most lie between, and not more than 100 times.
 #[test]
 fn the_opening_is_read_again_after_a_preemption(rt: HostRuntime) {
-    // The steps of the clock and their length, and the monotonic reading at the opening in microseconds, if there is one.
+    // The steps of the clock, their length, and the monotonic reading at the opening in microseconds, if there is one.
     let cases = [
         (1_000, 100, Some(0)),
         (1, 101, Some(101)),

@@ -9,8 +9,8 @@ const FIRST_DELAY: u32 = 48;
 const LONGEST_DELAY: u32 = 48_000;
 
 /// The number of faults since the last datagram that end a path.
-// The 1,000th fault comes a quarter of an hour after the first at the earliest: ten delays are 1.023 s together, and 989
-// more are a second each.
+// The 1,000th fault comes a quarter of an hour after the first at the earliest: ten delays are 1.023 s together, and
+// 989 more are a second each.
 const MOST_FAULTS: u32 = 1_000;
 
 /// The back-off of a socket that fails: its faults since the last datagram, and the time of the next attempt.

@@ -1,4 +1,13 @@
 //! Sockets that are inherited from the program that started this one, by the convention of sd_listen_fds(3).
+ghost use Rattle.std.specs.Prelude.{◌≡◌, ◌++◌, IfOk, OnOk};
+ghost use Rattle.live_io.specs.Inherited.{
+  IsWith,
+  descriptor_at,
+  descriptor_of,
+  path_descriptors,
+  row_descriptors,
+};
+ghost use Rattle.live_io.specs.Names.{IsRole};
 
 use crate::sockets::names::SocketRole;
 use crate::sockets::socket_kind::is_udp_socket;
@@ -68,8 +77,8 @@ impl InheritedSockets {
     }
 
     /// Returns the sockets that the environment lists for this process. Names are `0a`, `0b`, .. for the paths of
-    /// streams, and `to_a` and `to_b`. Each descriptor is tested, and stays open. The first variable, name or descriptor
-    /// that is not valid is an error, and so is a list for another process.
+    /// streams, and `to_a` and `to_b`. Each descriptor is tested, and stays open. The first variable, name or
+    /// descriptor that is not valid is an error, and so is a list for another process.
     pub fn from_env<R: Env + AllocGlobal>(
         rt: &R,
         alloc: Global,
@@ -102,13 +111,38 @@ impl InheritedSockets {
         let Some(role) = SocketRole::of_name(name) else {
             return false;
         };
+        if !has_socket(streams, role) || self.descriptor(role).is_some() {
+            return false;
+        }
+        if !is_udp_socket(descriptor) {
+            return false;
+        }
+        self.set(role, descriptor);
+        true
+    }
+
+    /// Returns the descriptor of a role, if it has one.
+    fn descriptor(&self, role: SocketRole) -> Option<i32>
+        ensures { result ≡ descriptor_of self.now role }
+    {
         match role {
-            SocketRole::ToA => set_once(&mut self.to_a, descriptor),
-            SocketRole::ToB => set_once(&mut self.to_b, descriptor),
-            SocketRole::Path(stream, path) if has_path(streams, stream, path) => {
-                set_once(&mut self.paths[stream][path], descriptor)
+            SocketRole::ToA => self.to_a,
+            SocketRole::ToB => self.to_b,
+            SocketRole::Path(stream, path) => descriptor_in(&self.paths, usize::from(stream), path),
+        }
+    }
+
+    /// Sets the descriptor of a role.
+    fn set(&mut self, role: SocketRole, descriptor: i32)
+        requires known { IsRole role }
+        ensures { IsWith role descriptor self.old self.new }
+    {
+        match role {
+            SocketRole::ToA => self.to_a = Some(descriptor),
+            SocketRole::ToB => self.to_b = Some(descriptor),
+            SocketRole::Path(stream, path) => {
+                self.paths[usize::from(stream)][usize::from(path)] = Some(descriptor);
             }
-            SocketRole::Path(_, _) => false,
         }
     }
 
@@ -118,33 +152,55 @@ impl InheritedSockets {
         &self,
         alloc: Global,
         streams: &[StreamSpec],
-    ) -> Result<Vec<Option<i32>>, AllocError> {
+    ) -> Result<Vec<Option<i32>>, AllocError>
+        ensures { IfOk result (λ found. found.items ≡ path_descriptors self.now.paths 0 streams.now) }
+    {
         let mut found = Vec::new(alloc);
-        for (row, stream) in self.paths.iter().zip(streams) {
-            for descriptor in row.iter().take(usize::from(stream.paths())) {
-                found.push(*descriptor)?;
-            }
+        // Loops over numbers here and in `push_row`: their invariants speak of the paths below the number.
+        for number in 0..streams.len() {
+            push_row(&mut found, &self.paths, number, streams[number].paths())?;
         }
         Ok(found)
     }
 }
 
-/// Returns true if there is a stream of this number that has this path.
-fn has_path(streams: &[StreamSpec], stream: usize, path: usize) -> bool {
-    match streams.get(stream) {
-        Some(spec) => path < usize::from(spec.paths()),
-        None => false,
+/// Appends the descriptors of a stream's first `count` paths. Returns `AllocError` if an allocation fails.
+fn push_row(
+    found: &mut Vec<Option<i32>>,
+    rows: &[[Option<i32>; 4]; 16],
+    number: usize,
+    count: u8,
+) -> Result<(), AllocError>
+    ensures { OnOk result (found.new.items ≡ found.old.items ++ row_descriptors rows.now number count) }
+{
+    for path in 0..count {
+        found.push(descriptor_in(rows, number, path))?;
+    }
+    Ok(())
+}
+
+/// Returns the descriptor of a stream's path, or `None` if it has none or there is no such path.
+fn descriptor_in(rows: &[[Option<i32>; 4]; 16], stream: usize, path: u8) -> Option<i32>
+    ensures { result ≡ descriptor_at rows.now stream path }
+{
+    let Some(row) = rows.get(stream) else {
+        return None;
+    };
+    match row.get(usize::from(path)) {
+        Some(descriptor) => *descriptor,
+        None => None,
     }
 }
 
-/// Sets a slot to a descriptor, and returns true if it did. Returns false if the slot is taken or the descriptor is
-/// no UDP socket at an IPv4 address.
-fn set_once(slot: &mut Option<i32>, descriptor: i32) -> bool {
-    if slot.is_some() || !is_udp_socket(descriptor) {
-        return false;
+/// Returns true if a studio of these streams has a socket of this role.
+fn has_socket(streams: &[StreamSpec], role: SocketRole) -> bool {
+    match role {
+        SocketRole::ToA | SocketRole::ToB => true,
+        SocketRole::Path(stream, path) => match streams.get(usize::from(stream)) {
+            Some(spec) => path < spec.paths(),
+            None => false,
+        },
     }
-    *slot = Some(descriptor);
-    true
 }
 
 /// Returns the error for a name that is refused.

@@ -1,6 +1,6 @@
 //! Paths at one address and port: which can have a socket each, and which cannot.
-ghost use Rattle.std.specs.Prelude.{◌↔◌, IsTrue};
-ghost use Rattle.live_io.specs.Sharing.{Collide, Meet, Share};
+ghost use Rattle.std.specs.Prelude.{◌≡◌, ◌↔◌, false, IsTrue};
+ghost use Rattle.live_io.specs.Sharing.{AllFit, Collide, HaveCollision, Meet, Share};
 
 use std::net::Ipv4Addr;
 
@@ -46,8 +46,11 @@ impl PathPlace {
 }
 
 /// Returns true if two of the paths collide.
-pub fn have_collision(places: &[PathPlace]) -> bool {
-    for later in 1..places.len() {
+pub fn have_collision(places: &[PathPlace]) -> bool
+    ensures found { IsTrue result → HaveCollision places.now }
+    ensures none { result ≡ false → AllFit places.now }
+{
+    for later in 0..places.len() {
         for earlier in 0..later {
             if places[earlier].collides_with(&places[later]) {
                 return true;
