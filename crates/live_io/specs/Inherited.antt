@@ -1,5 +1,5 @@
 -- The descriptors of inherited sockets, path by path.
-use Rattle.std.specs.Prelude.{◌≡◌, ◌≢◌, ℕ, zero, suc, ℤ, List, [], ◌∷◌, ◌++◌, Option, Some, None, slice_get, unwrap_or}
+use Rattle.std.specs.Prelude.{ℕ, zero, suc, ℤ, List, [], ◌∷◌, ◌++◌, Option, None, slice_get, unwrap_or}
 use Rattle.rtp_stream.specs.declared.stream_spec.Stream.{Stream}
 use Rattle.live_io.specs.declared.sockets.inherited.InheritedSockets.{InheritedSockets}
 use Rattle.live_io.specs.declared.sockets.names.SocketRole.{SocketRole}
@@ -24,8 +24,3 @@ row_descriptors rows number (suc count) = row_descriptors rows number count ++ d
 abbrev pub path_descriptors : List (List (Option ℤ)) → ℕ → List Stream → List (Option ℤ)
 path_descriptors rows number [] = []
 path_descriptors rows number (stream ∷ streams) = row_descriptors rows number stream.paths ++ path_descriptors rows (suc number) streams
-
--- a socket's descriptor was set, and those of all others are as before
-pub record IsWith (socket : SocketRole) (descriptor : ℤ) (old new : InheritedSockets) : Type 0 where
-  pub own : descriptor_of new socket ≡ Some descriptor
-  pub others : (other : SocketRole) → other ≢ socket → descriptor_of new other ≡ descriptor_of old other

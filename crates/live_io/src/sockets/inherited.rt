@@ -1,7 +1,6 @@
 //! Sockets that are inherited from the program that started this one, by the convention of sd_listen_fds(3).
-ghost use Rattle.std.specs.Prelude.{◌≡◌, ◌++◌, IfOk, OnOk};
+ghost use Rattle.std.specs.Prelude.{◌≡◌, ◌<◌, ◌++◌, Some, IfOk, OnOk};
 ghost use Rattle.live_io.specs.Inherited.{
-  IsWith,
   descriptor_at,
   descriptor_of,
   path_descriptors,
@@ -135,15 +134,22 @@ impl InheritedSockets {
     /// Sets the descriptor of a role.
     fn set(&mut self, role: SocketRole, descriptor: i32)
         requires known { IsRole role }
-        ensures { IsWith role descriptor self.old self.new }
+        ensures { descriptor_of self.new role ≡ Some descriptor }
     {
         match role {
             SocketRole::ToA => self.to_a = Some(descriptor),
             SocketRole::ToB => self.to_b = Some(descriptor),
-            SocketRole::Path(stream, path) => {
-                self.paths[usize::from(stream)][usize::from(path)] = Some(descriptor);
-            }
+            SocketRole::Path(stream, path) => self.set_path(stream, path, Some(descriptor)),
         }
+    }
+
+    /// Sets the descriptor of a stream's path.
+    #[tactic(auto, using(crate::proofs::DescriptorLemmas::set_own))]
+    fn set_path(&mut self, stream: u8, path: u8, descriptor: Option<i32>)
+        requires known { (stream < 16) × (path < 4) }
+        ensures { descriptor_at self.new.paths stream path ≡ descriptor }
+    {
+        self.paths[usize::from(stream)][usize::from(path)] = descriptor;
     }
 
     /// Returns the descriptor of each path, ordered by stream and then by path, or `None` for a path without one.
