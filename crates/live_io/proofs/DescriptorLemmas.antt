@@ -7,13 +7,12 @@ use Rattle.std.proofs.lemmas.Option.{unwrap_or-slice_get}
 use Rattle.rtp_stream.specs.declared.stream_spec.Stream.{Stream}
 use Rattle.live_io.specs.Inherited.{descriptor_at, path_descriptors, row_descriptors}
 
--- the descriptor that was set is there
-pub set_own : (rows : List (List (Option ℤ))) (stream path : ℕ) (row : List (Option ℤ)) (own : Option ℤ) → stream < length rows → path < length row
-    → descriptor_at (set rows stream (set row path own)) stream path ≡ own
-set_own rows stream path row own within inside =
-    unwrap_or-slice_get (unwrap_or (slice_get (set rows stream (set row path own)) stream) []) path None
-    ∙ (ap (λ r. get_or r path None) (unwrap_or-slice_get (set rows stream (set row path own)) stream [] ∙ get_or-set_same rows stream (set row path own) [] within)
-    ∙ get_or-set_same row path own None inside)
+-- the descriptor of a stream's path is that of its row, once the row was set
+pub set_own : (rows : List (List (Option ℤ))) (stream path : ℕ) (row : List (Option ℤ)) (own : Option ℤ) → stream < length rows → get_or row path None ≡ own
+    → descriptor_at (set rows stream row) stream path ≡ own
+set_own rows stream path row own within is =
+    unwrap_or-slice_get (unwrap_or (slice_get (set rows stream row) stream) []) path None
+    ∙ (ap (λ r. get_or r path None) (unwrap_or-slice_get (set rows stream row) stream [] ∙ get_or-set_same rows stream row [] within) ∙ is)
 
 -- the descriptors of the streams so far were found, and these are left
 abbrev pub IsFound : List (List (Option ℤ)) → List Stream → ℕ → List (Option ℤ) → Type 0

@@ -1,6 +1,7 @@
 -- The names of sockets, octet by octet.
-use Rattle.std.proofs.Common.{◌≡◌, ◌≢◌, ◌<◌, ◌≤◌, ◌+◌, ◌-◌, ◌^◌, ◌/◌, ◌%◌, ℕ, List, [], ◌∷◌, ◌++◌, refl, ap, ◌∙◌, arith}
-use Rattle.std.specs.Prelude.{codes, decimal}
+use Rattle.std.proofs.Common.{◌≡◌, ◌≢◌, ◌<◌, ◌≤◌, ◌+◌, ◌-◌, ◌^◌, ◌/◌, ◌%◌, ℕ, List, [], ◌∷◌, ◌++◌, Bool, true, false, refl, ap, sym, ◌∙◌, arith}
+use Rattle.std.specs.Prelude.{IsTrue, bytes_eq, codes, decimal}
+use Rattle.std.specs.Cmp.Lexicographic.{other_text, same_text}
 use Rattle.std.proofs.lemmas.Fmt.{decimal_digit, decimal_step}
 use Rattle.live_io.specs.Names.{IsNoName, IsRole, name_of, path_name}
 use Rattle.live_io.specs.declared.sockets.names.SocketRole.{SocketRole}
@@ -25,3 +26,8 @@ pub no_name : (name : List ℕ) → ((stream path : ℕ) → stream < 16 → pat
 no_name name paths a b (role.Path stream path) is = paths stream path is.0 is.1
 no_name name paths a b role.ToA is = a
 no_name name paths a b role.ToB is = b
+
+-- the answer of a comparison with a text is that for another one that is the same
+pub is_text : (name text own : List ℕ) (r : Bool) → r ≡ bytes_eq name text → own ≡ text → (IsTrue r → name ≡ own) × (name ≡ own → IsTrue r)
+is_text name text own true told is = (λ t. same_text name text told ∙ sym is, λ e. refl)
+is_text name text own false told is = (λ t. absurd (let f : false ≡ true = t in cc), λ e. absurd (other_text name text told (e ∙ is)))

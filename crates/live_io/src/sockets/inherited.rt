@@ -1,5 +1,5 @@
 //! Sockets that are inherited from the program that started this one, by the convention of sd_listen_fds(3).
-ghost use Rattle.std.specs.Prelude.{◌≡◌, ◌<◌, ◌++◌, Some, IfOk, OnOk};
+ghost use Rattle.std.specs.Prelude.{◌≡◌, ◌<◌, ◌++◌, Some, None, slice_index_or, IfOk, OnOk};
 ghost use Rattle.live_io.specs.Inherited.{
   descriptor_at,
   descriptor_of,
@@ -144,12 +144,11 @@ impl InheritedSockets {
     }
 
     /// Sets the descriptor of a stream's path.
-    #[tactic(auto, using(crate::proofs::DescriptorLemmas::set_own))]
     fn set_path(&mut self, stream: u8, path: u8, descriptor: Option<i32>)
         requires known { (stream < 16) × (path < 4) }
         ensures { descriptor_at self.new.paths stream path ≡ descriptor }
     {
-        self.paths[usize::from(stream)][usize::from(path)] = descriptor;
+        set_in_row(&mut self.paths[usize::from(stream)], path, descriptor);
     }
 
     /// Returns the descriptor of each path, ordered by stream and then by path, or `None` for a path without one.
@@ -196,6 +195,14 @@ fn descriptor_in(rows: &[[Option<i32>; 4]; 16], stream: usize, path: u8) -> Opti
         Some(descriptor) => *descriptor,
         None => None,
     }
+}
+
+/// Sets the descriptor of a path in its stream's row.
+fn set_in_row(row: &mut [Option<i32>; 4], path: u8, descriptor: Option<i32>)
+    requires few { path < 4 }
+    ensures { slice_index_or row.new path None ≡ descriptor }
+{
+    row[usize::from(path)] = descriptor;
 }
 
 /// Returns true if a studio of these streams has a socket of this role.

@@ -70,7 +70,6 @@ fn path_of_stream(name: &[u8], stream: u8) -> Option<u8>
 }
 
 /// Returns true if this is the name of a path.
-#[tactic(auto, using(crate::proofs::NameLemmas::name_one, crate::proofs::NameLemmas::name_two))]
 fn is_path_name(name: &[u8], stream: u8, path: u8) -> bool
     requires streams { stream < 16 }
     requires paths { path < 4 }
