@@ -6,7 +6,7 @@ use Rattle.rtp_stream.specs.Counts.{tally_of}
 use Rattle.rtp_stream.specs.PathCounts.{path_tally_of}
 use Rattle.rtp_stream.specs.declared.stream_counts.PathCounts.{PathCounts}
 use Rattle.rtp_stream.specs.declared.stream_counts.StreamCounts.{StreamCounts}
-use Rattle.studio_run.specs.LiveReport.{feed_line}
+use Rattle.live_status.specs.Lines.{feed_line}
 use Rattle.studio_run.specs.Report.{merge_line, path_line}
 use Rattle.studio_io.specs.declared.report.WorkReport.{WorkReport}
 use Rattle.live_run.specs.Report.{feeds_text, own_feeds_text, paths_in, paths_text, report_text, sink_text, stream_text, streams_in, streams_text}

@@ -5,7 +5,7 @@ use Rattle.rtp_stream.specs.PathCounts.{path_tally_of}
 use Rattle.rtp_stream.specs.declared.stream_counts.PathCounts.{PathCounts}
 use Rattle.rtp_stream.specs.declared.stream_counts.StreamCounts.{StreamCounts}
 use Rattle.studio_run.specs.Report.{path_line, merge_line}
-use Rattle.studio_run.specs.LiveReport.{feed_line, sink_line}
+use Rattle.live_status.specs.Lines.{feed_line, sink_line}
 use Rattle.studio_io.specs.declared.report.WorkReport.{WorkReport}
 
 -- the counts of a stream's paths, of which there are at most four

@@ -1,5 +1,6 @@
 //! The context of a run, by workers or in one thread.
 
+use crate::shown_health::ShownHealth;
 use crate::supervisor::stop_flags::StopFlags;
 use live_io::{RunHealth, RunPeriod};
 use live_status::StatusOutputs;
@@ -17,4 +18,6 @@ pub(crate) struct RunContext<'a, E> {
     pub(crate) flags: &'a StopFlags,
     /// The health of the run's sockets.
     pub(crate) health: &'a RunHealth,
+    /// The health of the run as its status shows it.
+    pub(crate) shown: ShownHealth<'a>,
 }

@@ -7,6 +7,7 @@ use crate::context::RunContext;
 use crate::fault::LiveFault;
 use crate::inputs::LiveInputs;
 use crate::scoped_thread::with_scoped_thread;
+use crate::shown_health::ShownHealth;
 use crate::single_thread::{RecordOutput, run_in_one_thread};
 use crate::status::{OpenStatus, open_status};
 use crate::supervisor::stop_flags::StopFlags;
@@ -100,6 +101,12 @@ fn bind_and_run<
             status: showing,
             flags: &state.flags,
             health: inputs.sockets.health,
+            shown: ShownHealth {
+                studio,
+                health: inputs.sockets.health,
+                unexpected: inputs.sockets.unexpected,
+                recorded: inputs.recorded,
+            },
         },
         recording,
     };

@@ -7,7 +7,9 @@
 //! The modules, in the order of a run:
 //!
 //! - `launch` opens sockets and status, and calls one of the two forms with a `RunContext`.
-//! - `status` opens the page and the other outputs of the status, and writes the line of addresses.
+//! - `status` opens the page and the other outputs of the status, and writes the line of addresses
+//!   and, at a terminal, how to end the run with its report. `shown_health` reads what the status
+//!   shows of sockets, sends and the record.
 //! - `workers` is the form with a thread for each path and stream and one for the mix,
 //!   `run_in_workers`.
 //! - `single_thread` is the form with an engine in one thread, `run_in_one_thread`. It waits by
@@ -23,6 +25,7 @@
 
 mod address_line;
 mod context;
+mod end_hint;
 mod fault;
 mod inputs;
 mod launch;
@@ -30,6 +33,7 @@ mod path_watch;
 mod report;
 mod run;
 mod scoped_thread;
+mod shown_health;
 mod single_thread;
 mod status;
 mod supervisor;

@@ -89,6 +89,10 @@ impl StatusTask for PathWatch<'_> {
         self.read_drops_if_due();
         self.write_lines();
     }
+
+    fn publish_last(&mut self) {
+        self.write_lines();
+    }
 }
 
 /// A task of the supervisor, and the watch of the sockets before it.
@@ -102,6 +106,11 @@ impl<T: StatusTask> StatusTask for WatchedTask<'_, T> {
     fn poll(&mut self) {
         self.watch.poll();
         self.task.poll();
+    }
+
+    fn publish_last(&mut self) {
+        self.watch.publish_last();
+        self.task.publish_last();
     }
 }
 

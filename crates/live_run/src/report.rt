@@ -12,13 +12,11 @@ ghost use Rattle.live_run.specs.Report.{
   streams_text,
 };
 
+use live_status::{SinkCounts, write_feed_faults, write_sink_counts};
 use rtp_stream::{Path, PathCounts, StreamCounts};
 use std::io::Write;
 use studio_io::WorkReport;
-use studio_run::{
-    SinkCounts, TextBuffer, WriteFault, write_feed_faults, write_merge_counts, write_path_counts,
-    write_sink_counts,
-};
+use studio_run::{TextBuffer, WriteFault, write_merge_counts, write_path_counts};
 
 /// Writes the report of a run: the counts of each stream in the lines of a played trace's report, the faults of each
 /// feed, and the datagrams by the result at each address. Returns `WriteFault` if a write fails.

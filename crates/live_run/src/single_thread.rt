@@ -63,6 +63,7 @@ pub(crate) fn run_in_one_thread<
         status,
         flags,
         health,
+        shown,
     } = context;
     let RecordOutput { record, recorded } = recording;
     // Only a record needs the sources, and keeping them makes each receive slower.
@@ -78,7 +79,7 @@ pub(crate) fn run_in_one_thread<
     let meter = status.meter;
     let watch = PathWatch::new(studio, health, status.publisher.is_some());
     let (record, writer) = ends_of(record);
-    let observer = LiveObserver::new(alloc, studio, record, status)?;
+    let observer = LiveObserver::new(alloc, studio, record, status, shown)?;
     let io = prepare_engine_io(rt, alloc, studio, sockets, period, feed_flags, meter)?;
     let run = SupervisedRun {
         io,

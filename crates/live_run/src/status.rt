@@ -1,6 +1,7 @@
-//! Opening the status of a run: its page, the line with its addresses, and the outputs that the run fills.
+//! Opening the status of a run: its page, the first lines on standard error, and the outputs that the run fills.
 
 use crate::address_line::write_address_line;
+use crate::end_hint::write_end_hint;
 use live_io::{LiveOptions, Sockets};
 use live_status::{
     OpenPage, PageFault, PageThread, StatusInputs, StatusOutputs, open_outputs, open_page,
@@ -21,7 +22,8 @@ pub(crate) struct OpenStatus<'a, E> {
 }
 
 /// Opens the status of a run: binds the page's port, if a page is wanted, and writes the line with the run's addresses,
-/// if a page or lines are wanted. Lines go to `faults`. Allocates all memory of the status. Returns `PageFault::Memory`
+/// if a page or lines are wanted. At a terminal it also writes how to end the run with its report, if Ctrl-C would not.
+/// Lines go to `faults`. Allocates all memory of the status. Returns `PageFault::Memory`
 /// if an allocation fails, and `PageFault::Page` if the port cannot be bound.
 pub(crate) fn open_status<'a, R: Net + RandomSource, E: Write + Drop>(
     rt: &R,
@@ -41,6 +43,7 @@ pub(crate) fn open_status<'a, R: Net + RandomSource, E: Write + Drop>(
     if options.stats.is_some() || serving.is_some() {
         write_address_line(studio, sockets, &serving, &mut faults);
     }
+    write_end_hint(options.until_eof, &mut faults);
     let showing = open_outputs(alloc, studio, options.stats, inputs, snapshots, faults)?;
     Ok(OpenStatus { serving, showing })
 }

@@ -24,12 +24,21 @@ pub(crate) const POLL_INTERVAL_MS: u64 = 50;
 pub(crate) trait StatusTask: Drop {
     /// Publishes the run's status, if it is due. It must not wait.
     fn poll(&mut self);
+
+    /// Publishes the status of a run that has ended. It must not wait.
+    fn publish_last(&mut self);
 }
 
 impl<T: StatusTask> StatusTask for Option<T> {
     fn poll(&mut self) {
         if let Some(task) = self {
             task.poll();
+        }
+    }
+
+    fn publish_last(&mut self) {
+        if let Some(task) = self {
+            task.publish_last();
         }
     }
 }
@@ -53,7 +62,7 @@ impl<T: StatusTask> Supervisor<T> {
     }
 }
 
-/// Polls again and again until the run has ended.
+/// Polls again and again until the run has ended, and then publishes its status for the last time.
 fn supervise<R: Wait, T: StatusTask>(rt: &R, supervisor: Supervisor<T>, flags: &StopFlags) {
     let mut supervisor = supervisor;
     for _ in rt.forever() {
@@ -61,6 +70,7 @@ fn supervise<R: Wait, T: StatusTask>(rt: &R, supervisor: Supervisor<T>, flags: &
             .parker
             .park_timeout(rt, Duration::from_millis(POLL_INTERVAL_MS));
         if flags.finished.load(Ordering::SeqCst) {
+            supervisor.task.publish_last();
             return;
         }
         supervisor.poll(flags);

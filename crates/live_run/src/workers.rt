@@ -9,6 +9,7 @@ ghost use Rattle.live_run.specs.RunResult.{IsEarly, IsRunOf};
 use crate::context::RunContext;
 use crate::fault::LiveFault;
 use crate::path_watch::{PathWatch, WatchedTask};
+use crate::shown_health::ShownHealth;
 use crate::supervisor::{Supervisor, run_supervised};
 use crate::workers::latest_stats::LatestStats;
 use crate::workers::rings::{Rings, open_rings};
@@ -49,6 +50,7 @@ pub(crate) fn run_in_workers<'a, R: Threads + Wait + Sync + Clock, E: Write + Se
         status,
         flags,
         health,
+        shown,
     } = context;
     // Without a status there are no rings for statistics, and the workers send none.
     let is_shown = status.publisher.is_some();
@@ -61,7 +63,7 @@ pub(crate) fn run_in_workers<'a, R: Threads + Wait + Sync + Clock, E: Write + Se
         health: health.paths(),
     };
     let workers = prepare_workers(rt, alloc, ends, sockets, period, feed_flags)?;
-    let task = worker_status_task(rt, alloc, receivers, period, status.publisher)?;
+    let task = worker_status_task(rt, alloc, receivers, period, status.publisher, shown)?;
     let watch = PathWatch::new(studio, health, is_shown);
     let supervisor = Supervisor {
         until_eof,
@@ -89,6 +91,7 @@ fn worker_status_task<'a, R: Clock, E: Write + Drop>(
     receivers: Option<StatsReceivers>,
     period: RunPeriod,
     publisher: Option<StatusPublisher<E>>,
+    health: ShownHealth<'a>,
 ) -> Result<Option<WorkerStatusTask<'a, R, E>>, AllocError> {
     let (Some(receivers), Some(publisher)) = (receivers, publisher) else {
         return Ok(None);
@@ -99,5 +102,6 @@ fn worker_status_task<'a, R: Clock, E: Write + Drop>(
         latest,
         clock: period.clock(rt),
         publisher,
+        health,
     }))
 }

@@ -1,11 +1,14 @@
 -- Streams of an engine, filled into a blank snapshot.
-use Rattle.std.proofs.Common.{List, subst, ◌∙◌, arith}
+use Rattle.std.proofs.Common.{◌≡◌, ℕ, List, replicate, sym, ap, subst, ◌∙◌, arith}
+use Rattle.status_page.specs.Blank.{blank_path}
 use Rattle.std.proofs.lemmas.Option.{slice_get-get_or, slice_get_within}
 use Rattle.studio_engine.specs.Engine.{EngineState}
 use Rattle.status_page.specs.declared.snapshot.PathState.{PathState}
 use Rattle.status_page.specs.declared.snapshot.StreamState.{StreamState}
 use Rattle.live_status.specs.Each.{AreEach}
-use Rattle.live_status.specs.Engine.{IsEnginePath}
+use Rattle.live_status.specs.Engine.{HasEngineBefore, HasEngineCounts, IsEnginePath}
+use Rattle.live_status.specs.Health.{KeepsPath, KeepsStream}
+use Rattle.rtp_stream.specs.declared.counts.Counts.{Counts}
 use Rattle.live_status.specs.StreamStatus.{IsBlankOf}
 use Rattle.live_status.specs.EngineStatus.{IsEngineStream, FillsStream}
 use Rattle.live_status.specs.declared.stream_status.StreamStatus.{StreamStatus}
@@ -23,5 +26,37 @@ streams-filled engine statuses blanks news blank filled = record {
         latency_is = is.latency_is ∙ was.latency_is;
         counts = is.counts;
         paths = λ within. subst (λ (paths : List PathState). AreEach (IsEnginePath engine place new.counts) paths new.paths.items) was.paths_are (is.paths within);
+      };
+}
+
+-- paths of which only the sockets changed are the engine's still
+pub paths-kept : (engine : EngineState) (number : ℕ) (counts : Counts) (blanks olds news : List PathState) → AreEach (IsEnginePath engine number counts) blanks olds → AreEach KeepsPath olds news → AreEach (IsEnginePath engine number counts) blanks news
+paths-kept engine number counts blanks olds news shown kept = record {
+  length_is = kept.length_is ∙ shown.length_is;
+  each = λ place blank new at_blank at_new.
+      let at = slice_get-get_or olds place new (let within = slice_get_within blanks place blank at_blank in let same = shown.length_is in omega (arith, within, same)) in
+      let was = shown.each place blank _ at_blank at in
+      let is = kept.each place _ new at at_new in
+      record {
+        first = λ few. ap (λ (path : PathState). path.first) is ∙ was.first few;
+        before = λ few. subst (λ (path : PathState). HasEngineBefore engine number place path.counts path.datagrams) (sym is) (was.before few);
+      };
+}
+
+-- streams of which only the sockets changed are the engine's still
+pub streams-kept : (engine : EngineState) (statuses : List StreamStatus) (olds news : List StreamState) → AreEach (IsEngineStream engine) statuses olds → AreEach KeepsStream olds news → AreEach (IsEngineStream engine) statuses news
+streams-kept engine statuses olds news shown kept = record {
+  length_is = kept.length_is ∙ shown.length_is;
+  each = λ place one new at_one at_new.
+      let at = slice_get-get_or olds place new (let within = slice_get_within statuses place one at_one in let same = shown.length_is in omega (arith, within, same)) in
+      let was = shown.each place one _ at_one at in
+      let is = kept.each place _ new at at_new in
+      record {
+        name_is = is.name_is ∙ was.name_is;
+        latency_is = is.latency_is ∙ was.latency_is;
+        counts = λ within. subst (λ (counts : Counts). HasEngineCounts engine place counts) (sym is.counts_are) (was.counts within);
+        paths = λ within.
+            paths-kept engine place new.counts (replicate one.paths blank_path) _ new.paths.items
+            (subst (λ (counts : Counts). AreEach (IsEnginePath engine place counts) (replicate one.paths blank_path) _) (sym is.counts_are) (was.paths within)) is.paths_are;
       };
 }

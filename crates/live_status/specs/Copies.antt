@@ -1,11 +1,9 @@
 -- What is shown of a path's packets.
-use Rattle.std.specs.Prelude.{◌≡◌, ℕ, ◌+◌, ◌-◌, ◌^◌, min, max, List, slice_index, slice_get, Some, option_map}
+use Rattle.std.specs.Prelude.{◌≡◌, ℕ, ◌+◌, ◌-◌, ◌^◌, min, List, slice_index, slice_get, Some}
 use Rattle.rtp_stream.specs.declared.counts.Counts.{Counts}
-use Rattle.rtp_stats.specs.declared.spare.ArrivalMargin.{ArrivalMargin}
 use Rattle.rtp_stats.specs.declared.stats.PathStats.{PathStats}
 use Rattle.status_page.specs.declared.snapshot.CopyCounts.{CopyCounts}
 use Rattle.status_page.specs.declared.snapshot.PathState.{PathState}
-use Rattle.status_page.specs.declared.snapshot.ArrivalMargin as page
 
 -- what it missed, and what its stream lost; what became of the others
 abbrev pub copies_of : PathStats → ℕ → CopyCounts
@@ -16,13 +14,9 @@ copies_of numbers lost = record {
   late = numbers.tally.late;
 }
 
--- its spare times; the least is no more than the median
-abbrev pub spare_of : ArrivalMargin → page.ArrivalMargin
-spare_of spare = record { least = spare.least; median = max spare.median spare.least }
-
 -- a path with these numbers, of a stream that lost so many
 abbrev pub with_numbers : PathStats → ℕ → PathState → PathState
-with_numbers numbers lost path = record path { copies = Some (copies_of numbers lost); spare = option_map spare_of numbers.spare }
+with_numbers numbers lost path = record path { copies = Some (copies_of numbers lost); spare = numbers.spare }
 
 -- of a path at its place, among these counts and numbers: its first copies, and what became of the others
 abbrev pub IsTold : Counts → List PathStats → ℕ → PathState → PathState → Type 0

@@ -8,3 +8,5 @@ pub mod Conditions
 pub mod StreamStatus
 pub mod Publisher
 pub mod EngineStatus
+pub mod Lines
+pub mod Health

@@ -1,17 +1,20 @@
-//! The lines with each stream's counts on standard error while a run goes on.
+//! The schedule of the lines on standard error while a run goes on: of each stream's counts, of each path's socket, and
+//! of the run.
 ghost use Rattle.std.specs.Prelude.{◌≡◌, ◌⊎◌, ◌^◌, ◌-◌, ◌*◌, ◌+ℤ◌, IfOk, int_le, pos};
 ghost use Rattle.std.specs.Int.{saturate_to_bits};
 
 use crate::fd_ready::{STDERR, is_ready};
-use status_page::Snapshot;
+use crate::lines::running::{write_run_state, write_running_counts, write_socket_state};
+use rtp_stream::Path;
+use status_page::{PathState, Snapshot, StreamState};
 use std::alloc::{AllocError, Global};
 use std::io::Write;
-use studio_run::{TextBuffer, WriteFault, write_running_counts};
+use studio_run::{TextBuffer, WriteFault};
 
 /// A second, in sampling instants.
 const SECOND: i64 = 48_000;
 
-/// The schedule of the lines with the streams' counts, and the buffer for their text.
+/// The schedule of the lines, and the buffer for their text.
 #[derive(Drop)]
 pub(crate) struct CountLines {
     /// The period of the lines, in sampling instants at 48 kHz.
@@ -44,7 +47,7 @@ impl CountLines {
         now >= self.next
     }
 
-    /// Writes a line for each stream of a snapshot at the time `now`. After a failed write nothing more is written.
+    /// Writes the lines of a snapshot at the time `now`. After a failed write nothing more is written.
     pub(crate) fn write_due<W: Write>(&mut self, now: i64, snapshot: &Snapshot, writer: &mut W)
         ensures next { (self.new.next ≡ saturate_to_bits 63 (now +ℤ self.old.every))
             ⊎ (self.new.next ≡ pos (2 ^ 63 - 1)) }
@@ -57,7 +60,8 @@ impl CountLines {
         };
     }
 
-    /// Writes a line for each stream. Once standard error would block, the other lines are dropped.
+    /// Writes the lines of each stream, and then that of the run. Once standard error would block, the other lines are
+    /// dropped.
     fn write_lines<W: Write>(
         &mut self,
         now: i64,
@@ -67,15 +71,98 @@ impl CountLines {
         ensures { self.new.every ≡ self.old.every }
     {
         for (number, stream) in (0u8..).zip(snapshot.streams.iter()) {
-            // Tested before each line: neither a run in one thread nor a supervisor that polls for signals may wait for
-            // the reader of standard error.
-            if !is_ready(STDERR, libc::net::POLLOUT) {
-                return Ok(());
-            }
-            let paths = stream.paths.len() as u8;
-            write_running_counts(&mut self.text, writer, number, paths, now, &stream.counts)?;
+            self.write_stream(now, number, stream, writer)?;
+        }
+        self.write_run(now, snapshot, writer)
+    }
+
+    /// Writes the lines of a stream: that of its counts, and one for each path whose socket is known.
+    fn write_stream<W: Write>(
+        &mut self,
+        now: i64,
+        number: u8,
+        stream: &StreamState,
+        writer: &mut W,
+    ) -> Result<(), WriteFault>
+        ensures { self.new.every ≡ self.old.every }
+    {
+        let paths = stream.paths.as_slice();
+        if can_write() {
+            let count = paths.len() as u8;
+            write_running_counts(&mut self.text, writer, number, count, now, &stream.counts)?;
+            self.text.finish(writer)?;
+        }
+        self.write_sockets(now, number, paths, writer)
+    }
+
+    /// Writes a line for each path of a stream whose socket is known.
+    fn write_sockets<W: Write>(
+        &mut self,
+        now: i64,
+        number: u8,
+        paths: &[PathState],
+        writer: &mut W,
+    ) -> Result<(), WriteFault>
+        ensures { self.new.every ≡ self.old.every }
+    {
+        for place in 0..paths.len().min(4) {
+            self.write_socket(now, number, place as u8, &paths[place], writer)?;
+        }
+        Ok(())
+    }
+
+    /// Writes the line of a path's socket, if its state is known.
+    fn write_socket<W: Write>(
+        &mut self,
+        now: i64,
+        number: u8,
+        place: u8,
+        path: &PathState,
+        writer: &mut W,
+    ) -> Result<(), WriteFault>
+        ensures { self.new.every ≡ self.old.every }
+    {
+        let Some(socket) = &path.socket else {
+            return Ok(());
+        };
+        let Some(letter) = Path::new(place) else {
+            return Ok(());
+        };
+        if can_write() {
+            write_socket_state(&mut self.text, writer, number, letter, now, socket)?;
             self.text.finish(writer)?;
         }
         Ok(())
     }
+
+    /// Writes the line of the run.
+    fn write_run<W: Write>(
+        &mut self,
+        now: i64,
+        snapshot: &Snapshot,
+        writer: &mut W,
+    ) -> Result<(), WriteFault>
+        ensures { self.new.every ≡ self.old.every }
+    {
+        if can_write() {
+            let [failed_a, failed_b] = snapshot.failed_sends;
+            write_run_state(
+                &mut self.text,
+                writer,
+                now,
+                failed_a,
+                failed_b,
+                snapshot.record,
+            )?;
+            self.text.finish(writer)?;
+        }
+        Ok(())
+    }
+}
+
+/// Returns true if standard error takes a line at once.
+// Tested before each line: neither a run in one thread nor a supervisor that polls for signals may wait for the reader
+// of standard error.
+fn can_write() -> bool {
+    is_ready(STDERR, libc::net::POLLOUT)
 }

@@ -21,6 +21,7 @@ ghost use Rattle.live_status.specs.Publisher.{is_due_at};
 ghost use Rattle.live_status.specs.EngineStatus.{IsEngineOutput, HasPathStats, FillsStream, ShowsEngine};
 
 use crate::engine_offers::{copy_trackers, note_offer, numbers_of};
+use crate::health::{HealthSource, fill_health};
 use crate::meter::Meter;
 use crate::publisher::StatusPublisher;
 use crate::snapshot_fill::{fill_copies, fill_datagrams, fill_saturated, first_at};
@@ -35,15 +36,17 @@ use studio_session::ArriveOutcome;
 
 /// The publisher of an engine's status, with a copy tracker for each stream if there is a page.
 #[derive(Drop)]
-pub struct EngineStatus<'a, E> {
+pub struct EngineStatus<'a, E, H> {
     publisher: StatusPublisher<E>,
     /// The copy tracker of each stream. Empty without a page, since the lines do not need them.
     trackers: Vec<CopyTracker>,
     /// The meter of the mix, if there is one.
     meter: Option<&'a Meter>,
+    /// The health of the run.
+    health: H,
 }
 
-impl<'a, E: Write + Drop> EngineStatus<'a, E> {
+impl<'a, E: Write + Drop, H: HealthSource> EngineStatus<'a, E, H> {
     /// Returns the status of an engine of these streams, which was passed no datagram yet. Allocates all its memory,
     /// and returns `AllocError` if that fails.
     pub fn new(
@@ -51,7 +54,8 @@ impl<'a, E: Write + Drop> EngineStatus<'a, E> {
         streams: &[StreamSpec],
         publisher: StatusPublisher<E>,
         meter: Option<&'a Meter>,
-    ) -> Result<EngineStatus<'a, E>, AllocError>
+        health: H,
+    ) -> Result<EngineStatus<'a, E, H>, AllocError>
         ensures publisher { IfOk result (λ status. status.publisher ≡ publisher) }
         ensures trackers { IfOk result (λ status. MatchBool (is_some publisher.page)
             (AreEach IsNewTracker streams.now status.trackers.items) (status.trackers.items ≡ [])) }
@@ -65,6 +69,7 @@ impl<'a, E: Write + Drop> EngineStatus<'a, E> {
             publisher,
             trackers,
             meter,
+            health,
         })
     }
 
@@ -122,6 +127,7 @@ impl<'a, E: Write + Drop> EngineStatus<'a, E> {
         let streams = snapshot.streams.as_mut_slice();
         fill_streams(engine, self.trackers.as_slice(), streams);
         fill_engine_outputs(engine, self.meter, snapshot.outputs.as_mut_slice());
+        fill_health(&self.health, &mut snapshot);
         self.publisher.publish(engine.time(), snapshot, has_ended);
     }
 }

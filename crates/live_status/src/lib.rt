@@ -8,7 +8,8 @@
 //!    to the page and writes the count lines that are due.
 //! 3. For a run in one thread, `EngineStatus` does step 2 from an engine, and tallies the copies of
 //!    each path. For workers, `fill_stream`, `fill_datagrams` and `fill_outputs` fill a snapshot from
-//!    the statistics that were received.
+//!    the statistics that were received. `fill_health` fills in the state of sockets, of sends and of
+//!    the record, from a `HealthSource`.
 //!
 //! A `Meter` measures the peaks of the mix if one thread sends it.
 #![tactic(auto)]
@@ -17,6 +18,8 @@ mod count_lines;
 mod engine_offers;
 mod engine_status;
 mod fd_ready;
+mod health;
+mod lines;
 mod meter;
 mod page_thread;
 mod publisher;
@@ -27,6 +30,8 @@ mod stream_status;
 
 pub use engine_status::EngineStatus;
 pub use fd_ready::{STDERR, STDIN, is_ready};
+pub use health::{HealthSource, fill_health};
+pub use lines::report::{SinkCounts, write_feed_faults, write_sink_counts};
 pub use meter::Meter;
 pub use page_thread::{PageFault, PageThread};
 pub use publisher::StatusPublisher;

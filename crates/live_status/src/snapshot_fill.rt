@@ -1,12 +1,12 @@
 //! Filling a snapshot with the statistics of a stream, of its paths and of the mix that workers send.
 ghost use Rattle.std.specs.Prelude.{◌≡◌, Some, slice_index};
-ghost use Rattle.live_status.specs.Copies.{IsTold, spare_of, with_numbers};
+ghost use Rattle.live_status.specs.Copies.{IsTold, with_numbers};
 ghost use Rattle.live_status.specs.Each.{AreEach};
 ghost use Rattle.live_status.specs.Outputs.{HasCount, HasNumbers};
 
 use rtp_stats::{MixStats, PathStats, StreamStats};
 use rtp_stream::{Counts, PathCounts};
-use status_page::{ArrivalMargin, CopyCounts, OutputState, PathState, StreamState};
+use status_page::{CopyCounts, OutputState, PathState, StreamState};
 
 /// Fills in the counts of a stream, and the copies and arrival margins of its paths.
 pub fn fill_stream(stats: &StreamStats, stream: &mut StreamState)
@@ -53,21 +53,7 @@ pub(crate) fn fill_copies(stats: &PathStats, lost: u64, state: &mut PathState)
         unlike: tally.unlike,
         late: tally.late,
     });
-    state.spare = match stats.spare {
-        Some(spare) => Some(shown_spare(spare)),
-        None => None,
-    };
-}
-
-/// Returns the arrival margins of a path as they are shown, in sampling instants.
-fn shown_spare(spare: rtp_stats::ArrivalMargin) -> ArrivalMargin
-    ensures { result ≡ spare_of spare }
-{
-    // The median is rounded down to a multiple of 6, so it may be below the least.
-    ArrivalMargin {
-        least: u64::from(spare.least),
-        median: u64::from(spare.median.max(spare.least)),
-    }
+    state.spare = stats.spare;
 }
 
 /// Returns the number of first copies that the path at a place brought.
@@ -85,7 +71,7 @@ pub fn fill_datagrams(counts: PathCounts, state: &mut PathState)
     ensures counts { state.new.counts ≡ Some counts }
     ensures datagrams { state.new.datagrams ≡ counts.offered }
     ensures copies { (state.new.copies ≡ state.old.copies) × (state.new.spare ≡ state.old.spare)
-        × (state.new.first ≡ state.old.first) }
+        × (state.new.first ≡ state.old.first) × (state.new.socket ≡ state.old.socket) }
 {
     state.datagrams = counts.offered;
     state.counts = Some(counts);

@@ -9,7 +9,7 @@ use Rattle.status_page.specs.declared.snapshot.StreamState.{StreamState}
 
 -- a path on which nothing came, and of which no more is known
 abbrev pub blank_path : PathState
-blank_path = record { datagrams = 0; first = 0; counts = None; copies = None; spare = None }
+blank_path = record { datagrams = 0; first = 0; counts = None; copies = None; spare = None; socket = None }
 
 -- a stream of this name, latency and number of paths, of which nothing came
 pub record IsBlank (name : Option ArrayString) (latency paths : ℕ) (stream : StreamState) : Type 0 where

@@ -7,11 +7,12 @@ use Rattle.http_server.specs.declared.response.Response.{Response}
 use Rattle.http_server.specs.Exchange.{Call}
 use Rattle.http_server.specs.History.{History}
 use Rattle.status_page.specs.declared.snapshot.Snapshot.{Snapshot}
+use Rattle.status_page.specs.Host.{host_of}
 use Rattle.status_page.specs.Responses.{IsAnswer}
 
--- a request and the answer to its method and path
+-- a request and the answer to its host, its method and its path
 abbrev pub IsAnswered : Snapshot → Request (List ℕ) → Response → Type 0
-IsAnswered snapshot request response = IsAnswer snapshot (head_of request).method (uri_path (head_of request).uri) response
+IsAnswered snapshot request response = IsAnswer snapshot (host_of (head_of request)) (head_of request).method (uri_path (head_of request).uri) response
 
 -- an answer leaves the page as it was
 abbrev pub page_answers : Snapshot → Request (List ℕ) → Response → Snapshot → Type 0

@@ -1,5 +1,5 @@
 -- The numbers of a snapshot, by the fields that name them.
-use Rattle.std.specs.Prelude.{ℕ, List, Option, Some, codes, option_map}
+use Rattle.std.specs.Prelude.{ℕ, List, Bool, true, false, Option, Some, codes, max, option_map, option_and_then}
 use Rattle.rtp_stream.specs.CountField.{count_help, count_key, count_value}
 use Rattle.rtp_stream.specs.Counts.{tally_of}
 use Rattle.status_page.specs.declared.snapshot.PathState.{PathState}
@@ -29,6 +29,10 @@ path_key Path.WrongLength = codes "wrong_length"
 path_key Path.Full = codes "full"
 path_key Path.SpareLeast = codes "spare_least"
 path_key Path.SpareMedian = codes "spare_median"
+path_key Path.Unexpected = codes "unexpected"
+path_key Path.SocketFaults = codes "socket_faults"
+path_key Path.SocketEnded = codes "socket_ended"
+path_key Path.SocketDropped = codes "socket_dropped"
 
 -- whether it only rises
 abbrev pub path_kind : PathField → MetricKind
@@ -45,12 +49,16 @@ path_kind Path.WrongLength = Counter
 path_kind Path.Full = Counter
 path_kind Path.SpareLeast = Gauge
 path_kind Path.SpareMedian = Gauge
+path_kind Path.Unexpected = Counter
+path_kind Path.SocketFaults = Counter
+path_kind Path.SocketEnded = Gauge
+path_kind Path.SocketDropped = Counter
 
 -- what it counts
 abbrev pub path_help : PathField → List ℕ
 path_help Path.Datagrams = codes "Datagrams that came on the path."
 path_help Path.First = codes "Packets of which the path brought the first copy."
-path_help Path.Sent = codes "Datagrams that were packets of the stream."
+path_help Path.Sent = codes "Packets of the stream that found room on their way to the merge; an offer that found none counts as full."
 path_help Path.Lost = codes "Packets that the stream lost, also if the path brought them late, and packets that another path brought and this one did not within the reorder window."
 path_help Path.Double = codes "Further copies, with the payload of the first."
 path_help Path.Unlike = codes "Further copies, with another payload than the first."
@@ -61,6 +69,10 @@ path_help Path.WrongLength = codes "Datagrams of another length."
 path_help Path.Full = codes "Packets that found no room on their way to the merge."
 path_help Path.SpareLeast = codes "The least time before its deadline that a packet of the last second came, in periods of 48 kHz."
 path_help Path.SpareMedian = codes "The median time before their deadlines that packets of the last second came, in periods of 48 kHz; past 6138 it may be more."
+path_help Path.Unexpected = codes "Datagrams from other addresses than the path's source."
+path_help Path.SocketFaults = codes "Receives that failed at the path's socket."
+path_help Path.SocketEnded = codes "1 once the path was given up because its socket failed again and again, and 0 before."
+path_help Path.SocketDropped = codes "Datagrams that the system dropped because the buffer of the path's socket was full."
 
 -- how a number of a stream is called
 abbrev pub stream_key : StreamField → List ℕ
@@ -92,7 +104,12 @@ abbrev pub output_help : OutputField → List ℕ
 output_help Output.Peak = codes "The greatest magnitude of a sample of the last tenth of a second, of 8388608 at full scale."
 output_help Output.Saturated = codes "Samples that were saturated: their rounded sum lay past what the output can hold."
 
--- a number of a path, if it is known
+-- 1 if something holds, and 0 otherwise
+abbrev pub flag : Bool → ℕ
+flag true = 1
+flag false = 0
+
+-- a number of a path, if it is known; the median margin, which is rounded down, is no less than the least
 abbrev pub path_value : PathField → PathState → Option ℕ
 path_value Path.Datagrams path = Some path.datagrams
 path_value Path.First path = Some path.first
@@ -106,7 +123,11 @@ path_value Path.WrongType path = option_map (λ counts. counts.wrong_type) path.
 path_value Path.WrongLength path = option_map (λ counts. counts.wrong_length) path.counts
 path_value Path.Full path = option_map (λ counts. counts.full) path.counts
 path_value Path.SpareLeast path = option_map (λ spare. spare.least) path.spare
-path_value Path.SpareMedian path = option_map (λ spare. spare.median) path.spare
+path_value Path.SpareMedian path = option_map (λ spare. max spare.median spare.least) path.spare
+path_value Path.Unexpected path = option_and_then (λ socket. socket.unexpected) path.socket
+path_value Path.SocketFaults path = option_map (λ socket. socket.faults) path.socket
+path_value Path.SocketEnded path = option_map (λ socket. flag socket.has_ended) path.socket
+path_value Path.SocketDropped path = option_and_then (λ socket. socket.dropped) path.socket
 
 -- a number of a stream
 abbrev pub stream_value : StreamField → StreamState → ℕ

@@ -1,6 +1,9 @@
 pub mod Blank
 pub mod Connections
 pub mod Fields
+pub mod Host
 pub mod Metrics
+pub mod Record
 pub mod Responses
 pub mod State
+pub mod Times

@@ -1,5 +1,6 @@
 -- The text form of Prometheus, 0.0.4, of a snapshot.
-use Rattle.std.specs.Prelude.{ℕ, suc, List, [], ◌∷◌, ◌++◌, Option, Some, None, codes, if◌then◌else◌, ◌==◌}
+use Rattle.std.specs.Prelude.{ℕ, suc, List, [], ◌∷◌, ◌++◌, Option, Some, None, codes, slice_index, if◌then◌else◌, ◌==◌}
+use Rattle.std.specs.Str.{bytes_eq}
 use Rattle.std.specs.Fmt.{decimal}
 use Rattle.arrayvec.specs.ArrayString.{ArrayString}
 use Rattle.status_page.specs.declared.snapshot.Condition.{Condition}
@@ -7,7 +8,9 @@ use Rattle.status_page.specs.declared.snapshot.Condition.TheVariants.{NoPacket, 
 use Rattle.status_page.specs.declared.snapshot.PathState.{PathState}
 use Rattle.status_page.specs.declared.snapshot.StreamState.{StreamState}
 use Rattle.status_page.specs.declared.snapshot.OutputState.{OutputState}
+use Rattle.status_page.specs.declared.snapshot.RecordState.{RecordState}
 use Rattle.status_page.specs.declared.snapshot.Snapshot.{Snapshot}
+use Rattle.status_page.specs.Record.{record_datagrams, record_text}
 use Rattle.status_page.specs.declared.fields.MetricKind.{MetricKind}
 use Rattle.status_page.specs.declared.fields.MetricKind.TheVariants.{Counter, Gauge}
 use Rattle.status_page.specs.declared.fields.path.PathField.{PathField}
@@ -17,9 +20,10 @@ use Rattle.status_page.specs.declared.fields.path.TheConstants.{PATH_FIELDS}
 use Rattle.status_page.specs.declared.fields.stream.StreamField.TheVariants.{Count, Latency}
 use Rattle.rtp_stream.specs.declared.count_field.CountField.{CountField}
 use Rattle.rtp_stream.specs.declared.count_field.TheConstants.{COUNT_FIELDS}
+use Rattle.rtp_stream.specs.Path.{path_letter}
 use Rattle.status_page.specs.declared.fields.output.TheConstants.{OUTPUT_FIELDS}
 use Rattle.status_page.specs.declared.condition.TheConstants.{CONDITIONS}
-use Rattle.status_page.specs.Fields.{path_key, path_kind, path_help, path_value, stream_key, stream_kind, stream_help, stream_value, output_key, output_kind, output_help, output_value}
+use Rattle.status_page.specs.Fields.{flag, path_key, path_kind, path_help, path_value, stream_key, stream_kind, stream_help, stream_value, output_key, output_kind, output_help, output_value}
 
 -- an octet in the value of a label: a backslash, a quotation mark and a line feed are escaped
 abbrev pub label_octet : ℕ → List ℕ
@@ -84,10 +88,6 @@ condition_text NoPacket = codes "no_packet"
 condition_text Running = codes "running"
 condition_text SignalLost = codes "lost"
 condition_text Ended = codes "ended"
-
--- the letter of a path
-abbrev pub path_letter : ℕ → List ℕ
-path_letter path = if path == 0 then codes "a" else (if path == 1 then codes "b" else (if path == 2 then codes "c" else codes "d"))
 
 -- the name of a stream as a label, if it has one
 unfoldable pub name_label : Option ArrayString → List ℕ
@@ -180,6 +180,47 @@ unfoldable pub output_families : List OutputField → List OutputState → List 
 output_families [] outputs = []
 output_families (field ∷ fields) outputs = output_header field ++ output_samples field 0 outputs ++ output_families fields outputs
 
+-- the metric of the datagrams that were not sent, one for each copy of the mix
+abbrev pub failed_header : List ℕ
+failed_header = header_text (codes "sends_") (codes "failed") Counter (codes "Datagrams of the mix that were not sent to the address of this copy.")
+
+-- those of one copy
+unfoldable pub failed_sample : List ℕ → ℕ → List ℕ
+failed_sample letter failed =
+    metric_text (codes "sends_") (codes "failed") Counter ++ codes "{copy=\"" ++ letter ++ codes "\"" ++ value_text failed
+
+-- those of both
+unfoldable pub failed_text : ℕ → ℕ → List ℕ
+failed_text failed_a failed_b = failed_header ++ failed_sample (codes "a") failed_a ++ failed_sample (codes "b") failed_b
+
+-- the metric of a record's state
+abbrev pub record_header : List ℕ
+record_header = header_text (codes "record_") (codes "state") Gauge (codes "The state of the record: 1 for the state that it is in, and 0 for the others.")
+
+-- whether the state of a record has this name
+unfoldable pub record_sample : RecordState → List ℕ → List ℕ
+record_sample state name =
+    metric_text (codes "record_") (codes "state") Gauge ++ codes "{state=\"" ++ name ++ codes "\"" ++ value_text (flag (bytes_eq (record_text state) name))
+
+-- each of the states by its name
+unfoldable pub record_states : RecordState → List ℕ
+record_states state =
+    record_header ++ record_sample state (codes "none") ++ record_sample state (codes "writing") ++ record_sample state (codes "ended")
+
+-- the metric of the datagrams that a record holds
+abbrev pub recorded_header : List ℕ
+recorded_header = header_text (codes "record_") (codes "datagrams") Counter (codes "Datagrams that the record holds.")
+
+-- how many these are, if there is a record
+unfoldable pub recorded_sample : Option ℕ → List ℕ
+recorded_sample None = []
+recorded_sample (Some datagrams) =
+    metric_text (codes "record_") (codes "datagrams") Counter ++ codes " " ++ decimal datagrams ++ codes "\n"
+
+-- both metrics of a record
+abbrev pub record_families : RecordState → List ℕ
+record_families state = record_states state ++ recorded_header ++ recorded_sample (record_datagrams state)
+
 -- all metrics
 unfoldable pub metrics_text : Snapshot → List ℕ
 metrics_text snapshot =
@@ -187,3 +228,5 @@ metrics_text snapshot =
     ++ stream_families COUNT_FIELDS snapshot.streams.items
     ++ path_families PATH_FIELDS snapshot.streams.items
     ++ output_families OUTPUT_FIELDS snapshot.outputs.items
+    ++ failed_text (slice_index snapshot.failed_sends 0) (slice_index snapshot.failed_sends 1)
+    ++ record_families snapshot.record

@@ -10,6 +10,7 @@ use Rattle.status_page.specs.declared.page.html.TheConstants.{HTML}
 use Rattle.status_page.specs.declared.page.resource.Resource.{Resource}
 use Rattle.status_page.specs.declared.page.resource.Resource.TheVariants.{Page, State, Metrics}
 use Rattle.status_page.specs.declared.snapshot.Snapshot.{Snapshot}
+use Rattle.status_page.specs.Host.{is_here}
 use Rattle.status_page.specs.Metrics.{metrics_text}
 use Rattle.status_page.specs.State.{state_tokens}
 
@@ -40,23 +41,36 @@ content_of snapshot Page = page_text
 content_of snapshot State = print (state_tokens snapshot)
 content_of snapshot Metrics = metrics_text snapshot
 
--- the header fields of what is shown
+-- the header fields of every answer: no cache keeps it, and no browser takes it for another type than is said
+abbrev pub guard_fields : List Header
+guard_fields = (codes "cache-control", codes "no-store") ∷ (codes "x-content-type-options", codes "nosniff") ∷ []
+
+-- those of what is shown
 abbrev pub shown_fields : Resource → List Header
-shown_fields resource = (codes "content-type", media_type resource) ∷ (codes "cache-control", codes "no-store") ∷ []
+shown_fields resource = (codes "content-type", media_type resource) ∷ guard_fields
 
 -- those of what can only be read
 abbrev pub refused_fields : List Header
-refused_fields = (codes "allow", codes "GET, HEAD") ∷ []
+refused_fields = (codes "allow", codes "GET, HEAD") ∷ guard_fields
 
--- 404 without a resource, 405 for a method that does not only read, and else the resource
-abbrev pub answers : Snapshot → Bool → Option Resource → Response → Type 0
-answers snapshot read None response = IsResponse 404 [] [] response
-answers snapshot false (Some resource) response = IsResponse 405 refused_fields [] response
-answers snapshot true (Some resource) response = IsResponse 200 (shown_fields resource) (content_of snapshot resource) response
+-- those of what is addressed to another host
+abbrev pub misdirected_fields : List Header
+misdirected_fields = (codes "content-type", codes "text/plain; charset=utf-8") ∷ guard_fields
 
--- the answer to a method and a path
-abbrev pub IsAnswer : Snapshot → List ℕ → List ℕ → Response → Type 0
-IsAnswer snapshot method path response = answers snapshot (is_read method) (resource_of path) response
+-- what is said to a request that is addressed to another host
+abbrev pub misdirected_text : List ℕ
+misdirected_text = codes "The page answers only to the hosts 127.0.0.1, localhost and [::1].\n"
+
+-- 421 for another host; else 404 without a resource, 405 for a method that does not only read, and else the resource
+abbrev pub answers : Snapshot → Bool → Bool → Option Resource → Response → Type 0
+answers snapshot false read found response = IsResponse 421 misdirected_fields misdirected_text response
+answers snapshot true read None response = IsResponse 404 guard_fields [] response
+answers snapshot true false (Some resource) response = IsResponse 405 refused_fields [] response
+answers snapshot true true (Some resource) response = IsResponse 200 (shown_fields resource) (content_of snapshot resource) response
+
+-- the answer to a host, a method and a path
+abbrev pub IsAnswer : Snapshot → Option (List ℕ) → List ℕ → List ℕ → Response → Type 0
+IsAnswer snapshot host method path response = answers snapshot (is_here host) (is_read method) (resource_of path) response
 
 -- at most 8,192 octets of a head, of trailers and of a body, and no request while an answer waits
 pub record IsGuarded (config : Config) : Type 0 where

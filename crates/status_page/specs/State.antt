@@ -1,12 +1,14 @@
 -- The JSON of a snapshot, as its tokens.
-use Rattle.std.specs.Prelude.{ℕ, List, [], ◌∷◌, ◌++◌, Option, Some, None, codes}
+use Rattle.std.specs.Prelude.{ℕ, List, [], ◌∷◌, ◌++◌, Option, Some, None, codes, slice_index}
 use Rattle.std.specs.Fmt.{decimal}
 use Rattle.arrayvec.specs.ArrayString.{ArrayString}
 use Rattle.json.specs.Token.{Token, begin_object, end_object, begin_array, end_array, key, string, number, null}
 use Rattle.status_page.specs.declared.snapshot.PathState.{PathState}
 use Rattle.status_page.specs.declared.snapshot.StreamState.{StreamState}
 use Rattle.status_page.specs.declared.snapshot.OutputState.{OutputState}
+use Rattle.status_page.specs.declared.snapshot.RecordState.{RecordState}
 use Rattle.status_page.specs.declared.snapshot.Snapshot.{Snapshot}
+use Rattle.status_page.specs.Record.{record_datagrams, record_text}
 use Rattle.status_page.specs.declared.fields.path.PathField.{PathField}
 use Rattle.status_page.specs.declared.fields.stream.StreamField.{StreamField}
 use Rattle.status_page.specs.declared.fields.output.OutputField.{OutputField}
@@ -89,8 +91,23 @@ unfoldable pub outputs_tokens : List OutputState → List Token
 outputs_tokens [] = []
 outputs_tokens (output ∷ outputs) = output_tokens output ++ outputs_tokens outputs
 
+-- how many datagrams of each copy of the mix were not sent
+abbrev pub failed_tokens : List ℕ → List Token
+failed_tokens failed =
+    array_tokens (codes "failed_sends") (number_token (slice_index failed 0) ∷ number_token (slice_index failed 1) ∷ [])
+
+-- the state of a record, and how many datagrams it holds
+abbrev pub record_members : RecordState → List Token
+record_members state =
+    key (codes "state") ∷ string (record_text state) ∷ key (codes "datagrams") ∷ known_token (record_datagrams state) ∷ []
+
+-- the record
+abbrev pub record_tokens : RecordState → List Token
+record_tokens state = key (codes "record") ∷ begin_object ∷ (record_members state ++ end_object ∷ [])
+
 -- a snapshot
 unfoldable pub state_tokens : Snapshot → List Token
 state_tokens snapshot =
     begin_object ∷ (array_tokens (codes "streams") (streams_tokens snapshot.streams.items)
-    ++ array_tokens (codes "outputs") (outputs_tokens snapshot.outputs.items) ++ end_object ∷ [])
+    ++ array_tokens (codes "outputs") (outputs_tokens snapshot.outputs.items)
+    ++ failed_tokens snapshot.failed_sends ++ record_tokens snapshot.record ++ end_object ∷ [])

@@ -1,8 +1,12 @@
-//! The names of a stream's conditions, and their values as metrics.
+//! The names of the conditions of a stream and of the states of a record, and their values as metrics.
 ghost use Rattle.std.specs.Prelude.{◌≡◌};
+ghost use Rattle.std.specs.Str.{bytes_eq};
+ghost use Rattle.status_page.specs.Fields.{flag};
 ghost use Rattle.status_page.specs.Metrics.{condition_text, has_condition};
+ghost use Rattle.status_page.specs.Record.{record_datagrams, record_text};
 
-use crate::snapshot::Condition;
+use crate::fields::path::flag;
+use crate::snapshot::{Condition, RecordState};
 
 /// All conditions of a stream, in the order in which `/metrics` lists them.
 pub(crate) const CONDITIONS: [Condition; 4] = [
@@ -37,5 +41,35 @@ impl Condition {
             | (Condition::Ended, Condition::Ended) => 1,
             _ => 0,
         }
+    }
+}
+
+impl RecordState {
+    /// Returns the state's name in `/state` and `/metrics`.
+    pub fn text(self) -> &'static str
+        ensures { result.now ≡ record_text self }
+    {
+        match self {
+            RecordState::Absent => "none",
+            RecordState::Writing(_) => "writing",
+            RecordState::Closed(_) => "ended",
+        }
+    }
+
+    /// Returns the number of datagrams that the record holds, or `None` without a record.
+    pub fn datagrams(self) -> Option<u64>
+        ensures { result ≡ record_datagrams self }
+    {
+        match self {
+            RecordState::Absent => None,
+            RecordState::Writing(datagrams) | RecordState::Closed(datagrams) => Some(datagrams),
+        }
+    }
+
+    /// Returns 1 if the state has this name, and 0 otherwise: the value of the metric of a record's state.
+    pub(crate) fn is_named(self, name: &str) -> u64
+        ensures { result ≡ flag (bytes_eq (record_text self) name.now) }
+    {
+        flag(self.text() == name)
     }
 }

@@ -12,7 +12,12 @@
 //!   from its `RingSource` before each turn.
 //!
 //! Nothing else waits for the server's thread. A client that reads nothing delays only itself. It is
-//! dropped after ten seconds, and so is every client beyond the 64th.
+//! dropped after ten seconds, and so is one whose request is not complete ten seconds after its
+//! first octet. A 65th client takes the place of the one that has been longest without a complete
+//! request.
+//!
+//! A request has to be addressed to 127.0.0.1, localhost or [::1]: the page of another site cannot
+//! read what is answered here under a name that it has had resolved to 127.0.0.1.
 #![tactic(auto)]
 
 mod condition;
@@ -25,9 +30,11 @@ pub use page::Page;
 pub use page::html::HTML;
 pub use page::metrics::metrics_text;
 pub use page::state::state_json;
+pub use rtp_stats::ArrivalMargin;
 pub use server::client::new_connection;
 pub use server::source::{RingSource, serve_page};
 pub use server::{MAX_CLIENTS, PageServer};
 pub use snapshot::{
-    ArrivalMargin, Condition, CopyCounts, OutputState, PathState, Snapshot, StreamName, StreamState,
+    Condition, CopyCounts, OutputState, PathState, RecordState, Snapshot, SocketState, StreamName,
+    StreamState,
 };

@@ -1,13 +1,23 @@
 //! The page: the service that responds to requests from one snapshot. `html` has the page's text, `state` writes the
-//! snapshot as JSON, and `metrics` as metrics, of lines in `samples` and pieces in `text`. `resource` has the paths.
-ghost use Rattle.std.specs.Prelude.{◌≡◌, [], OnOk, IfOk};
+//! snapshot as JSON, and `metrics` as metrics, of lines in `samples` and pieces in `text`. `resource` has the paths,
+//! and `host` the hosts to which requests may be addressed.
+ghost use Rattle.std.specs.Prelude.{◌≡◌, [], ◌∷◌, ◌++◌, codes, OnOk, IfOk};
 ghost use Rattle.http_server.specs.Connection.{config_of, history};
 ghost use Rattle.http_server.specs.History.{IsServed, Rests};
-ghost use Rattle.http_server.specs.Response.{IsBlank, IsResponse};
+ghost use Rattle.http_server.specs.Response.{IsBlank, IsResponse, fields_of};
 ghost use Rattle.status_page.specs.Connections.{page_answers, AnswersMore};
-ghost use Rattle.status_page.specs.Responses.{is_read, content_of, shown_fields, refused_fields};
+ghost use Rattle.status_page.specs.Responses.{
+  content_of,
+  guard_fields,
+  is_read,
+  misdirected_fields,
+  misdirected_text,
+  refused_fields,
+  shown_fields,
+};
 ghost use Rattle.status_page.specs.declared.page.resource.Resource.TheVariants.{State};
 
+use crate::page::host::is_addressed_here;
 use crate::page::html::page_html;
 use crate::page::metrics::metrics_text;
 use crate::page::resource::Resource;
@@ -19,6 +29,7 @@ use http_server::{Connection, Response, Service};
 use std::alloc::{AllocError, Global};
 use std::marker::Model;
 
+mod host;
 pub(crate) mod html;
 pub(crate) mod metrics;
 pub(crate) mod resource;
@@ -87,14 +98,8 @@ impl Page {
             (IsResponse 200 (shown_fields resource) (content_of self.old resource) response.new) }
         ensures same { self.new ≡ self.old }
     {
-        response.add_header(
-            HeaderName::from_static("content-type"),
-            resource.media_type(),
-        )?;
-        response.add_header(
-            HeaderName::from_static("cache-control"),
-            HeaderValue::from_static("no-store"),
-        )?;
+        let content_type = HeaderName::from_static("content-type");
+        add_fields(response, content_type, resource.media_type())?;
         response.body.push(self.content(resource)?)
     }
 
@@ -132,10 +137,13 @@ impl Service for Page {
         request: &Request<Bytes>,
         response: &mut Response,
     ) -> Result<(), AllocError> {
+        if !is_addressed_here(request) {
+            return misdirect(response);
+        }
         match Resource::of(request.uri().path()) {
             None => {
                 response.status = StatusCode::NOT_FOUND;
-                Ok(())
+                add_guard(response)
             }
             Some(resource) if is_read(request.method()) => self.show(resource, response),
             Some(_) => refuse(response),
@@ -156,9 +164,82 @@ fn refuse(response: &mut Response) -> Result<(), AllocError>
     ensures { OnOk result (IsResponse 405 refused_fields [] response.new) }
 {
     response.status = StatusCode::METHOD_NOT_ALLOWED;
+    let allowed = HeaderValue::from_static("GET, HEAD");
+    add_fields(response, HeaderName::from_static("allow"), allowed)
+}
+
+/// The text of the response to a request that is addressed to another host.
+const MISDIRECTED_TEXT: &str =
+    "The page answers only to the hosts 127.0.0.1, localhost and [::1].\n";
+
+/// Writes the response to a request that is addressed to another host: 421, with the hosts to which the page answers.
+fn misdirect(response: &mut Response) -> Result<(), AllocError>
+    requires { IsBlank response.old }
+    ensures { OnOk result (IsResponse 421 misdirected_fields misdirected_text response.new) }
+{
+    response.status = StatusCode::MISDIRECTED_REQUEST;
+    let media_type = HeaderValue::from_static("text/plain; charset=utf-8");
+    add_fields(
+        response,
+        HeaderName::from_static("content-type"),
+        media_type,
+    )?;
+    response
+        .body
+        .push(Bytes::from_static(MISDIRECTED_TEXT.as_bytes()))
+}
+
+/// Adds a header field, and then those that every response has, to a response that has none.
+fn add_fields(
+    response: &mut Response,
+    name: HeaderName,
+    value: HeaderValue,
+) -> Result<(), AllocError>
+    requires none { fields_of response.old ≡ [] }
+    ensures fields { OnOk result (fields_of response.new ≡ (name, value.bytes) ∷ guard_fields) }
+    ensures status { response.new.status ≡ response.old.status }
+    ensures body { response.new.body ≡ response.old.body }
+{
+    response.add_header(name, value)?;
+    add_no_store(response)?;
+    add_no_sniff(response)
+}
+
+/// Adds the header fields that every response has, to a response that has none.
+fn add_guard(response: &mut Response) -> Result<(), AllocError>
+    requires none { fields_of response.old ≡ [] }
+    ensures fields { OnOk result (fields_of response.new ≡ guard_fields) }
+    ensures status { response.new.status ≡ response.old.status }
+    ensures body { response.new.body ≡ response.old.body }
+{
+    add_no_store(response)?;
+    add_no_sniff(response)
+}
+
+/// Adds the header field that keeps caches from keeping a response.
+fn add_no_store(response: &mut Response) -> Result<(), AllocError>
+    ensures fields { OnOk result (fields_of response.new
+        ≡ fields_of response.old ++ (codes "cache-control", codes "no-store") ∷ []) }
+    ensures status { response.new.status ≡ response.old.status }
+    ensures body { response.new.body ≡ response.old.body }
+{
     response.add_header(
-        HeaderName::from_static("allow"),
-        HeaderValue::from_static("GET, HEAD"),
+        HeaderName::from_static("cache-control"),
+        HeaderValue::from_static("no-store"),
+    )
+}
+
+/// Adds the header field that keeps a browser from taking a response for another type than it says.
+// Else a stream's name, which anyone may have chosen, could be run as a script.
+fn add_no_sniff(response: &mut Response) -> Result<(), AllocError>
+    ensures fields { OnOk result (fields_of response.new
+        ≡ fields_of response.old ++ (codes "x-content-type-options", codes "nosniff") ∷ []) }
+    ensures status { response.new.status ≡ response.old.status }
+    ensures body { response.new.body ≡ response.old.body }
+{
+    response.add_header(
+        HeaderName::from_static("x-content-type-options"),
+        HeaderValue::from_static("nosniff"),
     )
 }
 

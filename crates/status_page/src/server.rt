@@ -1,5 +1,5 @@
-//! The server of the page: its listener and its clients. `client` has a client's turn, and `source` the snapshots and
-//! the loop of the page's thread.
+//! The server of the page: its listener and its clients. `client` has a client's turn, `times` the limits on its
+//! requests, and `source` the snapshots and the loop of the page's thread.
 use crate::page::Page;
 use crate::server::client::{Client, Progress, new_connection};
 use mio::net::{TcpListener, TcpStream};
@@ -13,8 +13,10 @@ use std::time::Duration;
 
 pub(crate) mod client;
 pub(crate) mod source;
+mod times;
 
-/// The greatest number of clients at the same time. Further ones are disconnected.
+/// The greatest number of clients at the same time. A further one takes the place of the client that has been longest
+/// without a complete request.
 pub const MAX_CLIENTS: usize = 64;
 
 /// The greatest number of events of one poll.
@@ -92,8 +94,9 @@ impl PageServer {
         false
     }
 
-    /// Gives each client that is ready its turn, disconnects those that are done or idle for more than 10 s, and
-    /// accepts new ones. `now` is the reading of a monotonic clock. Call it after each `wait`.
+    /// Gives each client that is ready its turn, disconnects those that are done, that neither read nor wrote for 10 s,
+    /// or whose request is not complete 10 s after its first octet, and accepts new ones. `now` is the reading of a
+    /// monotonic clock. Call it after each `wait`.
     pub fn turn(&mut self, page: &mut Page, now: Duration) {
         // New clients come last: they may get the places of clients that were just disconnected.
         self.note_ready();
@@ -120,15 +123,30 @@ impl PageServer {
         }
     }
 
-    /// Accepts the clients that wait. Those for which there is no place are disconnected.
+    /// Returns true if each client sent a complete request at the time `since` or later, and has its whole response.
+    fn has_answered_since(&self, since: Duration) -> bool {
+        for place in 0..MAX_CLIENTS {
+            if let Some(client) = self.clients.get(place) {
+                if !client.is_answered_since(since) {
+                    return false;
+                }
+            }
+        }
+        true
+    }
+
+    /// Accepts the clients that wait. If there is no place for one, the client that has been longest without a complete
+    /// request is disconnected.
+    // So no number of clients that hold their connections keeps others from the page.
     fn take_clients(&mut self, now: Duration) {
         for _ in 0..MAX_AT_ONCE {
             let Ok((stream, _)) = self.listener.accept() else {
                 return;
             };
-            if self.clients.len() < MAX_CLIENTS {
-                self.take(stream, now);
+            if self.clients.len() >= MAX_CLIENTS {
+                remove_longest_waiting(&mut self.clients);
             }
+            self.take(stream, now);
         }
     }
 
@@ -149,12 +167,35 @@ impl PageServer {
 }
 
 /// Gives the client at a place its turn, and returns true if there is one that is done then.
-// This function and the two below only borrow the clients, so that few functions hold sockets.
+// This function and those below only borrow the clients, so that few functions hold sockets.
 fn is_done_at(clients: &mut Slab<Client>, place: usize, page: &mut Page, now: Duration) -> bool {
     match clients.get_mut(place) {
         Some(client) => client.run_turn(page, now),
         None => false,
     }
+}
+
+/// Disconnects the client that has been longest without a complete request.
+fn remove_longest_waiting(clients: &mut Slab<Client>) {
+    if let Some(place) = longest_waiting(clients) {
+        remove_client(clients, place);
+    }
+}
+
+/// Returns the place of the client that has been longest without a complete request: since its last one, or since it
+/// connected. Returns `None` if there is no client.
+fn longest_waiting(clients: &Slab<Client>) -> Option<usize> {
+    let mut longest: Option<usize> = None;
+    let mut least = Duration::MAX;
+    for place in 0..MAX_CLIENTS {
+        if let Some(client) = clients.get(place) {
+            if longest.is_none() || client.complete_at() < least {
+                longest = Some(place);
+                least = client.complete_at();
+            }
+        }
+    }
+    longest
 }
 
 /// Disconnects the client at a place.

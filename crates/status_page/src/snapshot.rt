@@ -1,8 +1,10 @@
 //! A snapshot of a run: its streams, their paths and the output channels at one time.
-ghost use Rattle.std.specs.Prelude.{◌≡◌, [], None};
+ghost use Rattle.std.specs.Prelude.{◌≡◌, [], ◌∷◌, None};
 ghost use Rattle.status_page.specs.Blank.{IsBlank, blank_path};
+ghost use Rattle.status_page.specs.declared.snapshot.RecordState.TheVariants.{Absent};
 
 use arrayvec::{ArrayString, ArrayVec};
+use rtp_stats::ArrivalMargin;
 use rtp_stream::{Counts, PathCounts};
 
 /// The name of a stream for people, of at most 64 octets.
@@ -21,16 +23,6 @@ pub enum Condition {
     Ended,
 }
 
-/// The arrival margins of a path's packets in the last second, in sampling instants at 48 kHz.
-#[derive(Clone, Copy, Debug, PartialEq, Eq)]
-pub struct ArrivalMargin {
-    /// The least margin.
-    pub least: u64,
-    /// The median margin, rounded down to a multiple of 6, but not below the least. From 6,138 (128 ms) on the true
-    /// median may be greater.
-    pub median: u64,
-}
-
 /// The numbers of a path's packets by fate, in addition to the first copies.
 #[derive(Clone, Copy, Debug, PartialEq, Eq)]
 pub struct CopyCounts {
@@ -43,6 +35,20 @@ pub struct CopyCounts {
     pub unlike: u64,
     /// The packets that arrived after their deadlines.
     pub late: u64,
+}
+
+/// The state of the socket of a path. A number that the run does not know is `None`.
+#[derive(Clone, Copy, Debug, PartialEq, Eq)]
+pub struct SocketState {
+    /// The number of receives that failed.
+    pub faults: u64,
+    /// True once the path was given up, because its socket failed again and again.
+    pub has_ended: bool,
+    /// The number of datagrams that the system dropped because the socket's buffer was full. `None` if the system does
+    /// not list the socket.
+    pub dropped: Option<u64>,
+    /// The number of datagrams from other addresses than the path's source. `None` if the path takes any source.
+    pub unexpected: Option<u64>,
 }
 
 /// The state of a path. A number that the run does not know is `None`.
@@ -58,6 +64,8 @@ pub struct PathState {
     pub copies: Option<CopyCounts>,
     /// The arrival margins of the last second; also `None` if no packet arrived in time then.
     pub spare: Option<ArrivalMargin>,
+    /// The state of the path's socket.
+    pub socket: Option<SocketState>,
 }
 
 impl Default for PathState {
@@ -71,6 +79,7 @@ impl Default for PathState {
             counts: None,
             copies: None,
             spare: None,
+            socket: None,
         }
     }
 }
@@ -114,6 +123,17 @@ pub struct OutputState {
     pub saturated: u64,
 }
 
+/// The state of a run's record.
+#[derive(Clone, Copy, Debug, PartialEq, Eq)]
+pub enum RecordState {
+    /// The run has no record.
+    Absent,
+    /// The record is being written, and holds this number of datagrams.
+    Writing(u64),
+    /// The record ended with this number of datagrams: nothing that arrives is added to it.
+    Closed(u64),
+}
+
 /// A snapshot of a studio.
 #[derive(Drop)]
 pub struct Snapshot {
@@ -121,17 +141,25 @@ pub struct Snapshot {
     pub streams: ArrayVec<StreamState, 16>,
     /// The state of each output channel, in their order.
     pub outputs: ArrayVec<OutputState, 8>,
+    /// For each of the two copies of the mix, the number of datagrams that were not sent.
+    pub failed_sends: [u64; 2],
+    /// The state of the run's record.
+    pub record: RecordState,
 }
 
 impl Snapshot {
-    /// Returns a snapshot without streams and output channels.
+    /// Returns a snapshot without streams, output channels and a record, in which no send failed.
     pub fn new() -> Snapshot
         ensures streams { result.streams.items ≡ [] }
         ensures outputs { result.outputs.items ≡ [] }
+        ensures sends { result.failed_sends ≡ 0 ∷ 0 ∷ [] }
+        ensures record { result.record ≡ Absent }
     {
         Snapshot {
             streams: ArrayVec::new(),
             outputs: ArrayVec::new(),
+            failed_sends: [0; 2],
+            record: RecordState::Absent,
         }
     }
 }

@@ -4,7 +4,6 @@ pub mod Fields
 pub mod LineEvent
 pub mod Lines
 pub mod Listing
-pub mod LiveReport
 pub mod Places
 pub mod Play
 pub mod Reader

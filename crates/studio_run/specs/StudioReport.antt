@@ -1,11 +1,26 @@
 -- The report of a studio's events, and how far it was written.
-use Rattle.std.specs.Prelude.{◌≡◌, ℕ, List, ◌++◌, length, Option}
+use Rattle.std.specs.Prelude.{◌≡◌, ℕ, ◌<◌, ◌≤◌, List, ◌++◌, length, All, Option}
+use Rattle.mix_packets.specs.OutSpec.{datagram_length}
+use Rattle.mix_packets.specs.declared.out_spec.Output.{Output}
 use Rattle.studio_config.specs.Studio.{Studio}
+use Rattle.studio_session.specs.Cursor.{CursorState, IsReadyFor}
 use Rattle.studio_session.specs.Event.{TraceEvent}
 use Rattle.studio_session.specs.Play.{HasPlayed, SessionState}
 use Rattle.studio_session.specs.Run.{AreDatagrams, HasGivenBlocks}
 use Rattle.studio_run.specs.Buffer.{PassesOn}
 use Rattle.studio_run.specs.Listing.{counts_text_of, datagrams_text}
+
+-- a datagram of this output fits into the room for one
+abbrev pub IsShort : Output → Type 0
+IsShort out = datagram_length out ≤ 1452
+
+-- a datagram of this output has samples
+abbrev pub HasSamples : Output → Type 0
+HasSamples out = 0 < out.frames
+
+-- each cursor can go on with these events
+abbrev pub AreReady : List TraceEvent → List CursorState → Type 0
+AreReady events cursors = All (IsReadyFor events) cursors
 
 -- a report of events: the lines of the datagrams of exactly the ready blocks, in order, and then those of the counts
 pub record IsReport (studio : Studio) (events : List TraceEvent) (text : List ℕ) : Type 0 where

@@ -20,7 +20,8 @@ const MAX_LINE: usize = 4096;
 /// Text that no writer has taken yet: at most 65,536 octets. Only `new` allocates.
 ///
 /// `write_mark`, `write_datagram` and the other functions of a line add a line each, and write what is held if there
-/// is no room. `finish` writes the rest after the last line. After a fault nothing more may be written.
+/// is no room. A line of another form is made by `make_room` and then `push`, `push_number` and the like for its parts.
+/// `finish` writes the rest after the last line. After a fault nothing more may be written.
 #[derive(Drop)]
 pub struct TextBuffer {
     held: Vec<u8>,
@@ -57,8 +58,9 @@ impl TextBuffer {
         Ok(())
     }
 
-    /// Makes room for one line.
-    pub(crate) fn make_room<W: Write>(&mut self, writer: &mut W) -> Result<(), WriteFault>
+    /// Makes room for one line, of at most 4,096 octets: writes what is held if there is none. Returns `WriteFault` if
+    /// that fails.
+    pub fn make_room<W: Write>(&mut self, writer: &mut W) -> Result<(), WriteFault>
         ensures ok { OnOk result (PassesOn (W.contents writer.old) self.old (W.contents writer.new) self.new []) }
         ensures fault { OnErr result (BreaksOff (W.contents writer.old) self.old (W.contents writer.new) []) }
         ensures room { OnOk result (length self.new + 4096 ≤ 65536) }
@@ -70,8 +72,8 @@ impl TextBuffer {
         Ok(())
     }
 
-    /// Adds a text.
-    pub(crate) fn push(&mut self, text: &str)
+    /// Adds a text. The caller has made room for it.
+    pub fn push(&mut self, text: &str)
         requires { length self.old + length text.now ≤ 65536 }
         ensures text { self.new ≡ self.old ++ text.now }
         ensures length { length self.new ≡ length self.old + length text.now }
@@ -82,8 +84,8 @@ impl TextBuffer {
         };
     }
 
-    /// Adds a decimal number.
-    pub(crate) fn push_number<I: Integer>(&mut self, number: I)
+    /// Adds a decimal number. The caller has made room for it.
+    pub fn push_number<I: Integer>(&mut self, number: I)
         requires { length self.old + 40 ≤ 65536 }
         ensures text { self.new ≡ self.old ++ I.text number }
         ensures few { length self.new ≤ length self.old + 40 }

@@ -9,7 +9,7 @@
 //! - `read_octets` and `read_all` read the octets of a trace; `read_trace` returns its events.
 //! - `TracedEvents` and `runnable_events` return the events of a text by index.
 //! - `write_mark`, `write_datagram` and the like write one line each to a `TextBuffer`, whose
-//!   `finish` writes what it still holds.
+//!   `finish` writes what it still holds. `push_count` and `push_tally` add the parts of other lines.
 //!
 //! This crate also exports the types of a studio and of its run.
 #![tactic(auto)]
@@ -25,10 +25,9 @@ mod trace;
 pub use buffer::TextBuffer;
 pub use laws::{a_report_is_the_only_one, events_have_a_report};
 pub use lines::counts::{
-    write_datagram, write_merge_counts, write_path_counts, write_running_counts,
+    push_count, push_tally, write_datagram, write_merge_counts, write_path_counts,
 };
 pub use lines::instants::millis;
-pub use lines::live::{SinkCounts, write_feed_faults, write_sink_counts};
 pub use lines::mark::write_mark;
 pub use outputs::listing::{list_marks_and_counts, write_whole_listing};
 pub use outputs::report::write_counts;
@@ -38,5 +37,6 @@ pub use studio_config::{SpecError, StudioSpec};
 pub use studio_session::{Report, StudioEvent, StudioFault, run_studio};
 pub use text_io::{ReadFault, WriteFault, read_octets, write_text};
 pub use trace::events::read_trace;
-pub use trace::fault::{TraceFault, TraceFaultKind};
+pub use trace::fault::{MAX_EVENTS as MAX_TRACE_EVENTS, TraceFault, TraceFaultKind};
+pub use trace::reader::MAX_TRACE_OCTETS;
 pub use trace::text_events::TracedEvents;

@@ -2,6 +2,7 @@
 ghost use Rattle.std.specs.Prelude.{[], ◌∷◌, None};
 ghost use Rattle.engine_run.specs.Observers.{Came, Closed, Hears};
 
+use crate::shown_health::ShownHealth;
 use engine_run::RunObserver;
 use live_io::{DatagramOrigin, RecordObserver, UdpFeed};
 use live_status::{EngineStatus, StatusOutputs};
@@ -17,7 +18,7 @@ use studio_session::ArriveOutcome;
 #[derive(Drop)]
 pub(crate) struct LiveObserver<'v, E> {
     record: Option<RecordObserver>,
-    status: Option<EngineStatus<'v, E>>,
+    status: Option<EngineStatus<'v, E, ShownHealth<'v>>>,
 }
 
 impl<'v, E: Write + Drop> LiveObserver<'v, E> {
@@ -28,10 +29,17 @@ impl<'v, E: Write + Drop> LiveObserver<'v, E> {
         studio: &StudioSpec,
         record: Option<RecordObserver>,
         outputs: StatusOutputs<'v, E>,
+        health: ShownHealth<'v>,
     ) -> Result<LiveObserver<'v, E>, AllocError> {
         let StatusOutputs { publisher, meter } = outputs;
         let status = match publisher {
-            Some(publisher) => Some(EngineStatus::new(alloc, studio.streams(), publisher, meter)?),
+            Some(publisher) => Some(EngineStatus::new(
+                alloc,
+                studio.streams(),
+                publisher,
+                meter,
+                health,
+            )?),
             None => None,
         };
         Ok(LiveObserver { record, status })

@@ -1,6 +1,6 @@
 //! The numbers of a path.
 ghost use Rattle.std.specs.Prelude.{◌≡◌};
-ghost use Rattle.status_page.specs.Fields.{path_help, path_key, path_kind, path_value};
+ghost use Rattle.status_page.specs.Fields.{flag, path_help, path_key, path_kind, path_value};
 
 use crate::fields::MetricKind;
 use crate::snapshot::PathState;
@@ -21,10 +21,14 @@ pub(crate) enum PathField {
     Full,
     SpareLeast,
     SpareMedian,
+    Unexpected,
+    SocketFaults,
+    SocketEnded,
+    SocketDropped,
 }
 
 /// The numbers of a path, in the order in which they are shown.
-pub(crate) const PATH_FIELDS: [PathField; 13] = [
+pub(crate) const PATH_FIELDS: [PathField; 17] = [
     PathField::Datagrams,
     PathField::First,
     PathField::Sent,
@@ -38,6 +42,10 @@ pub(crate) const PATH_FIELDS: [PathField; 13] = [
     PathField::Full,
     PathField::SpareLeast,
     PathField::SpareMedian,
+    PathField::Unexpected,
+    PathField::SocketFaults,
+    PathField::SocketEnded,
+    PathField::SocketDropped,
 ];
 
 impl PathField {
@@ -59,6 +67,10 @@ impl PathField {
             PathField::Full => "full",
             PathField::SpareLeast => "spare_least",
             PathField::SpareMedian => "spare_median",
+            PathField::Unexpected => "unexpected",
+            PathField::SocketFaults => "socket_faults",
+            PathField::SocketEnded => "socket_ended",
+            PathField::SocketDropped => "socket_dropped",
         }
     }
 
@@ -67,7 +79,9 @@ impl PathField {
         ensures { result ≡ path_kind self }
     {
         match self {
-            PathField::SpareLeast | PathField::SpareMedian => MetricKind::Gauge,
+            PathField::SpareLeast | PathField::SpareMedian | PathField::SocketEnded => {
+                MetricKind::Gauge
+            }
             _ => MetricKind::Counter,
         }
     }
@@ -79,7 +93,8 @@ impl PathField {
         match self {
             PathField::Datagrams => "Datagrams that came on the path.",
             PathField::First => "Packets of which the path brought the first copy.",
-            PathField::Sent => "Datagrams that were packets of the stream.",
+            PathField::Sent =>
+                "Packets of the stream that found room on their way to the merge; an offer that found none counts as full.",
             PathField::Lost =>
                 "Packets that the stream lost, also if the path brought them late, and packets that another path brought and this one did not within the reorder window.",
             PathField::Double => "Further copies, with the payload of the first.",
@@ -93,6 +108,12 @@ impl PathField {
                 "The least time before its deadline that a packet of the last second came, in periods of 48 kHz.",
             PathField::SpareMedian =>
                 "The median time before their deadlines that packets of the last second came, in periods of 48 kHz; past 6138 it may be more.",
+            PathField::Unexpected => "Datagrams from other addresses than the path's source.",
+            PathField::SocketFaults => "Receives that failed at the path's socket.",
+            PathField::SocketEnded =>
+                "1 once the path was given up because its socket failed again and again, and 0 before.",
+            PathField::SocketDropped =>
+                "Datagrams that the system dropped because the buffer of the path's socket was full.",
         }
     }
 
@@ -112,8 +133,22 @@ impl PathField {
             PathField::WrongType => path.counts.map(|counts| counts.wrong_type),
             PathField::WrongLength => path.counts.map(|counts| counts.wrong_length),
             PathField::Full => path.counts.map(|counts| counts.full),
-            PathField::SpareLeast => path.spare.map(|spare| spare.least),
-            PathField::SpareMedian => path.spare.map(|spare| spare.median),
+            PathField::SpareLeast => path.spare.map(|spare| u64::from(spare.least)),
+            // The median is rounded down to a multiple of 6, so it may be below the least.
+            PathField::SpareMedian => path
+                .spare
+                .map(|spare| u64::from(spare.median.max(spare.least))),
+            PathField::Unexpected => path.socket.and_then(|socket| socket.unexpected),
+            PathField::SocketFaults => path.socket.map(|socket| socket.faults),
+            PathField::SocketEnded => path.socket.map(|socket| flag(socket.has_ended)),
+            PathField::SocketDropped => path.socket.and_then(|socket| socket.dropped),
         }
     }
+}
+
+/// Returns 1 if something holds, and 0 otherwise: the value of its metric.
+pub(crate) fn flag(holds: bool) -> u64
+    ensures { result ≡ flag holds }
+{
+    if holds { 1 } else { 0 }
 }

@@ -37,6 +37,7 @@ header { display: flex; gap: 6px; align-items: stretch; margin-bottom: 6px; }
 #about h1 { font-size: 1.25em; }
 #link { display: block; color: var(--soft); }
 #link.off { color: var(--bad); font-weight: 700; }
+#record, #sends { display: block; white-space: nowrap; }
 .net { flex: 1; background: var(--card); border: 1px solid var(--line); border-radius: 4px; padding: 3px 8px; }
 .net b { font-size: 1.2em; }
 .net span { display: inline-block; margin-left: .8em; white-space: nowrap; }
@@ -75,11 +76,12 @@ tr.silent td:first-child { font-weight: 700; }
 </head>
 <body>
 <header>
-<div id="about"><h1>Darbexum</h1> <span id="link" role="status">connecting</span></div>
+<div id="about"><h1>Darbexum</h1> <span id="link" role="status">connecting</span>
+<span id="record"></span><span id="sends"></span></div>
 </header>
 <section id="outputs" aria-label="Output channels"></section>
 <main id="streams"></main>
-<noscript>This page needs its script. The same numbers stand at /state and /metrics.</noscript>
+<noscript>This page needs its script. The same numbers are at /state and /metrics.</noscript>
 <script>
 "use strict";
 const LETTERS = ["a", "b", "c", "d"];
@@ -91,10 +93,10 @@ const CONDITIONS = {
   lost: ["\u2715 lost", "bad"],
   ended: ["\u25a0 ended", "soft"],
 };
-const REFUSED = { unlike: "unlike", bad: "no RTP", wrong_type: "type", wrong_length: "length", full: "no room" };
+const REFUSED = { unlike: "unlike", bad: "no RTP", wrong_type: "type", wrong_length: "length", full: "no room", unexpected: "other address" };
 const REFUSED_BY_STREAM = { off_grid: "off grid", ahead: "ahead", wrong_source: "source" };
 
-let shape = "", view = null, paint = null, history = [];
+let shape = "", view = null, paint = null, history = [], ended = false;
 
 // ---- elements
 
@@ -106,7 +108,7 @@ function make(tag, parent, name, text) {
   return element;
 }
 
-// a text that is only touched where it changes, so that a selection stays
+// sets a text only if it changes, so that a selection stays
 function show(element, text) {
   const node = element.firstChild;
   if (!node) element.append(text);
@@ -137,16 +139,16 @@ function width(element, share) {
 
 const whole = new Intl.NumberFormat("en");
 const exact = n => whole.format(Math.round(n));
-// up to five digits, and then the first three: the whole number stands at /state
+// up to five digits, and then the first three: the whole number is at /state
 const few = new Intl.NumberFormat("en", { notation: "compact", maximumSignificantDigits: 3 });
 const count = n => n < 99999.5 ? exact(n) : few.format(n);
-// what isn't known is a dash
+// a number that is not known is a dash
 const known = (n, text) => n === null ? "\u2013" : text(n);
 const millis = n => (1000 * n / RATE).toFixed(n < 4800 ? 1 : 0);
 const decibels = peak => peak > 0 ? 20 * Math.log10(peak / FULL_SCALE) : -Infinity;
 const level = db => db === -Infinity ? "\u2212\u221e" : db.toFixed(1).replace("-", "\u2212");
 
-// ---- what is there, built once
+// ---- the elements of a studio, built once
 
 function build(state) {
   const streams = state.streams.length;
@@ -200,8 +202,8 @@ function buildStream(parent, stream, n) {
   }
   const body = make("tbody", table);
   const paths = stream.paths.map((_, path) => buildPath(body, LETTERS[path]));
-  const note = make("p", box, "note");
-  return { box, word, epoch, counts, strip, paths, note, bins: [] };
+  const note = make("p", box, "note"), sockets = make("p", box, "note");
+  return { box, word, epoch, counts, strip, paths, note, sockets, bins: [] };
 }
 
 function buildPath(body, letter) {
@@ -215,7 +217,7 @@ function buildPath(body, letter) {
   return { row, cells, bar, median, least, spare: make("span", last) };
 }
 
-// ---- what has changed since
+// ---- changes since an earlier snapshot
 
 // the snapshot of about a second ago, and the seconds since
 function earlier(state, now) {
@@ -245,10 +247,23 @@ function draw(state, now) {
   }
   if (paint === null) measure();
   const since = earlier(state, now);
-  const nets = view.nets.map(() => ({ rate: 0, lost: 0, all: 0, first: 0, slots: 0, running: false, silent: false }));
+  ended = state.streams.length > 0 && state.streams.every(stream => stream.state === "ended");
+  drawRun(state, since.old);
+  const nets = view.nets.map(() => ({ rate: 0, lost: 0, all: 0, first: 0, taken: 0, running: false, silent: false }));
   state.streams.forEach((stream, n) => drawStream(view.streams[n], stream, since.old.streams[n], since.last.streams[n], since.seconds, now, nets));
   view.nets.forEach((net, n) => drawNet(net, nets[n]));
   state.outputs.forEach((output, n) => drawOutput(view.outputs[n], output, now));
+}
+
+// the record of the run, and the sends of both copies of its mix
+function drawRun(state, old) {
+  const record = document.getElementById("record"), sends = document.getElementById("sends");
+  const { state: kind, datagrams } = state.record, closed = kind === "ended";
+  show(record, kind === "none" ? "no record" : (closed ? "\u2715 record ended at " : "\u25cf record ") + exact(datagrams));
+  style(record, closed ? "bad word" : kind === "none" ? "soft" : "good");
+  const failed = state.failed_sends, all = failed[0] + failed[1];
+  show(sends, all > 0 ? "\u25b2 sends failed: a " + exact(failed[0]) + ", b " + exact(failed[1]) : "no send failed");
+  style(sends, all > old.failed_sends[0] + old.failed_sends[1] ? "bad word" : all > 0 ? "warn" : "soft");
 }
 
 function drawNet(net, sum) {
@@ -260,9 +275,10 @@ function drawNet(net, sum) {
   style(net.word, "word " + (silent || losing ? "bad" : sum.running ? "good" : "soft"));
   show(net.rate, count(sum.rate) + " pk/s");
   show(net.lost, sum.lost === null ? "" : "lost " + count(sum.lost) + "/s, " + exact(sum.all) + " in all");
-  show(net.first, "first " + share(sum.first, sum.slots));
+  show(net.first, "first " + share(sum.first, sum.taken));
 }
 
+// a part of what was taken in the same snapshots, so at most 100%
 function share(part, all) {
   return all > 0 ? Math.round(100 * part / all) + "%" : "\u2013";
 }
@@ -278,45 +294,62 @@ function drawStream(it, stream, old, last, seconds, now, nets) {
   show(it.counts, "got " + exact(stream.got) + "  lost " + exact(stream.lost) + (lately > 0 ? " (" + count(lately) + " in 60 s)" : ""));
   style(it.counts, lately > 0 ? "right bad" : "right");
   drawStrip(it, now, lately);
-  const slots = stream.got - old.got;
+  const taken = stream.taken - old.taken;
   stream.paths.forEach((path, n) => {
-    drawPath(it.paths[n], stream, path, old.paths[n], slots, seconds);
-    sumPath(nets[n], stream, path, old.paths[n], slots, seconds);
+    drawPath(it.paths[n], stream, path, old.paths[n], taken, seconds);
+    sumPath(nets[n], stream, path, old.paths[n], taken, seconds);
   });
   const words = notes(stream), none = stream.paths.some(path => path.bad === null) ? "refused on paths: not known" : "nothing refused";
   show(it.note, words.length > 0 ? "refused: " + words.join(", ") : none);
   style(it.note, words.length > 0 ? "note warn" : "note");
+  drawSockets(it.sockets, stream);
 }
 
-// the packets of a path, or where those aren't told apart its datagrams
+// the faults of a stream's sockets, and what the system dropped there; no line without any
+function drawSockets(line, stream) {
+  const words = [], unknown = [];
+  stream.paths.forEach((path, n) => {
+    if (path.socket_ended > 0) words.push(LETTERS[n] + " given up");
+    if (path.socket_faults > 0) words.push(LETTERS[n] + " faults " + count(path.socket_faults));
+    if (path.socket_dropped > 0) words.push(LETTERS[n] + " dropped " + count(path.socket_dropped));
+    if (path.socket_dropped === null) unknown.push(LETTERS[n]);
+  });
+  const bad = words.length > 0;
+  if (unknown.length > 0) words.push("drops not known on " + unknown.join(", "));
+  show(line, "sockets: " + words.join(", "));
+  set(line, "display", words.length > 0 ? "block" : "none");
+  style(line, bad ? "note warn" : "note");
+}
+
+// the packets of a path, or its datagrams if packets are not counted
 const came = path => path.packets ?? path.datagrams;
 
-// how much more there is, if it is known
+// the increase of a number, if it is known
 const more = (now, before) => now === null || before === null ? null : now - before;
 
-// whether nothing came for so long that it is worth a word
+// true if nothing came for half a second
 function isSilent(rate, seconds) {
   return rate === 0 && seconds >= .5;
 }
 
-function sumPath(net, stream, path, old, slots, seconds) {
+function sumPath(net, stream, path, old, taken, seconds) {
   net.rate += (came(path) - came(old)) / seconds;
   net.lost = path.lost === null ? null : net.lost + more(path.lost, old.lost) / seconds;
   net.all += path.lost;
   net.first += path.first - old.first;
-  net.slots += slots;
+  net.taken += taken;
   net.running = net.running || stream.state === "running";
   net.silent = isSilent(net.rate, seconds);
 }
 
-function drawPath(it, stream, path, old, slots, seconds) {
+function drawPath(it, stream, path, old, taken, seconds) {
   const rate = (came(path) - came(old)) / seconds;
   const silent = isSilent(rate, seconds) && (stream.state === "running" || stream.state === "lost");
   mark(it.row, "silent", silent);
   show(it.cells.rate, silent ? "silent" : count(rate));
   show(it.cells.lost, known(path.lost, count));
   style(it.cells.lost, path.lost > old.lost ? "bad word" : "");
-  show(it.cells.first, share(path.first - old.first, slots));
+  show(it.cells.first, share(path.first - old.first, taken));
   show(it.cells.double, known(path.double, count));
   show(it.cells.late, known(path.late, count));
   style(it.cells.late, path.late > old.late ? "bad word" : path.late > 0 ? "warn" : "");
@@ -329,7 +362,7 @@ function drawPath(it, stream, path, old, slots, seconds) {
   }
 }
 
-// what was refused, by name
+// the refused datagrams, by reason
 function notes(stream) {
   const words = [];
   stream.paths.forEach((path, n) => {
@@ -350,7 +383,7 @@ function fill(bins, got, lost, now) {
   while (bins.length > BINS) bins.shift();
 }
 
-// sizes and colors are read once, and again where they may have changed
+// sizes and colors are read once, and again after a change of the window or its theme
 function measure() {
   const scale = window.devicePixelRatio || 1, colors = getComputedStyle(document.documentElement);
   const sizes = view.streams.map(it => [it.strip.clientWidth * scale, it.strip.clientHeight * scale]);
@@ -365,7 +398,7 @@ function measure() {
 addEventListener("resize", () => { paint = null; });
 matchMedia("(prefers-color-scheme: dark)").addEventListener("change", () => { paint = null; });
 
-// got stands on the ground, lost hangs from above; drawn again where a second or a loss is new
+// got is drawn from below, lost from above; drawn again if a second or a loss is new
 function drawStrip(it, now, lately) {
   const newest = Math.floor(now / 1000), drawn = newest + " " + lately;
   if (it.drawn === drawn) return;
@@ -403,7 +436,7 @@ function drawOutput(it, output, now) {
   set(it.held, "left", "calc(" + percent(1 - it.hold / FLOOR) + "% - 2px)");
 }
 
-// ---- asking, ten times a second, one request after another
+// ---- requests, ten times a second, one after another
 
 const rest = time => new Promise(done => setTimeout(done, time));
 
@@ -414,12 +447,12 @@ async function ask() {
     try {
       const answer = await fetch("/state", { cache: "no-store" });
       draw(await answer.json(), now);
-      show(link, "live");
+      show(link, ended ? "\u25a0 ended" : "live");
       style(link, "");
     } catch (fault) {
       console.error(fault);
-      show(link, "\u2715 no answer: these are the last numbers");
-      style(link, "off");
+      show(link, ended ? "\u25a0 ended: these are the last numbers" : "\u2715 no answer: these are the last numbers");
+      style(link, ended ? "" : "off");
       history = [];
       await rest(900);
     }

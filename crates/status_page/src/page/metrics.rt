@@ -1,5 +1,5 @@
 //! The response's body at `/metrics`: the snapshot in the text form of Prometheus.
-ghost use Rattle.std.specs.Prelude.{◌≡◌, ◌++◌, OnOk, IfOk};
+ghost use Rattle.std.specs.Prelude.{◌≡◌, ◌≤◌, ◌++◌, length, OnOk, IfOk};
 ghost use Rattle.status_page.specs.Metrics.{
   stream_samples,
   path_samples,
@@ -11,6 +11,9 @@ ghost use Rattle.status_page.specs.Metrics.{
   stream_families,
   path_families,
   output_families,
+  failed_text,
+  record_states,
+  record_families,
   metrics_text,
   state_header,
 };
@@ -21,11 +24,12 @@ use crate::fields::output::{OUTPUT_FIELDS, OutputField};
 use crate::fields::path::{PATH_FIELDS, PathField};
 use crate::fields::stream::StreamField;
 use crate::page::samples::{
-    push_condition_sample, push_output_sample, push_path_sample, push_stream_sample,
+    push_condition_sample, push_failed_sample, push_output_sample, push_path_sample,
+    push_record_sample, push_recorded_sample, push_stream_sample,
 };
 use crate::page::text::push_header;
-use crate::snapshot::{Condition, OutputState, PathState, Snapshot, StreamState};
-use rtp_stream::{COUNT_FIELDS, CountField};
+use crate::snapshot::{Condition, OutputState, PathState, RecordState, Snapshot, StreamState};
+use rtp_stream::{COUNT_FIELDS, CountField, Path};
 use std::alloc::{AllocError, Global};
 
 /// Returns a snapshot in the text form of Prometheus, version 0.0.4, or `AllocError` if an allocation fails.
@@ -39,6 +43,12 @@ pub fn metrics_text(alloc: Global, snapshot: &Snapshot) -> Result<Vec<u8>, Alloc
     push_stream_families(&mut text, &COUNT_FIELDS, streams)?;
     push_path_families(&mut text, &PATH_FIELDS, streams)?;
     push_output_families(&mut text, &OUTPUT_FIELDS, snapshot.outputs.as_slice())?;
+    push_failed_sends(
+        &mut text,
+        snapshot.failed_sends[0],
+        snapshot.failed_sends[1],
+    )?;
+    push_record_families(&mut text, snapshot.record)?;
     Ok(text)
 }
 
@@ -172,9 +182,13 @@ fn push_path_samples(
     stream: &StreamState,
     states: &[PathState],
 ) -> Result<(), AllocError>
-    ensures { OnOk result (text.new.items ≡ text.old.items ++ path_samples field number stream.now 0 states.now) }
+    requires few { length states.now ≤ 4 }
+    ensures text { OnOk result (text.new.items ≡ text.old.items ++ path_samples field number stream.now 0 states.now) }
 {
-    for (path, state) in states.iter().enumerate() {
+    for (place, state) in states.iter().enumerate() {
+        let Some(path) = Path::new(place as u8) else {
+            unreachable!()
+        };
         push_path_sample(text, field, number, stream, path, field.value(state))?;
     }
     Ok(())
@@ -209,4 +223,50 @@ fn push_output_samples(
         push_output_sample(text, field, number, output)?;
     }
     Ok(())
+}
+
+/// The description of the metric of the datagrams that were not sent.
+const FAILED_HELP: &str = "Datagrams of the mix that were not sent to the address of this copy.";
+
+/// Appends the metric of the datagrams that were not sent, of the first and of the second copy of the mix.
+#[tactic(auto, unfolding(crate::specs::Metrics::failed_text))]
+fn push_failed_sends(text: &mut Vec<u8>, failed_a: u64, failed_b: u64) -> Result<(), AllocError>
+    ensures { OnOk result (text.new.items ≡ text.old.items ++ failed_text failed_a failed_b) }
+{
+    push_header(text, "sends_", "failed", MetricKind::Counter, FAILED_HELP)?;
+    push_failed_sample(text, "a", failed_a)?;
+    push_failed_sample(text, "b", failed_b)
+}
+
+/// Appends the two metrics of the record.
+fn push_record_families(text: &mut Vec<u8>, state: RecordState) -> Result<(), AllocError>
+    ensures { OnOk result (text.new.items ≡ text.old.items ++ record_families state) }
+{
+    push_record_states(text, state)?;
+    push_header(
+        text,
+        "record_",
+        "datagrams",
+        MetricKind::Counter,
+        RECORDED_HELP,
+    )?;
+    push_recorded_sample(text, state.datagrams())
+}
+
+/// The description of the metric of the datagrams in the record.
+const RECORDED_HELP: &str = "Datagrams that the record holds.";
+
+/// The description of the metric of the record's state.
+const RECORD_HELP: &str =
+    "The state of the record: 1 for the state that it is in, and 0 for the others.";
+
+/// Appends the metric of the record's state.
+#[tactic(auto, unfolding(crate::specs::Metrics::record_states))]
+fn push_record_states(text: &mut Vec<u8>, state: RecordState) -> Result<(), AllocError>
+    ensures { OnOk result (text.new.items ≡ text.old.items ++ record_states state) }
+{
+    push_header(text, "record_", "state", MetricKind::Gauge, RECORD_HELP)?;
+    push_record_sample(text, state, "none")?;
+    push_record_sample(text, state, "writing")?;
+    push_record_sample(text, state, "ended")
 }

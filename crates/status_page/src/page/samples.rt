@@ -2,8 +2,10 @@
 ghost use Rattle.std.specs.Prelude.{◌≡◌, ◌++◌, OnOk};
 ghost use Rattle.status_page.specs.Metrics.{
   name_label,
+  failed_sample,
+  record_sample,
+  recorded_sample,
   stream_labels,
-  path_letter,
   value_text,
   stream_sample,
   path_sample,
@@ -16,7 +18,8 @@ use crate::fields::output::OutputField;
 use crate::fields::path::PathField;
 use crate::fields::stream::StreamField;
 use crate::page::text::{push, push_label, push_metric, push_number};
-use crate::snapshot::{Condition, OutputState, StreamName, StreamState};
+use crate::snapshot::{Condition, OutputState, RecordState, StreamName, StreamState};
+use rtp_stream::Path;
 use std::alloc::AllocError;
 
 /// Appends a stream's name as a label, if it has one.
@@ -68,18 +71,6 @@ pub(crate) fn push_stream_sample(
     push_value(text, field.value(stream))
 }
 
-/// Returns the letter of a path, by its place from 0 to 3.
-fn path_letter(path: usize) -> &'static str
-    ensures { result.now ≡ path_letter path }
-{
-    match path {
-        0 => "a",
-        1 => "b",
-        2 => "c",
-        _ => "d",
-    }
-}
-
 /// Appends the line with a number of a path. Appends nothing if the number is not known.
 #[tactic(auto, unfolding(crate::specs::Metrics::path_sample))]
 pub(crate) fn push_path_sample(
@@ -87,7 +78,7 @@ pub(crate) fn push_path_sample(
     field: PathField,
     number: usize,
     stream: &StreamState,
-    path: usize,
+    path: Path,
     value: Option<u64>,
 ) -> Result<(), AllocError>
     ensures { OnOk result (text.new.items ≡ text.old.items ++ path_sample field number stream.now path value) }
@@ -98,7 +89,7 @@ pub(crate) fn push_path_sample(
     push_metric(text, "path_", field.key(), field.kind())?;
     push_labels(text, number, stream)?;
     push(text, ",path=\"")?;
-    push(text, path_letter(path))?;
+    push(text, path.letter())?;
     push(text, "\"")?;
     push_value(text, value)
 }
@@ -136,4 +127,53 @@ pub(crate) fn push_output_sample(
     push_number(text, number as u64)?;
     push(text, "\"")?;
     push_value(text, field.value(output))
+}
+
+/// Appends the line with the number of datagrams of a copy of the mix that were not sent.
+#[tactic(auto, unfolding(crate::specs::Metrics::failed_sample))]
+pub(crate) fn push_failed_sample(
+    text: &mut Vec<u8>,
+    letter: &str,
+    failed: u64,
+) -> Result<(), AllocError>
+    ensures { OnOk result (text.new.items ≡ text.old.items ++ failed_sample letter.now failed) }
+{
+    push_metric(text, "sends_", "failed", MetricKind::Counter)?;
+    push(text, "{copy=\"")?;
+    push(text, letter)?;
+    push(text, "\"")?;
+    push_value(text, failed)
+}
+
+/// Appends the line for a state of the record, by its name, with 1 if it is the record's state and 0 otherwise.
+#[tactic(auto, unfolding(crate::specs::Metrics::record_sample))]
+pub(crate) fn push_record_sample(
+    text: &mut Vec<u8>,
+    state: RecordState,
+    name: &str,
+) -> Result<(), AllocError>
+    ensures { OnOk result (text.new.items ≡ text.old.items ++ record_sample state name.now) }
+{
+    push_metric(text, "record_", "state", MetricKind::Gauge)?;
+    push(text, "{state=\"")?;
+    push(text, name)?;
+    push(text, "\"")?;
+    push_value(text, state.is_named(name))
+}
+
+/// Appends the line with the number of datagrams in the record. Appends nothing if there is no record.
+#[tactic(auto, unfolding(crate::specs::Metrics::recorded_sample))]
+pub(crate) fn push_recorded_sample(
+    text: &mut Vec<u8>,
+    datagrams: Option<u64>,
+) -> Result<(), AllocError>
+    ensures { OnOk result (text.new.items ≡ text.old.items ++ recorded_sample datagrams) }
+{
+    let Some(datagrams) = datagrams else {
+        return Ok(());
+    };
+    push_metric(text, "record_", "datagrams", MetricKind::Counter)?;
+    push(text, " ")?;
+    push_number(text, datagrams)?;
+    push(text, "\n")
 }

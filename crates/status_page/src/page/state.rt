@@ -17,13 +17,16 @@ ghost use Rattle.status_page.specs.State.{
   streams_tokens,
   output_tokens,
   outputs_tokens,
+  failed_tokens,
+  record_members,
+  record_tokens,
   state_tokens,
 };
 
 use crate::fields::output::{OUTPUT_FIELDS, OutputField};
 use crate::fields::path::{PATH_FIELDS, PathField};
 use crate::fields::stream::StreamField;
-use crate::snapshot::{OutputState, PathState, Snapshot, StreamName, StreamState};
+use crate::snapshot::{OutputState, PathState, RecordState, Snapshot, StreamName, StreamState};
 use json::Writer;
 use rtp_stream::{COUNT_FIELDS, CountField};
 use std::alloc::{AllocError, Global};
@@ -38,6 +41,8 @@ pub fn state_json(alloc: Global, snapshot: &Snapshot) -> Result<Vec<u8>, AllocEr
     writer.begin_object()?;
     write_streams(&mut writer, snapshot.streams.as_slice())?;
     write_outputs(&mut writer, snapshot.outputs.as_slice())?;
+    write_failed_sends(&mut writer, snapshot.failed_sends)?;
+    write_record(&mut writer, snapshot.record)?;
     writer.end_object()?;
     Ok(writer.into_inner())
 }
@@ -241,4 +246,38 @@ fn write_output_members(
         writer.u64(field.value(output))?;
     }
     Ok(())
+}
+
+/// Writes the member with the number of datagrams of each copy of the mix that were not sent.
+fn write_failed_sends(writer: &mut Writer, failed: [u64; 2]) -> Result<(), AllocError>
+    ensures tokens { OnOk result (writer.new.tokens ≡ writer.old.tokens ++ failed_tokens failed) }
+    ensures before { OnOk result (writer.new.before ≡ writer.old.before) }
+{
+    writer.key("failed_sends")?;
+    writer.begin_array()?;
+    writer.u64(failed[0])?;
+    writer.u64(failed[1])?;
+    writer.end_array()
+}
+
+/// Writes the member with the state of the record.
+fn write_record(writer: &mut Writer, state: RecordState) -> Result<(), AllocError>
+    ensures tokens { OnOk result (writer.new.tokens ≡ writer.old.tokens ++ record_tokens state) }
+    ensures before { OnOk result (writer.new.before ≡ writer.old.before) }
+{
+    writer.key("record")?;
+    writer.begin_object()?;
+    write_record_members(writer, state)?;
+    writer.end_object()
+}
+
+/// Writes the state of the record, and the number of datagrams that it holds.
+fn write_record_members(writer: &mut Writer, state: RecordState) -> Result<(), AllocError>
+    ensures tokens { OnOk result (writer.new.tokens ≡ writer.old.tokens ++ record_members state) }
+    ensures before { OnOk result (writer.new.before ≡ writer.old.before) }
+{
+    writer.key("state")?;
+    writer.string(state.text())?;
+    writer.key("datagrams")?;
+    write_known(writer, state.datagrams())
 }

@@ -5,6 +5,7 @@ ghost use Rattle.http_server.specs.History.{new_history};
 ghost use Rattle.status_page.specs.Responses.{IsGuarded};
 
 use crate::page::Page;
+use crate::server::times::RequestTimes;
 use http_server::{Config, Connection};
 use http1::Limits;
 use mio::net::TcpStream;
@@ -20,9 +21,6 @@ const MAX_OCTETS: usize = 8192;
 /// The greatest number of reads and writes in one turn.
 // A limit, so that a busy client does not keep the others from their turns.
 const MAX_STEPS: u32 = 16;
-
-/// The time in seconds without a read or a write after which a client is disconnected.
-const IDLE_SECONDS: u64 = 10;
 
 /// Returns the connection of a new client, from which nothing was read yet. It refuses a head, trailers or a body of
 /// more than 8,192 octets. While a response waits to be sent it reads no request.
@@ -60,8 +58,7 @@ pub(crate) enum Progress {
 pub(crate) struct Client {
     stream: TcpStream,
     connection: Connection,
-    /// The clock reading of the last turn in which it read or wrote.
-    moved_at: Duration,
+    times: RequestTimes,
     pub(crate) progress: Progress,
 }
 
@@ -72,7 +69,7 @@ impl Client {
         Client {
             stream,
             connection,
-            moved_at: now,
+            times: RequestTimes::new(now),
             progress: Progress::Ready,
         }
     }
@@ -82,7 +79,18 @@ impl Client {
         if self.progress == Progress::Ready {
             self.turn(page, now);
         }
-        self.progress == Progress::Closed || self.is_idle(now)
+        self.progress == Progress::Closed || self.times.is_overdue(now)
+    }
+
+    /// Returns the time of the last octet of the client's last complete request, or of its connection before the first
+    /// one.
+    pub(crate) fn complete_at(&self) -> Duration {
+        self.times.complete_at()
+    }
+
+    /// Returns true if the client sent a complete request at the time `since` or later, and has its whole response.
+    pub(crate) fn is_answered_since(&self, since: Duration) -> bool {
+        self.times.complete_at() >= since && !self.connection.wants_write()
     }
 
     /// Reads requests and writes responses until the socket would block, or the turn's steps are used up.
@@ -90,36 +98,53 @@ impl Client {
         // A client stays ready until its socket would block: only then does the system send an event again.
         self.progress = Progress::Ready;
         for _ in 0..MAX_STEPS {
-            page.answer(&mut self.connection);
-            self.progress = self.step();
+            self.answer(page, now);
+            self.progress = self.step(now);
             if self.progress != Progress::Ready {
                 return;
             }
-            self.moved_at = now;
+        }
+    }
+
+    /// Responds to the request that was read, if it is complete.
+    fn answer(&mut self, page: &mut Page, now: Duration) {
+        if self.connection.wants_write() {
+            return;
+        }
+        page.answer(&mut self.connection);
+        // A response follows a complete request. A body that waits for `100 Continue` has another ten seconds.
+        if self.connection.wants_write() {
+            self.times.note_complete(now);
         }
     }
 
     /// Writes once if there is something to write, or else reads once, and returns the client's state.
-    fn step(&mut self) -> Progress {
+    fn step(&mut self, now: Duration) -> Progress {
         if self.connection.wants_write() {
-            return match self.connection.write_to(&mut self.stream) {
-                Ok(0) => Progress::Closed,
-                Ok(_) => Progress::Ready,
-                Err(fault) => after(fault.kind()),
-            };
+            return self.write(now);
         }
         if self.connection.is_done() || !self.connection.wants_read() {
             return Progress::Closed;
         }
         match self.connection.read_from(&mut self.stream) {
-            Ok(_) => Progress::Ready,
+            Ok(_) => {
+                self.times.note_read(now);
+                Progress::Ready
+            }
             Err(fault) => after(fault.kind()),
         }
     }
 
-    /// Returns true if the client did not read or write for more than 10 seconds.
-    fn is_idle(&self, now: Duration) -> bool {
-        now.saturating_sub(self.moved_at) > Duration::from_secs(IDLE_SECONDS)
+    /// Writes once, and returns the client's state.
+    fn write(&mut self, now: Duration) -> Progress {
+        match self.connection.write_to(&mut self.stream) {
+            Ok(0) => Progress::Closed,
+            Ok(_) => {
+                self.times.note_write(now);
+                Progress::Ready
+            }
+            Err(fault) => after(fault.kind()),
+        }
     }
 }
 

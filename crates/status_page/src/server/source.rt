@@ -10,6 +10,13 @@ use std::time::{Clock, Duration};
 // Half the time between two snapshots, so that a client sees each of them before the next one comes.
 const POLL_INTERVAL_MS: u64 = 50;
 
+/// The longest time for which the last snapshot is shown after the end of a run, in milliseconds.
+// Three times as long as a page waits between two requests, so that each open page shows how the run ended.
+const LAST_SHOWN_MS: u64 = 300;
+
+/// The longest wait for sockets while the last snapshot is shown, in milliseconds.
+const LAST_POLL_MS: u64 = 10;
+
 /// A source of snapshots from a ring, of which it uses the newest. The run has ended once the ring's producer was
 /// dropped.
 #[derive(Drop)]
@@ -36,7 +43,8 @@ impl RingSource {
     }
 }
 
-/// Serves a page's clients until the run has ended. It blocks the calling thread, which should be one of its own.
+/// Serves a page's clients until the run has ended and each client has had the last snapshot, but for at most 300 ms
+/// after the end. It blocks the calling thread, which should be one of its own.
 pub fn serve_page<R: Wait + Clock>(
     rt: &R,
     mut server: PageServer,
@@ -57,11 +65,30 @@ fn serve_until_end<R: Wait + Clock>(
     let mut now = Duration::ZERO;
     for _ in rt.forever() {
         server.wait(Duration::from_millis(POLL_INTERVAL_MS));
-        if !source.update(page) {
-            return;
-        }
+        let goes_on = source.update(page);
         // If the clock cannot be read, the reading before counts: then no client becomes idle.
         now = rt.monotonic().unwrap_or(now);
+        server.turn(page, now);
+        if !goes_on {
+            serve_last(rt, server, page, now);
+            return;
+        }
+    }
+}
+
+/// Serves the last snapshot, which the page has had since the time `since`, until each client has had it, but for at
+/// most 300 ms.
+fn serve_last<R: Wait + Clock>(rt: &R, server: &mut PageServer, page: &mut Page, since: Duration) {
+    for _ in rt.forever() {
+        // Without a clock nothing would bound the time.
+        let Ok(now) = rt.monotonic() else {
+            return;
+        };
+        let shown = now.saturating_sub(since);
+        if server.has_answered_since(since) || shown >= Duration::from_millis(LAST_SHOWN_MS) {
+            return;
+        }
+        server.wait(Duration::from_millis(LAST_POLL_MS));
         server.turn(page, now);
     }
 }

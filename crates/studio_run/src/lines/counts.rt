@@ -13,7 +13,6 @@ ghost use Rattle.studio_run.specs.Report.{
   tally_text,
   merge_line,
 };
-ghost use Rattle.studio_run.specs.LiveReport.{running_line};
 
 use crate::buffer::TextBuffer;
 use crate::text_io::WriteFault;
@@ -106,8 +105,8 @@ fn push_merge_line(text: &mut TextBuffer, stream: u8, paths: u8, counts: &Counts
 }
 
 /// Adds the counts of a merge whose stream has `paths` paths. Each number comes after its word and the one character
-/// of `between`.
-pub(crate) fn push_tally(text: &mut TextBuffer, between: &str, paths: u8, counts: &Counts)
+/// of `between`. The caller has made room for them.
+pub fn push_tally(text: &mut TextBuffer, between: &str, paths: u8, counts: &Counts)
     requires one { length between.now ≡ 1 }
     requires room { length text.old + 900 ≤ 65536 }
     ensures text { text.new ≡ text.old ++ tally_text between.now paths (tally_of counts.now) }
@@ -160,8 +159,8 @@ fn push_taken(text: &mut TextBuffer, between: &str, taken_by: &[u64])
     }
 }
 
-/// Adds a number after a word and a space.
-pub(crate) fn push_count(text: &mut TextBuffer, word: &str, number: u64)
+/// Adds a number after a word and a space. The caller has made room for them.
+pub fn push_count(text: &mut TextBuffer, word: &str, number: u64)
     requires { length text.old + length word.now + 42 ≤ 65536 }
     ensures text { text.new ≡ text.old ++ count_text word.now number }
     ensures few { length text.new ≤ length text.old + length word.now + 42 }
@@ -180,37 +179,4 @@ fn push_field(text: &mut TextBuffer, between: &str, word: &str, number: u64)
     text.push(word);
     text.push(between);
     text.push_number(number);
-}
-
-/// Writes the line of a stream's counts at a clock reading, in sampling instants: each number after its word and `=`.
-/// The stream has `paths` paths.
-pub fn write_running_counts<W: Write>(
-    text: &mut TextBuffer,
-    writer: &mut W,
-    stream: u8,
-    paths: u8,
-    time: i64,
-    counts: &Counts,
-) -> Result<(), WriteFault>
-    ensures ok { OnOk result (PassesOn (W.contents writer.old) text.old (W.contents writer.new) text.new
-        (running_line stream paths time (tally_of counts.now))) }
-    ensures fault { OnErr result (BreaksOff (W.contents writer.old) text.old (W.contents writer.new)
-        (running_line stream paths time (tally_of counts.now))) }
-{
-    text.make_room(writer)?;
-    push_running_line(text, stream, paths, time, counts);
-    Ok(())
-}
-
-/// Adds the line of a stream's counts.
-fn push_running_line(text: &mut TextBuffer, stream: u8, paths: u8, time: i64, counts: &Counts)
-    requires { length text.old + 4096 ≤ 65536 }
-    ensures { text.new ≡ text.old ++ running_line stream paths time (tally_of counts.now) }
-{
-    text.push("stream=");
-    text.push_number(stream);
-    text.push(" time=");
-    text.push_number(time);
-    push_tally(text, "=", paths, counts);
-    text.push("\n");
 }

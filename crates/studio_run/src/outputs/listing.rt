@@ -1,6 +1,6 @@
 //! The listing of a studio: the lines of its marks, stream after stream.
 ghost use Rattle.std.specs.Io.KnownBytes.{Appends};
-ghost use Rattle.std.specs.Prelude.{◌≡◌, ℕ, ℤ, List, [], Option, length, None, All, OnOk, OnErr, IfErr};
+ghost use Rattle.std.specs.Prelude.{◌≡◌, ℕ, ℤ, List, [], Option, length, None, OnOk, OnErr, IfErr};
 ghost use Rattle.rtp_stream.specs.declared.stream_spec.Stream.{Stream};
 ghost use Rattle.studio_config.specs.Studio.{Studio};
 ghost use Rattle.studio_session.specs.Event.{TraceEvent};
@@ -10,6 +10,7 @@ ghost use Rattle.studio_session.specs.Report.{ArePulled, HasPulledSome};
 ghost use Rattle.studio_run.specs.Buffer.{PassesOn, BreaksOff};
 ghost use Rattle.studio_run.specs.Listing.{listing_text, stream_listing};
 ghost use Rattle.studio_run.specs.StudioListing.{HasListed, HasListedAll};
+ghost use Rattle.studio_run.specs.StudioReport.{AreReady};
 ghost use Rattle.studio_run.specs.CountedListing.{FailsWithCounts, FailsWithCountsOf, ListsAndCounts, ListsAndCountsOf};
 
 use crate::buffer::TextBuffer;
@@ -93,7 +94,7 @@ fn write_listing<E: EventSource, W: Write>(
     source: &E,
     cursors: &mut [Cursor],
 ) -> Result<(), WriteFault>
-    requires ready { All (IsReadyFor (E.events source.now)) cursors.old }
+    requires ready { AreReady (E.events source.now) cursors.old }
     ensures ok { OnOk result ((studio : Studio) → IsRunnableBy studio (E.events source.now)
         → AreNew studio.streams studio.open_at cursors.old (length studio.streams)
         → PassesOn (W.contents writer.old) text.old (W.contents writer.new) text.new
@@ -102,7 +103,7 @@ fn write_listing<E: EventSource, W: Write>(
         → AreNew studio.streams studio.open_at cursors.old (length studio.streams)
         → BreaksOff (W.contents writer.old) text.old (W.contents writer.new)
         (listing_text studio (E.events source.now))) }
-    ensures ready { OnOk result (All (IsReadyFor (E.events source.now)) cursors.new) }
+    ensures ready { OnOk result (AreReady (E.events source.now) cursors.new) }
     ensures pulled { OnOk result ((studio : Studio) → IsRunnableBy studio (E.events source.now)
         → AreNew studio.streams studio.open_at cursors.old (length studio.streams)
         → ArePulled studio (E.events source.now) cursors.new) }
@@ -122,7 +123,7 @@ pub fn write_whole_listing<E: EventSource, W: Write>(
     cursors: &mut [Cursor],
 ) -> Result<(), WriteFault>
     requires empty { text.old ≡ [] }
-    requires ready { All (IsReadyFor (E.events source.now)) cursors.old }
+    requires ready { AreReady (E.events source.now) cursors.old }
     ensures ok { OnOk result ((studio : Studio) → IsRunnableBy studio (E.events source.now)
         → AreNew studio.streams studio.open_at cursors.old (length studio.streams)
         → Appends (W.contents writer.old) (W.contents writer.new) (listing_text studio (E.events source.now))) }
@@ -130,7 +131,7 @@ pub fn write_whole_listing<E: EventSource, W: Write>(
         → AreNew studio.streams studio.open_at cursors.old (length studio.streams)
         → BreaksOff (W.contents writer.old) [] (W.contents writer.new) (listing_text studio (E.events source.now))) }
     ensures empty { OnOk result (text.new ≡ []) }
-    ensures ready { OnOk result (All (IsReadyFor (E.events source.now)) cursors.new) }
+    ensures ready { OnOk result (AreReady (E.events source.now) cursors.new) }
     ensures pulled { OnOk result ((studio : Studio) → IsRunnableBy studio (E.events source.now)
         → AreNew studio.streams studio.open_at cursors.old (length studio.streams)
         → ArePulled studio (E.events source.now) cursors.new) }

@@ -1,14 +1,13 @@
 //! The report of a studio: the lines of its datagrams, and those of its counts.
 ghost use Rattle.std.specs.Io.KnownBytes.{Appends};
-ghost use Rattle.std.specs.Prelude.{◌≡◌, ℕ, ◌<◌, ◌≤◌, List, [], All, OnOk, OnErr, ℤ};
-ghost use Rattle.mix_packets.specs.OutSpec.{datagram_length};
+ghost use Rattle.std.specs.Prelude.{◌≡◌, ℕ, List, [], OnOk, OnErr, ℤ};
 ghost use Rattle.studio_config.specs.Studio.{Studio};
 ghost use Rattle.studio_session.specs.Cursor.{IsReadyFor, IsRunnable};
 ghost use Rattle.studio_session.specs.Play.{HasPlayed, IsRunnableBy};
 ghost use Rattle.studio_session.specs.Run.{AreDatagrams};
 ghost use Rattle.studio_run.specs.Buffer.{BreaksOff, PassesOn};
 ghost use Rattle.studio_run.specs.Listing.{datagrams_text, counts_text_of, paths_text, stream_counts_text};
-ghost use Rattle.studio_run.specs.StudioReport.{HasReported, IsReport, WritesReport};
+ghost use Rattle.studio_run.specs.StudioReport.{AreReady, HasReported, HasSamples, IsReport, IsShort, WritesReport};
 ghost use Rattle.rtp_stream.specs.declared.stream_spec.Stream.{Stream};
 ghost use Rattle.studio_session.specs.Event.{TraceEvent};
 ghost use Rattle.studio_session.specs.Counts.{AreTallies};
@@ -29,10 +28,10 @@ fn write_datagrams<E: EventSource, W: Write>(
     source: &E,
     session: &mut Session,
 ) -> Result<(), WriteFault>
-    requires short { datagram_length session.old.mixer.packer.spec ≤ 1452 }
-    requires some { 0 < session.old.mixer.packer.spec.frames }
-    requires ready { All (IsReadyFor (E.events source.now)) session.old.cursors }
-    ensures ready { All (IsReadyFor (E.events source.now)) session.new.cursors }
+    requires short { IsShort session.old.mixer.packer.spec }
+    requires some { HasSamples session.old.mixer.packer.spec }
+    requires ready { AreReady (E.events source.now) session.old.cursors }
+    ensures ready { AreReady (E.events source.now) session.new.cursors }
     ensures ok { OnOk result ((studio : Studio) → IsRunnableBy studio (E.events source.now)
         → HasPlayed studio (E.events source.now) session.old 0
         → HasReported studio (E.events source.now) (W.contents writer.old) text.old session.new
@@ -59,9 +58,9 @@ fn write_report<E: EventSource, W: Write>(
     source: &E,
     session: Session,
 ) -> Result<(), WriteFault>
-    requires short { datagram_length session.mixer.packer.spec ≤ 1452 }
-    requires some { 0 < session.mixer.packer.spec.frames }
-    requires ready { All (IsReadyFor (E.events source.now)) session.cursors }
+    requires short { IsShort session.mixer.packer.spec }
+    requires some { HasSamples session.mixer.packer.spec }
+    requires ready { AreReady (E.events source.now) session.cursors }
     ensures ok { OnOk result ((studio : Studio) → IsRunnableBy studio (E.events source.now)
         → HasPlayed studio (E.events source.now) session 0
         → WritesReport studio (E.events source.now) (W.contents writer.old) text.old (W.contents writer.new) text.new) }
@@ -86,9 +85,9 @@ pub(crate) fn write_whole_report<E: EventSource, W: Write>(
     session: Session,
 ) -> Result<(), WriteFault>
     requires empty { text.old ≡ [] }
-    requires short { datagram_length session.mixer.packer.spec ≤ 1452 }
-    requires some { 0 < session.mixer.packer.spec.frames }
-    requires ready { All (IsReadyFor (E.events source.now)) session.cursors }
+    requires short { IsShort session.mixer.packer.spec }
+    requires some { HasSamples session.mixer.packer.spec }
+    requires ready { AreReady (E.events source.now) session.cursors }
     ensures ok { OnOk result ((studio : Studio) → IsRunnableBy studio (E.events source.now)
         → HasPlayed studio (E.events source.now) session 0
         → (report : List ℕ) × IsReport studio (E.events source.now) report
@@ -169,7 +168,7 @@ pub fn write_counts<E: EventSource, W: Write>(
     source: &E,
     cursors: &mut [Cursor],
 ) -> Result<(), WriteFault>
-    requires ready { All (IsReadyFor (E.events source.now)) cursors.old }
+    requires ready { AreReady (E.events source.now) cursors.old }
     ensures ok { OnOk result ((studio : Studio) → IsRunnableBy studio (E.events source.now)
         → ArePulled studio (E.events source.now) cursors.old
         → PassesOn (W.contents writer.old) text.old (W.contents writer.new) text.new

@@ -7,7 +7,7 @@ use crate::trace::line::{LineEvent, read_event, split_line};
 use thiserror::Error;
 
 /// The greatest number of events of a trace.
-const MAX_EVENTS: usize = 1_000_000;
+pub const MAX_EVENTS: usize = 1_000_000;
 
 /// The fault of a line: the first of these that holds. Its text is the kind's word.
 #[derive(Clone, Copy, Debug, PartialEq, Eq, Error)]

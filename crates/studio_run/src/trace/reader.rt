@@ -7,7 +7,7 @@ use crate::trace::fault::{TraceFault, TraceFaultKind, read_line};
 use crate::trace::text_events::{TextEvent, text_event};
 
 /// The greatest length of a trace in octets, 64 MiB.
-pub(crate) const MAX_TRACE_OCTETS: usize = 67_108_864;
+pub const MAX_TRACE_OCTETS: usize = 67_108_864;
 
 /// A trace, read up to the beginning of a line.
 #[derive(Drop)]

@@ -34,27 +34,31 @@ fn is_served(
 }
 
 /// Requests that are answered in few words.
-const SHORT: [(&str, &str); 9] = [
+const SHORT: [(&str, &str); 12] = [
     (
-        "GET /nothing HTTP/1.1\r\nHost: h\r\n\r\n",
-        "HTTP/1.1 404 Not Found\r\ncontent-length: 0\r\n\r\n",
+        "GET /nothing HTTP/1.1\r\nHost: localhost\r\n\r\n",
+        "HTTP/1.1 404 Not Found\r\ncache-control: no-store\r\nx-content-type-options: nosniff\r\n\
+        content-length: 0\r\n\r\n",
     ),
     (
-        "POST / HTTP/1.1\r\nHost: h\r\nContent-Length: 2\r\n\r\nhi",
-        "HTTP/1.1 405 Method Not Allowed\r\nallow: GET, HEAD\r\ncontent-length: 0\r\n\r\n",
+        "POST / HTTP/1.1\r\nHost: localhost\r\nContent-Length: 2\r\n\r\nhi",
+        "HTTP/1.1 405 Method Not Allowed\r\nallow: GET, HEAD\r\ncache-control: no-store\r\n\
+        x-content-type-options: nosniff\r\ncontent-length: 0\r\n\r\n",
     ),
     (
-        "DELETE /metrics?x HTTP/1.1\r\nHost: h\r\n\r\nGET /favicon.ico HTTP/1.1\r\nHost: h\r\n\r\n",
-        "HTTP/1.1 405 Method Not Allowed\r\nallow: GET, HEAD\r\ncontent-length: 0\r\n\r\n\
-        HTTP/1.1 404 Not Found\r\ncontent-length: 0\r\n\r\n",
+        "DELETE /metrics?x HTTP/1.1\r\nHost: localhost\r\n\r\nGET /favicon.ico HTTP/1.1\r\nHost: localhost\r\n\r\n",
+        "HTTP/1.1 405 Method Not Allowed\r\nallow: GET, HEAD\r\ncache-control: no-store\r\n\
+        x-content-type-options: nosniff\r\ncontent-length: 0\r\n\r\n\
+        HTTP/1.1 404 Not Found\r\ncache-control: no-store\r\nx-content-type-options: nosniff\r\n\
+        content-length: 0\r\n\r\n",
     ),
     (
-        "HEAD /state HTTP/1.0\r\n\r\n",
+        "HEAD /state HTTP/1.0\r\nHost: 127.0.0.1:8080\r\n\r\n",
         "HTTP/1.0 200 OK\r\ncontent-type: application/json\r\ncache-control: no-store\r\n\
-        content-length: 623\r\nconnection: close\r\n\r\n",
+        x-content-type-options: nosniff\r\ncontent-length: 841\r\nconnection: close\r\n\r\n",
     ),
     (
-        "PUT /state HTTP/1.1\r\nHost: h\r\nContent-Length: 8193\r\n\r\n",
+        "PUT /state HTTP/1.1\r\nHost: localhost\r\nContent-Length: 8193\r\n\r\n",
         "HTTP/1.1 413 Payload Too Large\r\nconnection: close\r\ncontent-length: 0\r\n\r\n",
     ),
     (
@@ -66,13 +70,31 @@ const SHORT: [(&str, &str); 9] = [
         "HTTP/1.1 400 Bad Request\r\nconnection: close\r\ncontent-length: 0\r\n\r\n",
     ),
     (
-        "GET / HTTP/1.1\r\nHost: h\r\nContent-Length: 5\r\n\r\n",
+        "GET / HTTP/1.1\r\nHost: localhost\r\nContent-Length: 5\r\n\r\n",
         "HTTP/1.1 400 Bad Request\r\nconnection: close\r\ncontent-length: 0\r\n\r\n",
+    ),
+    (
+        "GET /state HTTP/1.1\r\nHost: evil.example:8080\r\n\r\n",
+        "HTTP/1.1 421 Misdirected Request\r\ncontent-type: text/plain; charset=utf-8\r\n\
+        cache-control: no-store\r\nx-content-type-options: nosniff\r\ncontent-length: 67\r\n\r\n\
+        The page answers only to the hosts 127.0.0.1, localhost and [::1].\n",
+    ),
+    (
+        "GET http://evil.example/state HTTP/1.1\r\nHost: localhost\r\n\r\n",
+        "HTTP/1.1 421 Misdirected Request\r\ncontent-type: text/plain; charset=utf-8\r\n\
+        cache-control: no-store\r\nx-content-type-options: nosniff\r\ncontent-length: 67\r\n\r\n\
+        The page answers only to the hosts 127.0.0.1, localhost and [::1].\n",
+    ),
+    (
+        "GET http://[::1]:9000/nothing HTTP/1.1\r\nHost: evil.example\r\n\r\n",
+        "HTTP/1.1 404 Not Found\r\ncache-control: no-store\r\nx-content-type-options: nosniff\r\n\
+        content-length: 0\r\n\r\n",
     ),
     ("", ""),
 ];
 
-/// Unknown paths, methods that don't read, heads alone, bodies that are too long or cut, and text that is no request.
+/// Unknown paths, other hosts, methods that don't read, heads alone, bodies that are too long or cut, and text that is
+/// no request.
 #[test]
 fn requests_are_answered_octet_by_octet(rt: HostRuntime) {
     let page = &mut Page::new(rt.alloc(), snapshot(&rt));
@@ -96,16 +118,17 @@ fn is_answered(
 /// Returns the octets that a client gets that asks for the state and then for the page, up to the page's length.
 const KEPT: [&str; 3] = [
     "HTTP/1.1 200 OK\r\ncontent-type: application/json\r\ncache-control: no-store\r\n\
-    content-length: 623\r\n\r\n",
+    x-content-type-options: nosniff\r\ncontent-length: 841\r\n\r\n",
     STATE,
-    "HTTP/1.1 200 OK\r\ncontent-type: text/html; charset=utf-8\r\ncache-control: no-store\r\ncontent-length: ",
+    "HTTP/1.1 200 OK\r\ncontent-type: text/html; charset=utf-8\r\ncache-control: no-store\r\n\
+    x-content-type-options: nosniff\r\ncontent-length: ",
 ];
 
 /// One request after another on one connection: each has its answer whole, with the length of its body.
 #[test]
 fn a_connection_is_kept(rt: HostRuntime) {
     let page = &mut Page::new(rt.alloc(), snapshot(&rt));
-    let requests = b"GET /state HTTP/1.1\r\nHost: h\r\n\r\nGET /?now HTTP/1.1\r\nHost: h\r\n\r\n";
+    let requests = b"GET /state HTTP/1.1\r\nHost: localhost\r\n\r\nGET /?now HTTP/1.1\r\nHost: localhost\r\n\r\n";
     has_kept_parts(&rt, &answers(&rt, rt.alloc(), page, requests));
 }
 
@@ -127,7 +150,7 @@ fn long_request(rt: &impl Abort, alloc: Global, front: &str) -> Vec<u8> {
 
 /// The begin of a request that is too long, and of its answer.
 const LONG: [(&str, &str); 2] = [
-    ("GET / HTTP/1.1\r\nHost: h\r\nX: ", "HTTP/1.1 431 "),
+    ("GET / HTTP/1.1\r\nHost: localhost\r\nX: ", "HTTP/1.1 431 "),
     ("GET /", "HTTP/1.1 414 "),
 ];
 

@@ -1,7 +1,8 @@
 //! A snapshot, in which each number is another.
 use rtp_stream::{Counts, PathCounts};
 use status_page::{
-    ArrivalMargin, Condition, CopyCounts, OutputState, PathState, Snapshot, StreamName, StreamState,
+    ArrivalMargin, Condition, CopyCounts, OutputState, PathState, RecordState, Snapshot,
+    SocketState, StreamName, StreamState,
 };
 use std::process::Abort;
 
@@ -16,7 +17,7 @@ fn path_counts() -> PathCounts {
     counts
 }
 
-/// A path whose packets came 12 and 30 sampling instants before their deadlines.
+/// A path whose packets came 12 and 30 sampling instants before their deadlines, and which was given up since.
 fn heard_path() -> PathState {
     PathState {
         datagrams: 2,
@@ -31,6 +32,12 @@ fn heard_path() -> PathState {
         spare: Some(ArrivalMargin {
             least: 12,
             median: 30,
+        }),
+        socket: Some(SocketState {
+            faults: 8,
+            has_ended: true,
+            dropped: Some(9),
+            unexpected: None,
         }),
     }
 }
@@ -65,11 +72,13 @@ fn add_output(rt: &impl Abort, snapshot: &mut Snapshot, peak: u32) {
     assert!(rt; snapshot.outputs.try_push(output).is_ok());
 }
 
-/// Returns a snapshot of that stream and of two output channels.
+/// Returns a snapshot of that stream, of two output channels, of failed sends and of a record.
 pub(super) fn snapshot(rt: &impl Abort) -> Snapshot {
     let mut snapshot = Snapshot::new();
     assert!(rt; snapshot.streams.try_push(stream(rt)).is_ok());
     add_output(rt, &mut snapshot, 8_388_608);
     add_output(rt, &mut snapshot, 0);
+    snapshot.failed_sends = [11, 13];
+    snapshot.record = RecordState::Closed(14);
     snapshot
 }

@@ -9,11 +9,12 @@ use std::process::Abort;
 use std::time::Duration;
 
 /// A request, and its answer.
-const REQUEST: &[u8] = b"GET /nothing HTTP/1.1\r\nHost: h\r\n\r\n";
+const REQUEST: &[u8] = b"GET /nothing HTTP/1.1\r\nHost: localhost\r\n\r\n";
 
-const ANSWER: &[u8] = b"HTTP/1.1 404 Not Found\r\ncontent-length: 0\r\n\r\n";
+const ANSWER: &[u8] = b"HTTP/1.1 404 Not Found\r\ncache-control: no-store\r\n\
+    x-content-type-options: nosniff\r\ncontent-length: 0\r\n\r\n";
 
-/// Who is taken, and who came past the 64th.
+/// The outcome of a client: it was answered, it was disconnected, or it waits.
 enum Fate {
     Answered,
     LetGo,
@@ -57,7 +58,7 @@ fn add_client(rt: &impl Abort, clients: &mut Vec<TcpStream>, client: io::Result<
     assert!(rt; clients.push(client).is_ok());
 }
 
-/// Tests that a server answers 64 of 70 clients, and lets all go after 10 s.
+/// Tests that a server answers 64 of 70 clients, and disconnects all after 10 s.
 fn serves(rt: &impl Abort, server: &mut PageServer, page: &mut Page, clients: &mut [TcpStream]) {
     for turn in 0..20 {
         server.wait(Duration::from_millis(10));
@@ -68,7 +69,8 @@ fn serves(rt: &impl Abort, server: &mut PageServer, page: &mut Page, clients: &m
     assert!(rt; fates_of(clients) == (0, 70));
 }
 
-/// 70 clients at once: 64 are answered, and the others let go. Those who then do nothing are let go after 10 s.
+/// 70 clients at once: the last six take the places of others, so 64 are answered. Those that then do nothing are
+/// disconnected after 10 s.
 #[test]
 fn clients_are_answered_or_let_go(rt: HostRuntime) {
     let page = &mut Page::new(rt.alloc(), snapshot(&rt));

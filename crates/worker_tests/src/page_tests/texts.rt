@@ -10,13 +10,14 @@ pub(super) const STATE: &str =
     \"arrived\":0,\"taken\":0,\"double\":0,\"unlike\":0,\"off_grid\":0,\"late\":0,\"ahead\":0,\"wrong_source\":0,\
     \"restarts\":0,\"latency\":240,\"paths\":[{\"datagrams\":2,\"first\":3,\"packets\":0,\"lost\":4,\
     \"double\":5,\"unlike\":6,\"late\":7,\"bad\":0,\"wrong_type\":0,\"wrong_length\":0,\"full\":2,\"spare_least\":12,\
-    \"spare_median\":30},{\"datagrams\":0,\"first\":0,\"packets\":null,\"lost\":null,\"double\":null,\"unlike\":null,\
+    \"spare_median\":30,\"unexpected\":null,\"socket_faults\":8,\"socket_ended\":1,\"socket_dropped\":9},{\"datagrams\":0,\"first\":0,\"packets\":null,\"lost\":null,\"double\":null,\"unlike\":null,\
     \"late\":null,\"bad\":null,\"wrong_type\":null,\"wrong_length\":null,\"full\":null,\"spare_least\":null,\
-    \"spare_median\":null}]}],\
-    \"outputs\":[{\"peak\":8388608,\"saturated\":2},{\"peak\":0,\"saturated\":2}]}";
+    \"spare_median\":null,\"unexpected\":null,\"socket_faults\":null,\"socket_ended\":null,\"socket_dropped\":null}]}],\
+    \"outputs\":[{\"peak\":8388608,\"saturated\":2},{\"peak\":0,\"saturated\":2}],\
+    \"failed_sends\":[11,13],\"record\":{\"state\":\"ended\",\"datagrams\":14}}";
 
 /// Parts of its metrics.
-const METRICS: [&str; 8] = [
+const METRICS: [&str; 12] = [
     "# HELP darbexum_stream_state Where the stream stands: 1 for the state that it is in, and 0 for the others.\n\
     # TYPE darbexum_stream_state gauge\n\
     darbexum_stream_state{stream=\"0\",name=\"L\\\"\\\\\\n<b>\",state=\"no_packet\"} 0\n\
@@ -30,6 +31,19 @@ const METRICS: [&str; 8] = [
     "darbexum_path_spare_least{stream=\"0\",name=\"L\\\"\\\\\\n<b>\",path=\"a\"} 12\n# HELP ",
     "# TYPE darbexum_output_peak gauge\ndarbexum_output_peak{output=\"0\"} 8388608\ndarbexum_output_peak{output=\"1\"} 0\n",
     "# TYPE darbexum_output_saturated_total counter\ndarbexum_output_saturated_total{output=\"0\"} 2\n",
+    "# TYPE darbexum_path_unexpected_total counter\n# HELP darbexum_path_socket_faults_total ",
+    "# TYPE darbexum_path_socket_ended gauge\n\
+    darbexum_path_socket_ended{stream=\"0\",name=\"L\\\"\\\\\\n<b>\",path=\"a\"} 1\n# HELP ",
+    "# TYPE darbexum_path_socket_dropped_total counter\n\
+    darbexum_path_socket_dropped_total{stream=\"0\",name=\"L\\\"\\\\\\n<b>\",path=\"a\"} 9\n# HELP ",
+    "# TYPE darbexum_sends_failed_total counter\n\
+    darbexum_sends_failed_total{copy=\"a\"} 11\ndarbexum_sends_failed_total{copy=\"b\"} 13\n\
+    # HELP darbexum_record_state The state of the record: 1 for the state that it is in, and 0 for the others.\n\
+    # TYPE darbexum_record_state gauge\n\
+    darbexum_record_state{state=\"none\"} 0\ndarbexum_record_state{state=\"writing\"} 0\n\
+    darbexum_record_state{state=\"ended\"} 1\n\
+    # HELP darbexum_record_datagrams_total Datagrams that the record holds.\n\
+    # TYPE darbexum_record_datagrams_total counter\ndarbexum_record_datagrams_total 14\n",
 ];
 
 /// Returns true if the state was written; else an allocation was refused.
@@ -52,7 +66,7 @@ fn the_state_is_json(rt: HostRuntime) {
             &rt,
             rt.alloc(),
             &Snapshot::new(),
-            "{\"streams\":[],\"outputs\":[]}"
+            "{\"streams\":[],\"outputs\":[],\"failed_sends\":[0,0],\"record\":{\"state\":\"none\",\"datagrams\":null}}"
         )
     );
 }

@@ -1,4 +1,5 @@
-use Rattle.std.proofs.Common.{◌≡◌, ℤ, List, length, replicate, sym, subst, ◌∙◌, to_z, of_z, w64, rules}
+use Rattle.std.proofs.Common.{◌≡◌, ℤ, List, length, replicate, sym, ap, subst, ◌∙◌, to_z, of_z, w64, rules}
+use Rattle.arrayvec.specs.ArrayVec.{ArrayVec}
 use Rattle.std.proofs.lemmas.Int.{to_z-of_z}
 use Rattle.std.specs.List.{refill}
 use Rattle.status_page.specs.declared.snapshot.OutputState.{OutputState}
@@ -9,7 +10,8 @@ use Rattle.live_status.specs.Outputs.{blank_output}
 use Rattle.live_status.specs.Publisher.{Shows}
 use Rattle.live_status.specs.EngineStatus.{IsEngineOutput, IsEngineStream, FillsStream}
 use Rattle.live_status.proofs.Each.{refilled}
-use Rattle.live_status.proofs.EngineStatusLemmas.{streams-filled}
+use Rattle.live_status.specs.Health.{KeepsStream}
+use Rattle.live_status.proofs.EngineStatusLemmas.{streams-filled, streams-kept}
 use Rattle.live_status.proofs.engine_status.EngineStatus.publish.Goals as goal
 
 pub returns-clause-shown : goal.returns-clause-shown
@@ -19,18 +21,18 @@ returns-clause-shown g c =
     let blank = c.blank_snapshot-snapshot.result in
     let streams = c.fill_streams.new.streams in
     let outputs = c.fill_engine_outputs.new.outputs in
-    let filled : Snapshot = record {
-      streams = record { items = refill (length blank.streams.items) blank.streams.items streams };
-      outputs = record { items = refill (length blank.outputs.items) blank.outputs.items outputs };
-    } in
+    let filled : Snapshot = c.fill_health.new.snapshot in
     let sees : AreEach (FillsStream engine) blank.streams.items streams = subst (λ (l : List StreamState). AreEach (FillsStream engine) l streams) c.as_mut_slice-streams.ensures.value c.fill_streams.ensures in
     let heard : AreEach (IsEngineOutput engine) blank.outputs.items outputs = subst (λ (l : List OutputState). AreEach (IsEngineOutput engine) l outputs) c.as_mut_slice.ensures.value c.fill_engine_outputs.ensures in
+    let same : refill (length blank.streams.items) blank.streams.items streams ≡ streams = refilled blank.streams.items streams sees.length_is in
+    let kept : AreEach KeepsStream streams filled.streams.items = subst (λ (l : List StreamState). AreEach KeepsStream l filled.streams.items) same c.fill_health.ensures.streams in
+    let all : filled.outputs.items ≡ outputs = ap (λ (o : ArrayVec OutputState). o.items) c.fill_health.ensures.outputs ∙ refilled blank.outputs.items outputs heard.length_is in
     let time : to_z w64 (of_z w64 c.time.result) ≡ engine.time = to_z-of_z w64 c.time.result (search rules) ∙ c.time.ensures.value in (
       filled,
       record {
-        streams = λ few. subst (λ (l : List StreamState). AreEach (IsEngineStream engine) publisher.streams.items l) (sym (refilled blank.streams.items streams sees.length_is))
-            (streams-filled engine publisher.streams.items blank.streams.items streams (c.blank_snapshot-snapshot.ensures.streams few) sees);
-        outputs = subst (λ (l : List OutputState). AreEach (IsEngineOutput engine) (replicate publisher.channels blank_output) l) (sym (refilled blank.outputs.items outputs heard.length_is))
+        streams = λ few. streams-kept engine publisher.streams.items streams filled.streams.items
+            (streams-filled engine publisher.streams.items blank.streams.items streams (c.blank_snapshot-snapshot.ensures.streams few) sees) kept;
+        outputs = subst (λ (l : List OutputState). AreEach (IsEngineOutput engine) (replicate publisher.channels blank_output) l) (sym all)
             (subst (λ (l : List OutputState). AreEach (IsEngineOutput engine) l outputs) c.blank_snapshot-snapshot.ensures.outputs heard);
       },
       subst (λ (now : ℤ). Shows publisher.streams.items now c.args.has_ended filled publisher.page c.publish.new.self.page) time c.publish.ensures.shown,

@@ -1,8 +1,7 @@
 use Rattle.std.proofs.Common.{◌≡◌, ◌++◌, [], Err, rules}
-use Rattle.rtp_stream.specs.Counts.{tally_of}
-use Rattle.studio_run.specs.LiveReport.{running_line}
+use Rattle.live_status.specs.Lines.{socket_line}
 use Rattle.studio_run.proofs.BufferLemmas.{PassesOn-grown, BreaksOff-longer}
-use Rattle.studio_run.proofs.lines.counts.write_running_counts.Goals as goal
+use Rattle.live_status.proofs.lines.running.write_socket_state.Goals as goal
 
 pub returns-in_err-make_room-clause-fault : goal.returns-in_err-make_room-clause-fault
 returns-in_err-make_room-clause-fault g c =
@@ -11,5 +10,5 @@ returns-in_err-make_room-clause-fault g c =
 
 pub returns-clause-ok : goal.returns-clause-ok
 returns-clause-ok g c =
-    let grown : c.push_running_line.new.text ≡ c.make_room.new.self ++ running_line c.args.stream c.args.paths c.args.time (tally_of c.args.counts.now) = search rules in
+    let grown : c.push_socket_line.new.text ≡ c.make_room.new.self ++ socket_line c.args.stream c.args.path c.args.time c.args.socket.now = search rules in
     PassesOn-grown _ _ _ _ _ _ c.in_ok-make_room.ensures.ok grown

@@ -1,26 +1,24 @@
-//! The lines that only a live run's report has.
+//! The lines that only the report of a live run has.
 ghost use Rattle.std.specs.Prelude.{◌≡◌, ◌+◌, ◌≤◌, ◌++◌, length, OnOk, OnErr};
 ghost use Rattle.studio_run.specs.Buffer.{PassesOn, BreaksOff};
-ghost use Rattle.studio_run.specs.LiveReport.{feed_line, sink_line};
+ghost use Rattle.live_status.specs.Lines.{feed_line, sink_line};
 
-use crate::buffer::TextBuffer;
-use crate::lines::counts::push_count;
-use crate::text_io::WriteFault;
-use path_merge::Path;
+use rtp_stream::Path;
 use std::io::Write;
+use studio_run::{TextBuffer, WriteFault, push_count};
 
-/// The counts of a sink: the output's datagrams, and how its two addresses took them.
+/// The counts of a sink: the datagrams of the output, and how many were sent to each of its two addresses.
 #[derive(Clone, Copy, Debug, PartialEq, Eq)]
 pub struct SinkCounts {
     /// The number of datagrams of the output.
     pub blocks: u64,
-    /// The number of datagrams that the first address took.
+    /// The number of datagrams that were sent to the first address.
     pub sent_a: u64,
-    /// The number of datagrams that the second address took.
+    /// The number of datagrams that were sent to the second address.
     pub sent_b: u64,
-    /// The number of datagrams that the first address didn't take.
+    /// The number of datagrams that were not sent to the first address.
     pub fault_a: u64,
-    /// The number of datagrams that the second address didn't take.
+    /// The number of datagrams that were not sent to the second address.
     pub fault_b: u64,
 }
 

@@ -1,6 +1,6 @@
 use Rattle.std.proofs.Common.{◌≡◌, [], Err, rules}
 use Rattle.studio_run.proofs.BufferLemmas.{PassesOn-grown, BreaksOff-longer}
-use Rattle.studio_run.proofs.lines.live.write_feed_faults.Goals as goal
+use Rattle.live_status.proofs.lines.report.write_feed_faults.Goals as goal
 
 pub returns-in_err-make_room-clause-fault : goal.returns-in_err-make_room-clause-fault
 returns-in_err-make_room-clause-fault g c =

@@ -1,0 +1,59 @@
+-- The lines of a live run: those of its report that a played one does not have, and those while it goes on.
+use Rattle.std.specs.Prelude.{ℕ, ℤ, Bool, true, false, ◌++◌, ◌∷◌, [], List, Option, Some, None, codes}
+use Rattle.std.specs.Fmt.{decimal, signed_decimal}
+use Rattle.rtp_stream.specs.CountsFacts.{Tally}
+use Rattle.rtp_stream.specs.Path.{path_letter}
+use Rattle.studio_run.specs.Report.{count_text, tally_text}
+use Rattle.status_page.specs.Record.{record_datagrams, record_text}
+use Rattle.status_page.specs.declared.snapshot.RecordState.{RecordState}
+use Rattle.status_page.specs.declared.snapshot.SocketState.{SocketState}
+use Rattle.live_status.specs.declared.lines.report.SinkCounts.{SinkCounts}
+
+-- the line of a path's feed: how often it failed
+abbrev pub feed_line : ℕ → ℕ → ℕ → List ℕ
+feed_line stream path faults = codes "feed " ++ decimal stream ++ codes " " ++ path_letter path ++ count_text (codes "faults") faults ++ 10 ∷ []
+
+-- the line of a sink
+abbrev pub sink_line : SinkCounts → List ℕ
+sink_line counts =
+    codes "sink" ++ count_text (codes "blocks") counts.blocks
+    ++ count_text (codes "sent_a") counts.sent_a
+    ++ count_text (codes "sent_b") counts.sent_b
+    ++ count_text (codes "fault_a") counts.fault_a
+    ++ count_text (codes "fault_b") counts.fault_b
+    ++ 10 ∷ []
+
+-- the line of a stream with so many paths, at this reading of the clock: each number behind its word and a sign
+abbrev pub running_line : ℕ → ℕ → ℤ → Tally → List ℕ
+running_line stream paths time counts =
+    codes "stream=" ++ decimal stream ++ codes " time=" ++ signed_decimal time ++ tally_text (codes "=") paths counts ++ 10 ∷ []
+
+-- whether something holds
+abbrev pub flag_text : Bool → List ℕ
+flag_text true = codes "1"
+flag_text false = codes "0"
+
+-- a number, or a dash where it is not known
+abbrev pub known_text : Option ℕ → List ℕ
+known_text None = codes "-"
+known_text (Some number) = decimal number
+
+-- the line of the socket of a path, at this reading of the clock
+abbrev pub socket_line : ℕ → ℕ → ℤ → SocketState → List ℕ
+socket_line stream path time socket =
+    codes "socket=" ++ decimal stream ++ path_letter path ++ codes " time=" ++ signed_decimal time
+    ++ codes " faults=" ++ decimal socket.faults
+    ++ codes " ended=" ++ flag_text socket.has_ended
+    ++ codes " dropped=" ++ known_text socket.dropped
+    ++ codes " unexpected=" ++ known_text socket.unexpected
+    ++ codes "\n"
+
+-- the line of a run, at this reading of the clock: what was not sent of each copy of the mix, and its record
+abbrev pub run_line : ℤ → ℕ → ℕ → RecordState → List ℕ
+run_line time failed_a failed_b state =
+    codes "run time=" ++ signed_decimal time
+    ++ codes " failed_a=" ++ decimal failed_a
+    ++ codes " failed_b=" ++ decimal failed_b
+    ++ codes " record=" ++ record_text state
+    ++ codes " recorded=" ++ known_text (record_datagrams state)
+    ++ codes "\n"

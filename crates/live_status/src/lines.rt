@@ -1,0 +1,5 @@
+//! The lines of a live run: `report` has those that only its report has, and `running` those on standard error while it
+//! goes on.
+
+pub(crate) mod report;
+pub(crate) mod running;

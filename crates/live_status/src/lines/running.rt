@@ -1,0 +1,156 @@
+//! The lines on standard error while a run goes on: of a stream's counts, of a path's socket, and of the run itself.
+ghost use Rattle.std.specs.Prelude.{◌≡◌, ◌+◌, ◌≤◌, ◌++◌, length, OnOk, OnErr};
+ghost use Rattle.rtp_stream.specs.Counts.{tally_of};
+ghost use Rattle.studio_run.specs.Buffer.{PassesOn, BreaksOff};
+ghost use Rattle.status_page.specs.Record.{record_text};
+ghost use Rattle.live_status.specs.Lines.{flag_text, known_text, run_line, running_line, socket_line};
+
+use rtp_stream::{Counts, Path};
+use status_page::{RecordState, SocketState};
+use std::io::Write;
+use studio_run::{TextBuffer, WriteFault, push_tally};
+
+/// Writes the line of a stream's counts at a clock reading, in sampling instants: each number after its word and `=`.
+/// The stream has `paths` paths.
+pub(crate) fn write_running_counts<W: Write>(
+    text: &mut TextBuffer,
+    writer: &mut W,
+    stream: u8,
+    paths: u8,
+    time: i64,
+    counts: &Counts,
+) -> Result<(), WriteFault>
+    ensures ok { OnOk result (PassesOn (W.contents writer.old) text.old (W.contents writer.new) text.new
+        (running_line stream paths time (tally_of counts.now))) }
+    ensures fault { OnErr result (BreaksOff (W.contents writer.old) text.old (W.contents writer.new)
+        (running_line stream paths time (tally_of counts.now))) }
+{
+    text.make_room(writer)?;
+    push_running_line(text, stream, paths, time, counts);
+    Ok(())
+}
+
+/// Adds the line of a stream's counts.
+fn push_running_line(text: &mut TextBuffer, stream: u8, paths: u8, time: i64, counts: &Counts)
+    requires { length text.old + 4096 ≤ 65536 }
+    ensures { text.new ≡ text.old ++ running_line stream paths time (tally_of counts.now) }
+{
+    text.push("stream=");
+    text.push_number(stream);
+    text.push(" time=");
+    text.push_number(time);
+    push_tally(text, "=", paths, counts);
+    text.push("\n");
+}
+
+/// Writes the line of the state of a path's socket at a clock reading, in sampling instants. A number that is not known
+/// is a dash.
+pub(crate) fn write_socket_state<W: Write>(
+    text: &mut TextBuffer,
+    writer: &mut W,
+    stream: u8,
+    path: Path,
+    time: i64,
+    socket: &SocketState,
+) -> Result<(), WriteFault>
+    ensures ok { OnOk result (PassesOn (W.contents writer.old) text.old (W.contents writer.new) text.new
+        (socket_line stream path time socket.now)) }
+    ensures fault { OnErr result (BreaksOff (W.contents writer.old) text.old (W.contents writer.new)
+        (socket_line stream path time socket.now)) }
+{
+    text.make_room(writer)?;
+    push_socket_line(text, stream, path, time, socket);
+    Ok(())
+}
+
+/// Adds the line of the state of a path's socket.
+fn push_socket_line(text: &mut TextBuffer, stream: u8, path: Path, time: i64, socket: &SocketState)
+    requires { length text.old + 4096 ≤ 65536 }
+    ensures { text.new ≡ text.old ++ socket_line stream path time socket.now }
+{
+    text.push("socket=");
+    text.push_number(stream);
+    text.push(path.letter());
+    text.push(" time=");
+    text.push_number(time);
+    text.push(" faults=");
+    text.push_number(socket.faults);
+    text.push(" ended=");
+    text.push(flag_text(socket.has_ended));
+    text.push(" dropped=");
+    push_known(text, socket.dropped);
+    text.push(" unexpected=");
+    push_known(text, socket.unexpected);
+    text.push("\n");
+}
+
+/// Returns `1` if something holds, and `0` otherwise.
+fn flag_text(holds: bool) -> &'static str
+    ensures text { result.now ≡ flag_text holds }
+    ensures one { length result.now ≡ 1 }
+{
+    if holds { "1" } else { "0" }
+}
+
+/// Adds a number, or a dash if it is not known.
+fn push_known(text: &mut TextBuffer, number: Option<u64>)
+    requires { length text.old + 40 ≤ 65536 }
+    ensures text { text.new ≡ text.old ++ known_text number }
+    ensures few { length text.new ≤ length text.old + 40 }
+{
+    match number {
+        Some(number) => text.push_number(number),
+        None => text.push("-"),
+    }
+}
+
+/// Writes the line of a run at a clock reading, in sampling instants: the datagrams of each copy of the mix that were
+/// not sent, and the state of the record with the number of datagrams that it holds.
+pub(crate) fn write_run_state<W: Write>(
+    text: &mut TextBuffer,
+    writer: &mut W,
+    time: i64,
+    failed_a: u64,
+    failed_b: u64,
+    state: RecordState,
+) -> Result<(), WriteFault>
+    ensures ok { OnOk result (PassesOn (W.contents writer.old) text.old (W.contents writer.new) text.new
+        (run_line time failed_a failed_b state)) }
+    ensures fault { OnErr result (BreaksOff (W.contents writer.old) text.old (W.contents writer.new)
+        (run_line time failed_a failed_b state)) }
+{
+    text.make_room(writer)?;
+    push_run_line(text, time, failed_a, failed_b, state);
+    Ok(())
+}
+
+/// Adds the line of a run.
+fn push_run_line(text: &mut TextBuffer, time: i64, failed_a: u64, failed_b: u64, state: RecordState)
+    requires { length text.old + 4096 ≤ 65536 }
+    ensures { text.new ≡ text.old ++ run_line time failed_a failed_b state }
+{
+    text.push("run time=");
+    text.push_number(time);
+    text.push(" failed_a=");
+    text.push_number(failed_a);
+    text.push(" failed_b=");
+    text.push_number(failed_b);
+    text.push(" record=");
+    push_state(text, state);
+    text.push(" recorded=");
+    push_known(text, state.datagrams());
+    text.push("\n");
+}
+
+/// Adds the name of a record's state.
+fn push_state(text: &mut TextBuffer, state: RecordState)
+    requires { length text.old + 40 ≤ 65536 }
+    ensures text { text.new ≡ text.old ++ record_text state }
+    ensures few { length text.new ≤ length text.old + 40 }
+{
+    match state {
+        RecordState::Absent => text.push("none"),
+        RecordState::Writing(_) => text.push("writing"),
+        RecordState::Closed(_) => text.push("ended"),
+    }
+}
