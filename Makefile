@@ -13,21 +13,22 @@ names := $(wordlist 2,$(words $(MAKECMDGOALS)),$(MAKECMDGOALS))
 $(names): ;@:
 endif
 
-.PHONY: help build run try test test-memory check mutants fmt install clean
+.PHONY: help build run try test test-memory check mutants fmt install deb clean
 
 help:
 	@echo "make run      the program on its stored example; not proved if it is not built"
 	@echo "make try      the worked traces and the tests of reception; nothing is proved"
-	@echo "make build    prove and build bin/darbexum and bin/darbexum-live; with CPU=v3, for x86-64-v3"
+	@echo "make build    prove and build bin/darbexum, with bin/darbexum-live and -sdp; with CPU=v3, for x86-64-v3"
 	@echo "make test     the gate: pages, every proof from nothing, the gate's wrong bodies, tests, stored runs"
 	@echo "make check    every crate's proofs, over what earlier checks kept"
 	@echo "make mutants [CRATE ..]  all wrong bodies of these crates, or of all, and their record mutants/refused.txt"
 	@echo "make test-memory  what the gate has built, with each allocation refused in turn"
 	@echo "make fmt      lay out every file"
-	@echo "make install  the programs into PREFIX/bin (/usr/local), their pages into PREFIX/share/doc/darbexum"
+	@echo "make install  programs, man pages, completions, service and alerts below PREFIX (/usr/local), and DESTDIR before it"
+	@echo "make deb      the same as a Debian package, in bin/"
 	@echo "make clean    what was built and kept"
 
-build: bin/darbexum bin/darbexum-live
+build: bin/darbexum bin/darbexum-live bin/darbexum-sdp
 
 # Proves what no earlier run on this machine proved, builds the program, and runs it on its stored input.
 bin/darbexum: $(sources) bin/.x86-64-$(CPU)
@@ -39,8 +40,8 @@ bin/.x86-64-%:
 	rm -f bin/.x86-64-*
 	touch $@
 
-bin/darbexum-live: darbexum-live
-	install -D darbexum-live $@
+bin/darbexum-live bin/darbexum-sdp: bin/%: %
+	install -D $* $@
 
 # With nothing built, or with sources that are newer, by a run that proves nothing.
 run:
@@ -48,7 +49,7 @@ run:
 
 # The scripts drive the program that the gate has built: side by side, but for those that a busy machine would disturb.
 program := crates/studio_main/out/studio_main
-scripts := memory/check tests/captures diff/run $(addprefix examples/,check faults statuses blocks wav chart)
+scripts := memory/check tests/captures tests/sdp tests/package diff/run $(addprefix examples/,check faults statuses blocks wav chart)
 
 try:
 	@gate/try
@@ -61,7 +62,7 @@ test:
 	tests/sockets $(program)
 	tests/page $(program)
 	tests/networks $(program)
-	@echo "gate: pages, proofs, edits, tests, examples, faults, statuses, blocks, WAV files, charts, captures, engine, memory, live runs, sockets, pages and networks passed"
+	@echo "gate: pages, proofs, edits, tests, examples, faults, statuses, blocks, WAV files, charts, captures, SDP files, package, engine, memory, live runs, pages and networks passed"
 
 %.ran:
 	$* $(program)
@@ -85,8 +86,10 @@ fmt:
 	for crate in crates/*/; do (cd "$$crate" && rt fmt) || exit 1; done
 
 install: build
-	install -D -t $(DESTDIR)$(PREFIX)/bin bin/darbexum bin/darbexum-live
-	install -D -m 644 -t $(DESTDIR)$(PREFIX)/share/doc/darbexum docs/FORMATS.md docs/LIVE.md
+	DESTDIR=$(DESTDIR) PREFIX=$(PREFIX) packaging/install bin/darbexum
+
+deb: build
+	packaging/deb bin/darbexum bin
 
 clean:
 	rm -rf bin crates/*/out
