@@ -1,6 +1,11 @@
 -- What is shown of a path's packets.
-use Rattle.std.specs.Prelude.{◌≡◌, ℕ, ◌+◌, ◌-◌, ◌^◌, min, List, slice_index, slice_get, Some}
+use Rattle.std.specs.Prelude.{◌≡◌, ℕ, ℤ, ◌+◌, ◌-◌, ◌^◌, min, List, Option, slice_index, slice_get, Some, None}
 use Rattle.rtp_stream.specs.declared.counts.Counts.{Counts}
+use Rattle.rtp_stream.specs.declared.stream_spec.Stream.{Stream}
+use Rattle.rtp_stats.specs.Offer.{Offer}
+use Rattle.rtp_stats.specs.Stats.{AreNumbers}
+use Rattle.rtp_stats.specs.Tally.{HasTally}
+use Rattle.rtp_stats.specs.declared.copy_tracker.CopyTracker.{CopyTracker}
 use Rattle.rtp_stats.specs.declared.stats.PathStats.{PathStats}
 use Rattle.status_page.specs.declared.snapshot.CopyCounts.{CopyCounts}
 use Rattle.status_page.specs.declared.snapshot.PathState.{PathState}
@@ -17,6 +22,16 @@ copies_of numbers lost = record {
 -- a path with these numbers, of a stream that lost so many
 abbrev pub with_numbers : PathStats → ℕ → PathState → PathState
 with_numbers numbers lost path = record path { copies = Some (copies_of numbers lost); spare = numbers.spare }
+
+-- a path with the numbers of its packets by this time, as its stream's tracker has them, of a stream that lost so many
+abbrev pub HasPathStats : CopyTracker → ℕ → ℤ → ℕ → PathState → Type 0
+HasPathStats tracker path now lost shown = (stream : Stream) (offers : List Offer) → HasTally stream offers tracker.tally → (numbers : PathStats)
+    × AreNumbers stream offers path now numbers × (shown.copies ≡ Some (copies_of numbers lost)) × (shown.spare ≡ numbers.spare)
+
+-- where there is a tracker; else they are what they were
+abbrev pub ShowsCopies : Option CopyTracker → ℕ → ℤ → ℕ → PathState → PathState → Type 0
+ShowsCopies None path now lost old new = (new.copies ≡ old.copies) × (new.spare ≡ old.spare)
+ShowsCopies (Some tracker) path now lost old new = HasPathStats tracker path now lost new
 
 -- of a path at its place, among these counts and numbers: its first copies, and what became of the others
 abbrev pub IsTold : Counts → List PathStats → ℕ → PathState → PathState → Type 0

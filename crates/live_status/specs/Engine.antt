@@ -11,7 +11,9 @@ use Rattle.studio_session.specs.Event.{TraceEvent}
 use Rattle.studio_session.specs.Report.{merge_tally_of}
 use Rattle.studio_engine.specs.Engine.{EngineState, HasAllMarks}
 use Rattle.studio_engine.specs.Session.{HasSession}
+use Rattle.rtp_stats.specs.declared.copy_tracker.CopyTracker.{CopyTracker}
 use Rattle.status_page.specs.declared.snapshot.PathState.{PathState}
+use Rattle.live_status.specs.Copies.{ShowsCopies}
 
 -- of the events that were passed to an engine, the counts of this stream's merge, once its marks were taken
 abbrev pub HasEngineCounts : EngineState → ℕ → Counts → Type 0
@@ -25,7 +27,8 @@ HasEngineBefore engine number path shown offered = IsSomeAnd shown (λ counts. (
     × ((studio : Studio) (events : List TraceEvent) (datagrams : List (List ℕ)) (stream : Stream) → HasSession studio engine events datagrams → slice_get studio.streams number ≡ Some stream
     → path_tally_of counts ≡ path_counts_of stream number path events))
 
--- of a path at its place: its first copies among these counts, and what became of its datagrams
-pub record IsEnginePath (engine : EngineState) (number : ℕ) (counts : Counts) (place : ℕ) (old new : PathState) : Type 0 where
+-- of a path at its place: its first copies among these counts, what became of its datagrams, and its copies by the stream's tracker
+pub record IsEnginePath (engine : EngineState) (tracker : Option CopyTracker) (number : ℕ) (counts : Counts) (place : ℕ) (old new : PathState) : Type 0 where
   pub first : place < 4 → new.first ≡ slice_index counts.taken_by place
   pub before : place < 4 → HasEngineBefore engine number place new.counts new.datagrams
+  pub copies : place < 4 → ShowsCopies tracker place engine.time counts.lost old new

@@ -65,7 +65,7 @@ pub(crate) fn note_offer(
     due: Option<i64>,
     now: i64,
 )
-    ensures { AddsOfferAt number path fate numbers.seq now trackers.old trackers.new }
+    ensures { AddsOfferAt number path fate numbers.seq numbers.ts due now trackers.old trackers.new }
 {
     if number < trackers.len() {
         trackers[number].note(path, numbers.seq, numbers.ts, fate, due, now);

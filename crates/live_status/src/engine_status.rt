@@ -13,12 +13,16 @@ ghost use Rattle.std.specs.Prelude.{
   IsNone,
   MatchBool,
   MatchOption,
+  option_copied,
+  slice_get,
 };
 ghost use Rattle.live_status.specs.Each.{AreEach};
+ghost use Rattle.studio_engine.specs.Engine.{stream_deadline_of};
+ghost use Rattle.live_status.specs.Copies.{ShowsCopies};
 ghost use Rattle.live_status.specs.Engine.{HasEngineBefore, IsEnginePath};
 ghost use Rattle.live_status.specs.EngineOffers.{IsNewTracker, Notes};
 ghost use Rattle.live_status.specs.Publisher.{is_due_at};
-ghost use Rattle.live_status.specs.EngineStatus.{IsEngineOutput, HasPathStats, FillsStream, ShowsEngine};
+ghost use Rattle.live_status.specs.EngineStatus.{IsEngineOutput, FillsStream, FillsStreamAt, ShowsEngine};
 
 use crate::engine_offers::{copy_trackers, note_offer, numbers_of};
 use crate::health::{HealthSource, fill_health};
@@ -83,7 +87,8 @@ impl<'a, E: Write + Drop, H: HealthSource> EngineStatus<'a, E, H> {
         octets: &[u8],
         receipt: ArriveOutcome,
     )
-        ensures noted { Notes receipt stream path octets.now engine.now.time
+        ensures noted { Notes receipt stream path octets.now
+            (stream_deadline_of (slice_get engine.now.cursors stream)) engine.now.time
             self.old.trackers.items self.new.trackers.items }
         ensures publisher { self.new.publisher ≡ self.old.publisher }
     {
@@ -101,7 +106,7 @@ impl<'a, E: Write + Drop, H: HealthSource> EngineStatus<'a, E, H> {
     /// Publishes the engine's status, if a snapshot or lines are due by the engine's time.
     pub fn publish_if_due(&mut self, engine: &Engine)
         ensures shown { MatchBool (is_due_at self.old.publisher engine.now.time)
-            (ShowsEngine engine.now false self.old.publisher self.new.publisher)
+            (ShowsEngine engine.now self.old.trackers.items false self.old.publisher self.new.publisher)
             (self.new.publisher ≡ self.old.publisher) }
         ensures trackers { self.new.trackers ≡ self.old.trackers }
     {
@@ -112,7 +117,7 @@ impl<'a, E: Write + Drop, H: HealthSource> EngineStatus<'a, E, H> {
 
     /// Publishes the status of an engine that was closed, as the last one.
     pub fn publish_last(&mut self, engine: &Engine)
-        ensures shown { ShowsEngine engine.now true self.old.publisher self.new.publisher }
+        ensures shown { ShowsEngine engine.now self.old.trackers.items true self.old.publisher self.new.publisher }
         ensures trackers { self.new.trackers ≡ self.old.trackers }
     {
         self.publish(engine, true);
@@ -120,7 +125,7 @@ impl<'a, E: Write + Drop, H: HealthSource> EngineStatus<'a, E, H> {
 
     /// Publishes the engine's status.
     fn publish(&mut self, engine: &Engine, has_ended: bool)
-        ensures shown { ShowsEngine engine.now has_ended self.old.publisher self.new.publisher }
+        ensures shown { ShowsEngine engine.now self.old.trackers.items has_ended self.old.publisher self.new.publisher }
         ensures trackers { self.new.trackers ≡ self.old.trackers }
     {
         let mut snapshot = self.publisher.blank_snapshot();
@@ -134,7 +139,7 @@ impl<'a, E: Write + Drop, H: HealthSource> EngineStatus<'a, E, H> {
 
 /// Fills in the streams of an engine.
 fn fill_streams(engine: &Engine, trackers: &[CopyTracker], streams: &mut [StreamState])
-    ensures { AreEach (FillsStream engine.now) streams.old streams.new }
+    ensures { AreEach (FillsStreamAt engine.now trackers.now) streams.old streams.new }
 {
     for (number, stream) in streams.iter_mut().enumerate() {
         fill_engine_stream(engine, number, trackers.get(number), stream);
@@ -158,7 +163,7 @@ fn fill_engine_stream(
     tracker: Option<&CopyTracker>,
     stream: &mut StreamState,
 )
-    ensures { FillsStream engine.now number stream.old stream.new }
+    ensures { FillsStream engine.now (option_copied tracker.entry) number stream.old stream.new }
 {
     if let Some(counts) = engine.counts(number) {
         stream.counts = counts;
@@ -181,7 +186,7 @@ fn fill_paths(
     paths: &mut [PathState],
 )
     ensures { number < length engine.now.cursors
-        → AreEach (IsEnginePath engine.now number counts.now) paths.old paths.new }
+        → AreEach (IsEnginePath engine.now (option_copied tracker.entry) number counts.now) paths.old paths.new }
 {
     for (place, path) in paths.iter_mut().enumerate() {
         fill_path(engine, number, tracker, counts, place, path);
@@ -197,7 +202,8 @@ fn fill_path(
     place: usize,
     state: &mut PathState,
 )
-    ensures { number < length engine.now.cursors → IsEnginePath engine.now number counts.now place state.old state.new }
+    ensures { number < length engine.now.cursors
+        → IsEnginePath engine.now (option_copied tracker.entry) number counts.now place state.old state.new }
 {
     let Some(path) = path_at(place) else {
         return;
@@ -212,6 +218,7 @@ fn fill_before_merge(engine: &Engine, number: usize, path: Path, state: &mut Pat
     ensures before { number < length engine.now.cursors
         → HasEngineBefore engine.now number path state.new.counts state.new.datagrams }
     ensures first { state.new.first ≡ state.old.first }
+    ensures copies { (state.new.copies ≡ state.old.copies) × (state.new.spare ≡ state.old.spare) }
 {
     if let Some(counts) = engine.path_counts(number, path) {
         fill_datagrams(counts, state);
@@ -227,8 +234,7 @@ fn fill_path_copies(
     lost: u64,
     state: &mut PathState,
 )
-    ensures copies { MatchOption tracker.entry (state.new ≡ state.old)
-        (λ copies. HasPathStats path now lost state.old state.new copies.now) }
+    ensures copies { ShowsCopies (option_copied tracker.entry) path now lost state.old state.new }
     ensures rest { (state.new.first ≡ state.old.first) × (state.new.counts ≡ state.old.counts)
         × (state.new.datagrams ≡ state.old.datagrams) }
 {

@@ -12,4 +12,4 @@ loop-stream-preserved c =
     let stream = c.stream-item.result in
     let tracker = c.in_ok-new.field-0 in
     let at = slice_get_read streams (length streams) n stream refl c.loop-stream-test.true c.stream-item.is in
-    subst (λ (items : List CopyTracker). IsBegun IsNewTracker (n + 1) streams items) (sym {A = List CopyTracker} c.in_ok-push.ensures.items) (begun-push IsNewTracker n streams c.loop-stream.trackers.items stream tracker c.loop-stream.invariant at c.in_ok-new.ensures)
+    subst (λ (items : List CopyTracker). IsBegun IsNewTracker (n + 1) streams items) (sym {A = List CopyTracker} c.in_ok-push.ensures.items) (begun-push IsNewTracker n streams c.loop-stream.trackers.items stream tracker c.loop-stream.invariant at (c.in_ok-new.ensures.tally, c.in_ok-new.ensures.known))

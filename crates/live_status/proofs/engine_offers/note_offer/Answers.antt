@@ -3,7 +3,7 @@ use Rattle.std.proofs.lemmas.Grind.{common_steps}
 use Rattle.std.proofs.lemmas.Int.{to_z-of_z}
 use Rattle.std.proofs.lemmas.Option.{slice_get_read, slice_get_within}
 use Rattle.rtp_stats.specs.declared.copy_tracker.CopyTracker.{CopyTracker}
-use Rattle.live_status.specs.EngineOffers.{AddsOffer}
+use Rattle.rtp_stats.specs.CopyTracker.{NotesOffer}
 use Rattle.live_status.proofs.Each.{get-set, get-set_else}
 use Rattle.live_status.proofs.engine_offers.note_offer.Goals as goal
 
@@ -14,7 +14,7 @@ returns-then-number-trackers c =
     let tracker = c.index-trackers-number.result in
     let is_new = c.note.new.self in
     let within = c.if-number-trackers.true in
-    let Adds = AddsOffer c.args.path c.args.fate c.args.numbers.seq in
+    let Adds = NotesOffer c.args.path c.args.fate c.args.numbers.seq c.args.numbers.ts c.args.due in
     let z : to_z w64 (of_z w64 c.args.now) ≡ c.args.now = to_z-of_z w64 c.args.now c.ranges.now in
     let there = slice_get_read trackers (length trackers) n tracker refl within c.index-trackers-number.is in
     let noted : Adds c.args.now tracker is_new = subst (λ now. Adds now tracker is_new) z (subst (λ (w : CopyTracker). Adds (to_z w64 (of_z w64 c.args.now)) w is_new) (sym c.index-trackers-number.is) c.note.ensures) in

@@ -1,4 +1,4 @@
-use Rattle.std.proofs.Common.{length, sym, refl, subst, ◌∙◌, arith}
+use Rattle.std.proofs.Common.{length, option_copied, sym, refl, subst, ◌∙◌, arith}
 use Rattle.std.proofs.lemmas.Option.{slice_get_read}
 use Rattle.status_page.specs.declared.snapshot.PathState.{PathState}
 use Rattle.live_status.specs.Engine.{IsEnginePath}
@@ -7,7 +7,7 @@ use Rattle.live_status.proofs.engine_status.fill_paths.Goals as goal
 
 pub loop-place-preserved : goal.loop-place-preserved
 loop-place-preserved c = λ within.
-    let P = IsEnginePath c.args.engine.now c.args.number c.args.counts.now in
+    let P = IsEnginePath c.args.engine.now (option_copied c.args.tracker) c.args.number c.args.counts.now in
     let n = c.loop-place.place in
     let path = c.index-paths-place.result in
     let paths = c.loop-place.paths in
@@ -20,4 +20,4 @@ loop-place-preserved c = λ within.
 
 pub returns : goal.returns
 returns c = λ within.
-    upto-all (IsEnginePath c.args.engine.now c.args.number c.args.counts.now) c.loop-place.place c.args.paths.now c.loop-place.paths c.loop-place-test.false (c.loop-place.invariant within)
+    upto-all (IsEnginePath c.args.engine.now (option_copied c.args.tracker) c.args.number c.args.counts.now) c.loop-place.place c.args.paths.now c.loop-place.paths c.loop-place-test.false (c.loop-place.invariant within)

@@ -2,13 +2,14 @@ use Rattle.std.proofs.Common.{◌≡◌, ℤ, List, length, replicate, sym, ap, 
 use Rattle.arrayvec.specs.ArrayVec.{ArrayVec}
 use Rattle.std.proofs.lemmas.Int.{to_z-of_z}
 use Rattle.std.specs.List.{refill}
+use Rattle.rtp_stats.specs.declared.copy_tracker.CopyTracker.{CopyTracker}
 use Rattle.status_page.specs.declared.snapshot.OutputState.{OutputState}
 use Rattle.status_page.specs.declared.snapshot.Snapshot.{Snapshot}
 use Rattle.status_page.specs.declared.snapshot.StreamState.{StreamState}
 use Rattle.live_status.specs.Each.{AreEach}
 use Rattle.live_status.specs.Outputs.{blank_output}
 use Rattle.live_status.specs.Publisher.{Shows}
-use Rattle.live_status.specs.EngineStatus.{IsEngineOutput, IsEngineStream, FillsStream}
+use Rattle.live_status.specs.EngineStatus.{IsEngineOutput, FillsStreamAt}
 use Rattle.live_status.proofs.Each.{refilled}
 use Rattle.live_status.specs.Health.{KeepsStream}
 use Rattle.live_status.proofs.EngineStatusLemmas.{streams-filled, streams-kept}
@@ -22,7 +23,9 @@ returns-clause-shown g c =
     let streams = c.fill_streams.new.streams in
     let outputs = c.fill_engine_outputs.new.outputs in
     let filled : Snapshot = c.fill_health.new.snapshot in
-    let sees : AreEach (FillsStream engine) blank.streams.items streams = subst (λ (l : List StreamState). AreEach (FillsStream engine) l streams) c.as_mut_slice-streams.ensures.value c.fill_streams.ensures in
+    let trackers = c.args.self.now.trackers.items in
+    let by_trackers : AreEach (FillsStreamAt engine trackers) _ streams = subst (λ (ts : List CopyTracker). AreEach (FillsStreamAt engine ts) _ streams) c.as_slice.ensures.value c.fill_streams.ensures in
+    let sees : AreEach (FillsStreamAt engine trackers) blank.streams.items streams = subst (λ (l : List StreamState). AreEach (FillsStreamAt engine trackers) l streams) c.as_mut_slice-streams.ensures.value by_trackers in
     let heard : AreEach (IsEngineOutput engine) blank.outputs.items outputs = subst (λ (l : List OutputState). AreEach (IsEngineOutput engine) l outputs) c.as_mut_slice.ensures.value c.fill_engine_outputs.ensures in
     let same : refill (length blank.streams.items) blank.streams.items streams ≡ streams = refilled blank.streams.items streams sees.length_is in
     let kept : AreEach KeepsStream streams filled.streams.items = subst (λ (l : List StreamState). AreEach KeepsStream l filled.streams.items) same c.fill_health.ensures.streams in
@@ -30,8 +33,8 @@ returns-clause-shown g c =
     let time : to_z w64 (of_z w64 c.time.result) ≡ engine.time = to_z-of_z w64 c.time.result (search rules) ∙ c.time.ensures.value in (
       filled,
       record {
-        streams = λ few. streams-kept engine publisher.streams.items streams filled.streams.items
-            (streams-filled engine publisher.streams.items blank.streams.items streams (c.blank_snapshot-snapshot.ensures.streams few) sees) kept;
+        streams = λ few. streams-kept engine trackers publisher.streams.items streams filled.streams.items
+            (streams-filled engine trackers publisher.streams.items blank.streams.items streams (c.blank_snapshot-snapshot.ensures.streams few) sees) kept;
         outputs = subst (λ (l : List OutputState). AreEach (IsEngineOutput engine) (replicate publisher.channels blank_output) l) (sym all)
             (subst (λ (l : List OutputState). AreEach (IsEngineOutput engine) l outputs) c.blank_snapshot-snapshot.ensures.outputs heard);
       },
