@@ -7,16 +7,21 @@ from collections import Counter, defaultdict, namedtuple
 
 FRAMES, LATENCY, WINDOW, TYPE, OCTETS = 6, 12, 8, 96, 18
 PROBATION = 8
+# a sender is astray if so many of its last ones are
+ASTRAY, LAST = 8, 64
 LATEST = 2**60
 
-# what a specification asks for: a source or None, and the offset of the media clock or None for the arrival clock
-Stream = namedtuple("Stream", "source offset", defaults=(None, 0))
+# what a specification asks for: a source or None, the offset of the media clock or None for the clocks of arrivals, whether
+# the clock follows a sender that is astray, and how many paths there are
+Stream = namedtuple("Stream", "source offset follows paths", defaults=(None, 0, False, 2))
 Packet = namedtuple("Packet", "seq ts ssrc payload")
 Anchor = namedtuple("Anchor", "number ts media ssrc")
 # the place of the event that opened it, its anchor, and the payload of each number
 Epoch = namedtuple("Epoch", "place anchor packets")
 # an arrival of a path after the anchor in force, and whether it was off as it came
 Came = namedtuple("Came", "packet off")
+# how an arrival after the anchor in force stands by the clock that follows: its number if it is a copy in time, or None
+Stood = namedtuple("Stood", "path number behind beyond")
 
 PROGRAM = Stream()
 
@@ -107,10 +112,47 @@ def completes_probation(came):
     return len(last) == PROBATION and all(one.off for one in last) and in_sequence
 
 
-def anchor_of_restart(stream, epoch, time, came):
-    """The next epoch's anchor, where the last of a path's arrivals restarts the stream; or None."""
+def last_of_path(stood, path):
+    return [one for one in stood if one.path == path][-LAST:]
+
+
+def is_emptying(anchor, due, stood):
+    """Whether what is held is handed on and nothing more is taken: packets come too early on each path of which one is held."""
+    early, holds = {}, {}
+    for path in "abcd":
+        early[path] = sum(one.beyond for one in last_of_path(stood, path)) >= ASTRAY
+        holds[path] = any(one.path == path and one.number is not None and one.number >= due for one in stood)
+    return anchor.number < due and any(early.values()) and all(early[path] for path in "abcd" if holds[path])
+
+
+def room_of(stream, anchor, due, stood):
+    """How many numbers, from the one due next on, are in time."""
+    return 0 if stream.follows and is_emptying(anchor, due, stood) else WINDOW
+
+
+def stands(stream, anchor, time, stood, path, packet):
+    """How an arrival stands, after those that stood so."""
+    due, number = next_due(anchor, time), number_of(anchor, time, packet)
+    if is_off(anchor, time, packet):
+        return Stood(path, None, False, False)
+    room = room_of(stream, anchor, due, stood)
+    greatest = max([anchor.number] + [one.number for one in stood if one.number is not None])
+    in_time = due <= number < due + room
+    return Stood(path, number if in_time else None, greatest < number < due, number >= due and not in_time)
+
+
+def is_slip(stood):
+    """Whether the last arrival, astray itself, is one of many on its path."""
+    last = stood[-1]
+    many = sum(one.behind or one.beyond for one in last_of_path(stood, last.path)) >= ASTRAY
+    return (last.behind or last.beyond) and many
+
+
+def anchor_of_restart(stream, epoch, time, came, stood):
+    """The next epoch's anchor, where the last of a path's arrivals opens it; or None."""
     due, packet = next_due(epoch.anchor, time), came[-1].packet
-    if not completes_probation(came) or any(number >= due for number in epoch.packets):
+    opens = completes_probation(came) or stream.follows and is_slip(stood)
+    if not opens or any(number >= due for number in epoch.packets):
         return None
     media, least = first_media(stream, time, packet), media_time_of(epoch.anchor, due)
     if stream.offset is None:
@@ -118,12 +160,12 @@ def anchor_of_restart(stream, epoch, time, came):
     return None if media < least or out_of_reach(time, media) else anchor_at(packet, media)
 
 
-def anchor_of_arrival(stream, epochs, time, came, packet):
+def anchor_of_arrival(stream, epochs, time, came, stood, packet):
     """The anchor that an arrival is, the first or a restart's; or None."""
     if not is_asked_for(stream, packet):
         return None
     if epochs:
-        return anchor_of_restart(stream, epochs[-1], time, came)
+        return anchor_of_restart(stream, epochs[-1], time, came, stood)
     media = first_media(stream, time, packet)
     return None if out_of_reach(time, media) else anchor_at(packet, media)
 
@@ -135,8 +177,8 @@ def fate_of_first(stream, time, packet):
     return out_of_reach(time, first_media(stream, time, packet))
 
 
-def fate_of_next(epoch, time, packet):
-    """The fate of an arrival after an anchor."""
+def fate_of_next(epoch, time, packet, room):
+    """The fate of an arrival after an anchor, with so much room."""
     anchor, packets = epoch.anchor, epoch.packets
     due, number = next_due(anchor, time), number_of(anchor, time, packet)
     if packet.ssrc != anchor.ssrc:
@@ -145,7 +187,7 @@ def fate_of_next(epoch, time, packet):
         return "off_grid"
     if number < due:
         return "late"
-    if number >= due + WINDOW:
+    if number >= due + room:
         return "ahead"
     if number not in packets:
         return "taken"
@@ -154,7 +196,7 @@ def fate_of_next(epoch, time, packet):
 
 def arrivals(events, stream=PROGRAM):
     """The epochs with their packets, and the fate of each datagram before a close."""
-    time, epochs, fates, came = 0, [], [], defaultdict(list)
+    time, epochs, fates, came, stood = 0, [], [], defaultdict(list), []
     for place, event in enumerate(events):
         if event[0] == "close":
             break
@@ -165,16 +207,20 @@ def arrivals(events, stream=PROGRAM):
         if packet is None:
             fates.append("no_packet")
             continue
-        of_path = came[event[0]]
+        of_path, room = came[event[0]], WINDOW
+        if epochs:
+            room = room_of(stream, epochs[-1].anchor, next_due(epochs[-1].anchor, time), stood)
         if epochs and is_asked_for(stream, packet):
             of_path.append(Came(packet, is_off(epochs[-1].anchor, time, packet)))
-        anchor = anchor_of_arrival(stream, epochs, time, of_path, packet)
+            stood.append(stands(stream, epochs[-1].anchor, time, stood, event[0], packet))
+        anchor = anchor_of_arrival(stream, epochs, time, of_path, stood, packet)
         if anchor:
             fates.append("restarted" if epochs else "taken")
             epochs.append(Epoch(place, anchor, {anchor.number: packet.payload}))
             came.clear()
+            stood.clear()
         elif epochs:
-            fates.append(fate_of_next(epochs[-1], time, packet))
+            fates.append(fate_of_next(epochs[-1], time, packet, room))
             if fates[-1] == "taken":
                 epochs[-1].packets[number_of(epochs[-1].anchor, time, packet)] = packet.payload
         else:
@@ -226,7 +272,7 @@ def marks(events, stream=PROGRAM):
     return lines, fates
 
 
-def fault_of(events):
+def fault_of(events, stream=PROGRAM):
     """The first fault of an event, or None."""
     time, closed = 0, False
     for place, event in enumerate(events):
@@ -238,17 +284,17 @@ def fault_of(events):
             closed = True
         elif event[1] != 0:
             return f"event {place}: stream"
-        elif event[0] in "cd":
+        elif "abcd".index(event[0]) >= stream.paths:
             return f"event {place}: path"
     return None
 
 
-def answer(events):
+def answer(events, stream=PROGRAM):
     """What the program has to write on standard output and on standard error, its status, and counts of fates and marks."""
-    fault = fault_of(events)
+    fault = fault_of(events, stream)
     if fault:
         return "", fault + "\n", 1, Counter({fault.split()[-1]: 1})
-    lines, fates = marks(events)
+    lines, fates = marks(events, stream)
     counts = Counter(fates)
     counts.update(line.split()[1] if "slot" not in line else line.split()[4] for line in lines)
     return "".join(line + "\n" for line in lines), "", 0, counts

@@ -14,7 +14,7 @@ def stream_of(random):
         "channels": random.choice((1, 1, 2)),
         "frames": frames,
         "pt": 96,
-        "clock": random.choice(("media", "media", "media", "arrival")),
+        "clock": random.choice(("media", "media", "media", "arrival", "follow")),
         "latency": random.choice((1, frames, 2 * frames, 2 * frames + 1, widest, random.randrange(1, widest + 1))),
         "window": window,
         "paths": random.choice((1, 2, 2, 3, 4)),

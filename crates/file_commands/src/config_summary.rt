@@ -66,6 +66,7 @@ fn write_clock<W: Write>(clock: StreamClock, output: &mut W) -> io::Result<()> {
     match clock {
         StreamClock::Media { offset } => write!(output, ", media clock, offset {offset}"),
         StreamClock::Arrival => write!(output, ", arrival clock"),
+        StreamClock::Follow => write!(output, ", arrival clock that follows its sender"),
     }
 }
 

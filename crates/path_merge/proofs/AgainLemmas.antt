@@ -3,7 +3,7 @@ use Rattle.std.proofs.Common.{◌≡◌, ℕ, zero, suc, ◌-◌, ◌<◌, Bool,
 use Rattle.std.specs.Prelude.{int_lt}
 use Rattle.std.proofs.lemmas.Int.{ints}
 use Rattle.path_merge.proofs.ArrivalLemmas.{marks_of-arrive}
-use Rattle.path_merge.proofs.EpochLemmas.{heard_of-tick}
+use Rattle.path_merge.proofs.EpochLemmas.{heard_of-tick, standings_of-tick}
 use Rattle.path_merge.proofs.HistoryLemmas.{anchor_of-tick, copies_of-tick, events_until_close-open, fates_of-tick, is_closed-append, marks_in-none, marks_of-in, time_of-append}
 use Rattle.path_merge.proofs.JoinLemmas.{has_slot-append}
 use Rattle.path_merge.proofs.MarkGrowthLemmas.{by_open_event}
@@ -94,6 +94,7 @@ module _ (stream : Stream) (open_at : ℤ) (some : 0 < stream.frames) (events : 
         fates = fates_of-tick stream open_at events (time_of open_at events);
         anchor = anchor_of-tick stream open_at events (time_of open_at events);
         heard = heard_of-tick stream open_at events (time_of open_at events);
+        standings = standings_of-tick stream open_at events (time_of open_at events);
         copies = copies_of-tick stream open_at events (time_of open_at events);
         marks = same_marks;
         before_close = rw (events_until_close-open (events ++ Tick (time_of open_at events) ∷ []) (open_then ∙ rw still.open_yet refl), events_until_close-open events still.open_yet) same_marks;

@@ -1,10 +1,10 @@
 -- The anchors of a history, one by one: their places, their epochs, and what an arrival that makes one has.
-use Rattle.std.proofs.Common.{◌≡◌, ℕ, zero, suc, ◌+◌, ◌*◌, ◌<◌, ◌≤◌, Bool, true, false, ◌&&◌, List, [], ◌∷◌, ◌++◌, length, Option, Some, None, ℤ, pos, ◌+ℤ◌, ◌-ℤ◌, ◌≤ℤ◌, ◌<ℤ◌, refl, sym, ap, ◌∙◌, arith, append-nil, length-append, if◌then◌else◌}
+use Rattle.std.proofs.Common.{◌≡◌, ℕ, zero, suc, ◌+◌, ◌*◌, ◌^◌, ◌<◌, ◌≤◌, Bool, true, false, ◌&&◌, ◌||◌, List, [], ◌∷◌, ◌++◌, length, Option, Some, None, ℤ, pos, ◌+ℤ◌, ◌-ℤ◌, ◌≤ℤ◌, ◌<ℤ◌, refl, sym, ap, ◌∙◌, arith, append-nil, length-append, if◌then◌else◌}
 use Rattle.std.specs.Prelude.{nat_eq, nat_le, nat_lt}
 use Rattle.std.proofs.Math.Nat.{mod-lt}
 use Rattle.std.proofs.lemmas.Bool.Decides.{nat_tests}
 use Rattle.std.proofs.lemmas.Int.{ints}
-use Rattle.path_merge.proofs.EpochLemmas.{WithinLength, heard_of-push, no_anchors, place_within}
+use Rattle.path_merge.proofs.EpochLemmas.{WithinLength, heard_of-push, no_anchors, place_within, room_made}
 use Rattle.path_merge.proofs.FirstLemmas.{is_first}
 use Rattle.path_merge.proofs.HistoryLemmas.{IsNextEpoch, anchors_of-push, by_last_event, or_else}
 use Rattle.path_merge.proofs.MarkGrowthLemmas.{limit_of}
@@ -12,8 +12,9 @@ use Rattle.rtp_stream.proofs.ProbationLemmas.{by_last, complete_is, last_of-push
 use Rattle.path_merge.proofs.AnewLemmas.{GoesOn, in_reach, itself_eq, own_copy}
 use Rattle.rtp_stream.specs.Anchor.{anchor_from, can_anchor, is_source_wanted, media_time_of, next_number, restart_from, restart_media_time}
 use Rattle.rtp_stream.specs.EpochLaws.{anchor_with, epochs_in}
-use Rattle.rtp_stream.specs.Epochs.{anchor_in, anchors_after, anchors_at, anchors_of, can_restart, copies_since, continues_media_time, is_all_given, last_of, placed}
-use Rattle.rtp_stream.specs.Grid.{copies_under_at, end_of_copies}
+use Rattle.rtp_stream.specs.Epochs.{anchor_in, anchors_after, anchors_at, anchors_of, can_restart, copies_since, continues_media_time, copies_under_at, is_all_given, last_of, placed}
+use Rattle.rtp_stream.specs.Grid.{copies_under, end_of_copies, in_room}
+use Rattle.rtp_stream.specs.Standing.{is_following, is_slip}
 use Rattle.rtp_stream.specs.History.{is_counting, time_of}
 use Rattle.rtp_stream.specs.Laws.{numbers_from}
 use Rattle.rtp_stream.specs.PathProbation.{is_complete, probation_after, probation_of}
@@ -100,11 +101,21 @@ complete_small stream heard off packet completes = by_off off (sym (complete_is 
     by_off false e = cc
     by_off true e = by_tests (probation_of stream heard) (nat_eq packet.ssrc (probation_of stream heard).source) _ _ refl refl (probation_small stream heard) _ e
 
+-- and so has one that shows a sender astray
+slip_small : (stream : Stream) (open_at : ℤ) (place : ℕ) (a : Anchor) (events : List Event) (path : ℕ) (packet : Packet) → is_slip stream open_at place a events path packet ≡ true → (packet.seq < 65536) × (packet.ts < 4294967296)
+slip_small stream open_at place a events path packet = by_tests (is_following stream.clock) (nat_lt packet.seq (2 ^ 16)) (nat_lt packet.ts (2 ^ 32)) _ refl refl
+  where
+    by_tests : (f s t r : Bool) → nat_lt packet.seq (2 ^ 16) ≡ s → nat_lt packet.ts (2 ^ 32) ≡ t → (f && ((s && t) && r)) ≡ true → (packet.seq < 65536) × (packet.ts < 4294967296)
+    by_tests true true true r es et e = (grind (arith, nat_tests, es), grind (arith, nat_tests, et))
+    by_tests false s t r es et e = cc
+    by_tests true false t r es et e = cc
+    by_tests true true false r es et e = cc
+
 -- what an anchor has that a packet makes after another one
 pub record Restarts (stream : Stream) (open_at : ℤ) (events : List Event) (path : ℕ) (packet : Packet) (place : ℕ) (a b : Anchor) : Type 0 where
   pub not_back : media_time_of stream a (next_number stream a (time_of open_at events)) ≤ℤ b.media
   pub all_given : end_of_copies (copies_since stream open_at place a events) ≤ next_number stream a (time_of open_at events)
-  pub own : copies_under_at stream b open_at events (Arrive path packet) ≡ (b.number, packet) ∷ []
+  pub own : copies_under_at stream (length events) b open_at events (Arrive path packet) ≡ (b.number, packet) ∷ []
 
 abbrev pub Follows : Stream → ℤ → List Event → ℕ → Packet → Option (ℕ × Anchor) → Anchor → Type 0
 Follows stream open_at events path packet None b = Unit {0}
@@ -129,14 +140,18 @@ module _ (stream : Stream) (open_at : ℤ) (some : 0 < stream.frames) where
           heard_of-push stream open_at (Some (place, a)) events (Arrive path packet) path within
           ∙ ap (λ l. heard_since stream open_at place a events path ++ l) (rw (counts, itself_eq path, wanted) refl)
 
+      by_either : (c : Bool) → completes_probation stream (heard_since stream open_at place a (events ++ Arrive path packet ∷ []) path) ≡ c → is_source_wanted stream.ssrc packet.ssrc ≡ true → (c || is_slip stream open_at place a events path packet) ≡ true → (packet.seq < 65536) × (packet.ts < 4294967296)
+      by_either true is wanted e = complete_small stream (heard_since stream open_at place a events path) (is_off stream a (next_number stream a (time_of open_at events)) packet) packet (ap (completes_probation stream) (sym (here wanted)) ∙ is)
+      by_either false is wanted e = slip_small stream open_at place a events path packet e
+
       wide : (w f : ℕ) (low high : ℤ) → low <ℤ high → high <ℤ (low +ℤ pos (w * f)) → 0 < w
       wide zero f low high after before = absurd (omega (arith, ints, after, before))
       wide (suc w) f low high after before = omega arith
 
-      by_tests : (b c w : Bool) → continues_media_time stream (time_of open_at events) a packet ≡ b → is_all_given stream open_at place a events ≡ c → is_source_wanted stream.ssrc packet.ssrc ≡ w → (b && (c && (w && completes_probation stream (heard_since stream open_at place a (events ++ Arrive path packet ∷ []) path)))) ≡ true → IsMade stream open_at events path packet (Some (place, a)) (restart_from stream (time_of open_at events) a (next_number stream a (time_of open_at events)) packet)
+      by_tests : (b c w : Bool) → continues_media_time stream (time_of open_at events) a packet ≡ b → is_all_given stream open_at place a events ≡ c → is_source_wanted stream.ssrc packet.ssrc ≡ w → (b && (c && (w && (completes_probation stream (heard_since stream open_at place a (events ++ Arrive path packet ∷ []) path) || is_slip stream open_at place a events path packet)))) ≡ true → IsMade stream open_at events path packet (Some (place, a)) (restart_from stream (time_of open_at events) a (next_number stream a (time_of open_at events)) packet)
       by_tests true true true go given wanted completes =
           let on : GoesOn stream (time_of open_at events) (media_time_of stream a (next_number stream a (time_of open_at events))) (restart_media_time stream.clock packet.ts (time_of open_at events) (media_time_of stream a (next_number stream a (time_of open_at events)))) = in_reach stream (time_of open_at events) (media_time_of stream a (next_number stream a (time_of open_at events))) (restart_media_time stream.clock packet.ts (time_of open_at events) (media_time_of stream a (next_number stream a (time_of open_at events)))) go in
-          let small = complete_small stream (heard_since stream open_at place a events path) (is_off stream a (next_number stream a (time_of open_at events)) packet) packet (ap (completes_probation stream) (sym (here wanted)) ∙ completes) in
+          let small = by_either (completes_probation stream (heard_since stream open_at place a (events ++ Arrive path packet ∷ []) path)) refl wanted completes in
           record {
             early = on.after;
             within = on.before;
@@ -144,7 +159,7 @@ module _ (stream : Stream) (open_at : ℤ) (some : 0 < stream.frames) where
             follows = record {
               not_back = on.not_back;
               all_given = grind (arith, nat_tests, given);
-              own = rw counts (own_copy stream (time_of open_at events) packet (a.epoch + 1) (restart_media_time stream.clock packet.ts (time_of open_at events) (media_time_of stream a (next_number stream a (time_of open_at events)))) some (wide stream.window stream.frames _ _ on.after on.before) small.0 small.1 on.after);
+              own = ap (λ room. copies_under (in_room stream room) (time_of open_at events) (is_counting events) (Some (restart_from stream (time_of open_at events) a (next_number stream a (time_of open_at events)) packet)) packet) (room_made stream open_at (restart_from stream (time_of open_at events) a (next_number stream a (time_of open_at events)) packet) events) ∙ rw counts (own_copy (in_room stream stream.window) (time_of open_at events) packet (a.epoch + 1) (restart_media_time stream.clock packet.ts (time_of open_at events) (media_time_of stream a (next_number stream a (time_of open_at events)))) some (wide stream.window stream.frames _ _ on.after on.before) small.0 small.1 on.after);
             };
           }
       by_tests false c w go given wanted e = cc

@@ -20,6 +20,8 @@ use Rattle.rtp_stream.specs.Nearest.{IsNearest}
 use Rattle.path_merge.specs.Steps.{IsRestartStep}
 use Rattle.rtp_stream.specs.PathProbation.{no_probation, probation_at}
 use Rattle.rtp_stream.specs.declared.probation.Probation.{Probation}
+use Rattle.rtp_stream.specs.declared.track.Track.{Track}
+use Rattle.rtp_stream.specs.PathTrack.{no_track, track_at}
 use Rattle.rtp_stream.specs.StreamSpec.{Fits}
 use Rattle.rtp_stream.specs.declared.stream_spec.Stream.{Stream}
 use Rattle.path_merge.specs.Window.{IsEmpty}
@@ -97,8 +99,8 @@ pub record HoldsOne (counts : Tally) (media : ℤ) : Type 0 where
   pub taken_are : counts.taken ≡ counts.got + 1
 
 -- a merge that begins at a packet, and holds it alone, is sound
-pub sound_anew : (m : MergeState) (media media' : ℤ) (packet : Packet) (epoch : ℕ) (g h : FinMap nat_cmp Packet) (counts : Tally) (probations' : List Probation) → IsSound m media → Fits m.spec packet → packet.seq < 65536 → packet.ts < 2 ^ 32 → (m.time -ℤ pos m.spec.latency) <ℤ media' → media' <ℤ (m.time -ℤ pos m.spec.latency +ℤ pos (m.spec.window * m.spec.frames)) → IsEmpty g → ((n : ℕ) → get h n ≡ (if nat_eq n (65536 + packet.seq) then Some packet else get g n)) → epoch ≡ counts.restarts → HoldsOne counts media' → IsSound (record m { anchor = Some (made_by packet epoch media'); base = 65536 + packet.seq; held = h; counts = counts; probations = probations' }) media'
-sound_anew m media media' packet epoch g h counts probations' s fits seq ts after before empty put epoch_is holds = record {
+pub sound_anew : (m : MergeState) (media media' : ℤ) (packet : Packet) (epoch : ℕ) (g h : FinMap nat_cmp Packet) (counts : Tally) (probations' : List Probation) (tracks' : List Track) → IsSound m media → Fits m.spec packet → packet.seq < 65536 → packet.ts < 2 ^ 32 → (m.time -ℤ pos m.spec.latency) <ℤ media' → media' <ℤ (m.time -ℤ pos m.spec.latency +ℤ pos (m.spec.window * m.spec.frames)) → IsEmpty g → ((n : ℕ) → get h n ≡ (if nat_eq n (65536 + packet.seq) then Some packet else get g n)) → epoch ≡ counts.restarts → HoldsOne counts media' → IsSound (record m { anchor = Some (made_by packet epoch media'); base = 65536 + packet.seq; held = h; counts = counts; probations = probations'; tracks = tracks' }) media'
+sound_anew m media media' packet epoch g h counts probations' tracks' s fits seq ts after before empty put epoch_is holds = record {
   spec_ok = s.spec_ok;
   time_low = s.time_low;
   time_high = s.time_high;
@@ -156,9 +158,9 @@ sound_anew m media media' packet epoch g h counts probations' s fits seq ts afte
     here n some_n = (by_eq n (nat_eq n (65536 + packet.seq)) refl some_n).1
 
 -- a merge that holds nothing, and begins anew at a packet, stays sound
-pub sound_restart : (m : MergeState) (media media' : ℤ) (path : ℕ) (packet : Packet) (a b : Anchor) (g h : FinMap nat_cmp Packet) (base' size' : ℕ) (counts' : Tally) (probations' : List Probation) → IsSound m media → m.anchor ≡ Some a → m.closed ≡ false → m.counts.arrived < 2 ^ 62 → Fits m.spec packet → packet.seq < 65536 → packet.ts < 2 ^ 32 → IsEmpty m.held → GoesOn m.spec m.time media media' → b ≡ made_by packet (a.epoch + 1) media' → IsEmpty g → ((n : ℕ) → get h n ≡ (if nat_eq n (65536 + packet.seq) then Some packet else get g n)) → base' ≡ 65536 + packet.seq → size' ≡ m.size → counts' ≡ with_fate m.counts path Restarted → IsSound (record m { anchor = Some b; base = base'; size = size'; held = h; counts = counts'; probations = probations' }) media'
-sound_restart m media media' path packet a b g h base' size' counts' probations' s is_a open_yet room fits seq ts none_held first is_b empty put is_base is_size is_counts =
-    rw (is_b, is_base, is_size, is_counts) (sound_anew m media media' packet (a.epoch + 1) g h (with_fate m.counts path Restarted) probations' s fits seq ts first.after first.before empty put (omega (arith, counts.restarts, an.epoch_is)) (record {
+pub sound_restart : (m : MergeState) (media media' : ℤ) (path : ℕ) (packet : Packet) (a b : Anchor) (g h : FinMap nat_cmp Packet) (base' size' : ℕ) (counts' : Tally) (probations' : List Probation) (tracks' : List Track) → IsSound m media → m.anchor ≡ Some a → m.closed ≡ false → m.counts.arrived < 2 ^ 62 → Fits m.spec packet → packet.seq < 65536 → packet.ts < 2 ^ 32 → IsEmpty m.held → GoesOn m.spec m.time media media' → b ≡ made_by packet (a.epoch + 1) media' → IsEmpty g → ((n : ℕ) → get h n ≡ (if nat_eq n (65536 + packet.seq) then Some packet else get g n)) → base' ≡ 65536 + packet.seq → size' ≡ m.size → counts' ≡ with_fate m.counts path Restarted → IsSound (record m { anchor = Some b; base = base'; size = size'; held = h; counts = counts'; probations = probations'; tracks = tracks' }) media'
+sound_restart m media media' path packet a b g h base' size' counts' probations' tracks' s is_a open_yet room fits seq ts none_held first is_b empty put is_base is_size is_counts =
+    rw (is_b, is_base, is_size, is_counts) (sound_anew m media media' packet (a.epoch + 1) g h (with_fate m.counts path Restarted) probations' tracks' s fits seq ts first.after first.before empty put (omega (arith, counts.restarts, an.epoch_is)) (record {
       few_arrived = omega (arith, counts.arrived, room);
       few_epochs = omega (arith, counts.arrived, counts.restarts, an.epoch_is, an.few_epochs);
       slots_given = omega (arith, ints, counts.got, counts.lost, an.slots_given, first.not_back);
@@ -181,15 +183,23 @@ four_fresh fresh is (suc (suc zero)) = is
 four_fresh fresh is (suc (suc (suc zero))) = is
 four_fresh fresh is (suc (suc (suc (suc other)))) = refl
 
+pub four_untracked : (fresh : Track) → fresh ≡ no_track → (other : ℕ) → track_at (fresh ∷ fresh ∷ fresh ∷ fresh ∷ []) other ≡ no_track
+four_untracked fresh is zero = is
+four_untracked fresh is (suc zero) = is
+four_untracked fresh is (suc (suc zero)) = is
+four_untracked fresh is (suc (suc (suc zero))) = is
+four_untracked fresh is (suc (suc (suc (suc other)))) = refl
+
 -- the step that the code makes
-pub restart_step : (m : MergeState) (path : ℕ) (packet : Packet) (a b : Anchor) (g h : FinMap nat_cmp Packet) (base' size' : ℕ) (counts' : Tally) (fresh : Probation) → b ≡ restart_from m.spec m.time a m.base packet → IsEmpty g → ((n : ℕ) → get h n ≡ (if nat_eq n (65536 + packet.seq) then Some packet else get g n)) → base' ≡ 65536 + packet.seq → size' ≡ m.size → counts' ≡ with_fate m.counts path Restarted → fresh ≡ no_probation → IsRestartStep m.spec m (record m { anchor = Some b; base = base'; size = size'; held = h; counts = counts'; probations = fresh ∷ fresh ∷ fresh ∷ fresh ∷ [] }) a path packet Restarted
-restart_step m path packet a b g h base' size' counts' fresh is_b empty put is_base is_size is_counts is_fresh = record {
+pub restart_step : (m : MergeState) (path : ℕ) (packet : Packet) (a b : Anchor) (g h : FinMap nat_cmp Packet) (base' size' : ℕ) (counts' : Tally) (fresh : Probation) (untracked : Track) → b ≡ restart_from m.spec m.time a m.base packet → IsEmpty g → ((n : ℕ) → get h n ≡ (if nat_eq n (65536 + packet.seq) then Some packet else get g n)) → base' ≡ 65536 + packet.seq → size' ≡ m.size → counts' ≡ with_fate m.counts path Restarted → fresh ≡ no_probation → untracked ≡ no_track → IsRestartStep m.spec m (record m { anchor = Some b; base = base'; size = size'; held = h; counts = counts'; probations = fresh ∷ fresh ∷ fresh ∷ fresh ∷ []; tracks = untracked ∷ untracked ∷ untracked ∷ untracked ∷ [] }) a path packet Restarted
+restart_step m path packet a b g h base' size' counts' fresh untracked is_b empty put is_base is_size is_counts is_fresh is_untracked = record {
   fate_is = refl;
   held = λ n. put n ∙ ap (λ o. if nat_eq n (65536 + packet.seq) then Some packet else o) (empty n);
   probations = four_fresh fresh is_fresh;
+  tracks = four_untracked untracked is_untracked;
   changed = rw (is_b, is_base, is_size, is_counts) refl;
 }
 
 -- what was heard before doesn't show
-pub restart_heard : (m : MergeState) (heard : List Probation) (new : MergeState) (a : Anchor) (path : ℕ) (packet : Packet) (fate : Fate) → IsRestartStep m.spec (record m { probations = heard }) new a path packet fate → IsRestartStep m.spec m new a path packet fate
-restart_heard m heard new a path packet fate step = record { fate_is = step.fate_is; held = step.held; probations = step.probations; changed = step.changed }
+pub restart_heard : (m : MergeState) (heard : List Probation) (noted : List Track) (new : MergeState) (a : Anchor) (path : ℕ) (packet : Packet) (fate : Fate) → IsRestartStep m.spec (record m { probations = heard; tracks = noted }) new a path packet fate → IsRestartStep m.spec m new a path packet fate
+restart_heard m heard noted new a path packet fate step = record { fate_is = step.fate_is; held = step.held; probations = step.probations; tracks = step.tracks; changed = step.changed }

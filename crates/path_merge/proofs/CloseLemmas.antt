@@ -1,9 +1,12 @@
 -- The start of a merge, its close, and what is left then.
-use Rattle.path_merge.proofs.EpochLemmas.{anchor_is, copies_of-since, heard_of-close, no_anchors}
+use Rattle.path_merge.proofs.EpochLemmas.{anchor_is, copies_of-since, heard_of-close, no_anchors, standings_of-close}
+use Rattle.rtp_stream.specs.PathTrack.{no_track, track_at, track_of}
+use Rattle.rtp_stream.specs.Standing.{standings_on}
+use Rattle.rtp_stream.specs.declared.track.Track.{Track}
 use Rattle.path_merge.proofs.HistoryLemmas.{copies_of_all-close, anchor_of-close, copies_of-close, events_until_close-close, events_until_close-closed, fates_of-close, is_closed-append, is_well_timed_from-append, marks_in, marks_in-none, marks_in-push, marks_of-in, time_of-append}
 use Rattle.rtp_stream.specs.Copies.{copies_of_all, copies_of}
 use Rattle.rtp_stream.specs.Epochs.{anchors_of, last_of, anchor_of}
-use Rattle.path_merge.specs.Merge.{heard_of, HasHistory}
+use Rattle.path_merge.specs.Merge.{heard_of, standings_of, HasHistory}
 use Rattle.rtp_stream.specs.PathProbation.{no_probation, probation_at, probation_of}
 use Rattle.rtp_stream.specs.declared.probation.Probation.{Probation}
 use Rattle.std.specs.Prelude.{Option, nat_lt}
@@ -35,6 +38,9 @@ module _ (stream : Stream) (open_at : ℤ) where
   heard_of-none : (path : ℕ) → heard_of stream open_at (last_of (anchors_of stream open_at [])) [] path ≡ []
   heard_of-none path = rw (no_anchors stream open_at) refl
 
+  standings_of-none : standings_of stream open_at (last_of (anchors_of stream open_at [])) [] ≡ []
+  standings_of-none = rw (no_anchors stream open_at) refl
+
   fates_of-none : fates_of stream open_at [] ≡ []
   unfolding fates_of at_places
   fates_of-none = refl
@@ -42,8 +48,8 @@ module _ (stream : Stream) (open_at : ℤ) where
   pub marks_of-none : marks_of stream open_at [] ≡ []
   marks_of-none = marks_of-in stream open_at [] ∙ marks_in-none stream open_at (copies_of_all stream open_at [])
 
-  pub stands_at_start : (time' : ℤ) (base size : ℕ) (h : FinMap nat_cmp Packet) (quiet : ℤ) (counts : Tally) (probations : List Probation) → time' ≡ open_at → IsEmpty h → quiet ≡ open_at -ℤ pos stream.latency → counts ≡ empty_tally → ((path : ℕ) → probation_at probations path ≡ no_probation) → HasHistory stream open_at (record { spec = stream; time = time'; anchor = None; base = base; size = size; held = h; quiet = quiet; counts = counts; closed = false; ended = false; probations = probations }) [] 0
-  stands_at_start time' base size h quiet counts probations is_time empty is_quiet is_counts fresh = record {
+  pub stands_at_start : (time' : ℤ) (base size : ℕ) (h : FinMap nat_cmp Packet) (quiet : ℤ) (counts : Tally) (probations : List Probation) (tracks : List Track) → time' ≡ open_at → IsEmpty h → quiet ≡ open_at -ℤ pos stream.latency → counts ≡ empty_tally → ((path : ℕ) → probation_at probations path ≡ no_probation) → ((path : ℕ) → track_at tracks path ≡ no_track) → HasHistory stream open_at (record { spec = stream; time = time'; anchor = None; base = base; size = size; held = h; quiet = quiet; counts = counts; closed = false; ended = false; probations = probations; tracks = tracks }) [] 0
+  stands_at_start time' base size h quiet counts probations tracks is_time empty is_quiet is_counts fresh untracked = record {
     spec = refl;
     well_timed = refl;
     time = is_time;
@@ -56,6 +62,7 @@ module _ (stream : Stream) (open_at : ℤ) where
     base = tt;
     held = λ n. empty n ∙ rw copies_of-none (none (nat_lt n base));
     probation = λ path few. fresh path ∙ ap (probation_of stream) (sym (heard_of-none path));
+    tracks = λ path few. untracked path ∙ ap (λ l. track_of (standings_on path l)) (sym standings_of-none);
     quiet = is_quiet;
     ended = refl;
   }
@@ -96,6 +103,7 @@ module _ (stream : Stream) (open_at : ℤ) where
         base = rw same at.base;
         held = λ n. at.held n ∙ rw (copies_of-close stream open_at events);
         probation = λ path few. at.probation path few ∙ ap (probation_of stream) (sym (heard_of-close stream open_at events path));
+        tracks = λ path few. at.tracks path few ∙ ap (λ l. track_of (standings_on path l)) (sym (standings_of-close stream open_at events));
         quiet = at.quiet ∙ rw same;
         ended = at.ended ∙ rw same;
       }
@@ -105,8 +113,8 @@ module _ (stream : Stream) (open_at : ℤ) where
       by_test false is = rw (events_until_close-close events [] is) (omega (arith, at.all_given is))
 
 -- a new merge is sound
-pub sound_start : (stream : Stream) (open_at time' media quiet : ℤ) (base size : ℕ) (h : FinMap nat_cmp Packet) (counts : Tally) (probations : List Probation) → IsStream stream → pos 0 ≤ℤ open_at → open_at ≤ℤ pos (2 ^ 60) → time' ≡ open_at → IsEmpty h → size ≡ stream.window → counts ≡ empty_tally → IsSound (record { spec = stream; time = time'; anchor = None; base = base; size = size; held = h; quiet = quiet; counts = counts; closed = false; ended = false; probations = probations }) media
-sound_start stream open_at time' media quiet base size h counts probations spec low high is_time empty is_size is_counts = rw is_counts (record {
+pub sound_start : (stream : Stream) (open_at time' media quiet : ℤ) (base size : ℕ) (h : FinMap nat_cmp Packet) (counts : Tally) (probations : List Probation) (tracks : List Track) → IsStream stream → pos 0 ≤ℤ open_at → open_at ≤ℤ pos (2 ^ 60) → time' ≡ open_at → IsEmpty h → size ≡ stream.window → counts ≡ empty_tally → IsSound (record { spec = stream; time = time'; anchor = None; base = base; size = size; held = h; quiet = quiet; counts = counts; closed = false; ended = false; probations = probations; tracks = tracks }) media
+sound_start stream open_at time' media quiet base size h counts probations tracks spec low high is_time empty is_size is_counts = rw is_counts (record {
   spec_ok = spec;
   time_low = omega (arith, ints, is_time, low);
   time_high = omega (arith, ints, is_time, high);

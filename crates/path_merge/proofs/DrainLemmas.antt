@@ -288,6 +288,7 @@ module _ (stream : Stream) (open_at : ℤ) (m : MergeState) (media : ℤ) (s : I
               omega (arith, ap (λ (s : MergeState). s.base) step.changed, based, ap (λ b. (if b then 1 else 0) + 0) (itself_eq a.epoch), slot_count-append a.epoch (take k (marks_of stream open_at events)) (slot_mark m.spec a m.base (body_of (get m.held m.base)) ∷ [])));
           held = λ n. step.held n ∙ without n m.base (first_copy stream open_at events n) (get m.held n) (at.held n) ∙ rw (ap (λ (s : MergeState). s.base) step.changed);
           probation = λ path few. rw (ap (λ (s : MergeState). s.probations) step.changed) (at.probation path few);
+          tracks = λ path few. rw (ap (λ (s : MergeState). s.tracks) step.changed) (at.tracks path few);
           quiet = ap (λ (s : MergeState). s.quiet) step.changed ∙ at.quiet ∙ rw (one.0, last_quiet_or-append (open_at -ℤ pos stream.latency) (take k (marks_of stream open_at events)) (slot_mark m.spec a m.base (body_of (get m.held m.base)) ∷ []));
           ended = ap (λ (s : MergeState). s.ended) step.changed ∙ at.ended ∙ rw (one.0, has_end-append (take k (marks_of stream open_at events)) (slot_mark m.spec a m.base (body_of (get m.held m.base)) ∷ []), or_none);
         };
@@ -312,6 +313,7 @@ module _ (stream : Stream) (open_at : ℤ) (m : MergeState) (media : ℤ) (s : I
           base = rw one.0 (base_more m.anchor m.base (take k (marks_of stream open_at events)) (end_mark stream ∷ []) (λ epoch. refl) at.base);
           held = at.held;
           probation = at.probation;
+          tracks = at.tracks;
           quiet = at.quiet ∙ rw (one.0, last_quiet_or-append (open_at -ℤ pos stream.latency) (take k (marks_of stream open_at events)) (end_mark stream ∷ []));
           ended = sym (ap has_end one.0 ∙ has_end-append (take k (marks_of stream open_at events)) (end_mark stream ∷ []) ∙ or_true (has_end (take k (marks_of stream open_at events))));
         };

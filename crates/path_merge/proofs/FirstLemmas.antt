@@ -1,6 +1,6 @@
 -- The first arrival that anchors a stream.
 use Rattle.rtp_stream.specs.Epochs.{anchor_in, anchor_of, anchors_of, last_of, placed}
-use Rattle.rtp_stream.specs.Grid.{first_with}
+use Rattle.rtp_stream.specs.Grid.{copies_under, first_with, in_room}
 use Rattle.std.proofs.Common.{◌≡◌, ℕ, ◌+◌, ◌*◌, ◌^◌, ◌<◌, Bool, true, false, not, ◌&&◌, List, [], ◌∷◌, ◌++◌, length, Option, Some, None, ℤ, pos, ◌+ℤ◌, ◌-ℤ◌, ◌<ℤ◌, refl, sym, ap, subst, ◌∙◌, arith, if◌then◌else◌}
 use Rattle.std.specs.Prelude.{int_lt, int_le, nat_lt, nat_eq}
 use Rattle.std.proofs.lemmas.Bool.Decides.{nat_tests}
@@ -10,7 +10,9 @@ use Rattle.std.specs.Ordering.{nat_cmp}
 use Rattle.path_merge.proofs.ArrivalLemmas.{marks_of-arrive, stands_after_arrival}
 use Rattle.path_merge.proofs.HeldCountLemmas.{FateCounts, with_fate-counts}
 use Rattle.path_merge.proofs.HistoryLemmas.{marks_of-in, or_else}
-use Rattle.path_merge.proofs.EpochLemmas.{anchor_is, copies_of-since, copies_since-made, heard_of-made, last-push, since_of}
+use Rattle.path_merge.proofs.EpochLemmas.{anchor_is, copies_of-since, copies_since-made, heard_of-made, last-push, room_made, since_of, standings_of-made}
+use Rattle.rtp_stream.specs.PathTrack.{no_track, track_at, track_of}
+use Rattle.rtp_stream.specs.Standing.{standings_on}
 use Rattle.path_merge.proofs.PlaceLemmas.{first_counts}
 use Rattle.path_merge.proofs.MarkGrowthLemmas.{AllSlotsBelow, limit_of, slots_below}
 use Rattle.path_merge.proofs.AnewLemmas.{own_copy, sound_anew}
@@ -23,9 +25,9 @@ use Rattle.rtp_stream.specs.declared.probation.Probation.{Probation}
 use Rattle.rtp_stream.specs.Counts.{counts_of, is_counted_fate, is_restarted, is_taken_fate}
 use Rattle.rtp_stream.specs.CountsFacts.{Tally, with_fate}
 use Rattle.rtp_stream.specs.Fate.{fate_of, fault_or, first_fate}
-use Rattle.rtp_stream.specs.History.{arrival_count, is_closed, is_counting}
+use Rattle.rtp_stream.specs.History.{arrival_count, is_closed, is_counting, time_of}
 use Rattle.rtp_stream.specs.Marks.{marks_of}
-use Rattle.path_merge.specs.Merge.{HasHistory, IsBaseOf, heard_of, slot_count}
+use Rattle.path_merge.specs.Merge.{HasHistory, IsBaseOf, heard_of, slot_count, standings_of}
 use Rattle.path_merge.specs.MergeState.{IsAnchoredOrNot, IsSound, IsUnanchored, MergeState}
 use Rattle.path_merge.specs.Steps.{IsFirstStep, IsRefusal, Offers}
 use Rattle.rtp_stream.specs.StreamSpec.{Fits}
@@ -128,7 +130,7 @@ module _ (stream : Stream) (open_at : ℤ) (m : MergeState) (media : ℤ) (s : I
     where
       by_test : (b : Bool) → can_anchor stream m.time packet ≡ b → since_of stream open_at (if b then Some (length events, anchor_from stream m.time packet) else None) (events ++ Arrive path packet ∷ []) ≡ (if b then (65536 + packet.seq, packet) ∷ [] else [])
       by_test false e = refl
-      by_test true e = copies_since-made stream open_at events (Arrive path packet) (anchor_from stream m.time packet) ∙ rw (← at.time, hearing) (own_copy stream m.time packet 0 (first_media_time stream.clock packet.ts m.time) frames_some window_some seq ts (is_first stream m.time packet e).after)
+      by_test true e = copies_since-made stream open_at events (Arrive path packet) (anchor_from stream m.time packet) ∙ ap (λ r. copies_under (in_room stream r) (time_of open_at events) (is_counting events) (Some (anchor_from stream m.time packet)) packet) (room_made stream open_at (anchor_from stream m.time packet) events) ∙ rw (← at.time, hearing) (own_copy (in_room stream stream.window) m.time packet 0 (first_media_time stream.clock packet.ts m.time) frames_some window_some seq ts (is_first stream m.time packet e).after)
 
   heard_after : (on : ℕ) → heard_of stream open_at (last_of (anchors_of stream open_at (events ++ Arrive path packet ∷ []))) (events ++ Arrive path packet ∷ []) on ≡ []
   heard_after on = ap (λ o. heard_of stream open_at o (events ++ Arrive path packet ∷ []) on) last_after ∙ by_test (can_anchor stream m.time packet)
@@ -136,6 +138,16 @@ module _ (stream : Stream) (open_at : ℤ) (m : MergeState) (media : ℤ) (s : I
       by_test : (b : Bool) → heard_of stream open_at (if b then Some (length events, anchor_from stream m.time packet) else None) (events ++ Arrive path packet ∷ []) on ≡ []
       by_test true = heard_of-made stream open_at (anchor_from stream m.time packet) events (Arrive path packet) on
       by_test false = refl
+
+  standings_after : standings_of stream open_at (last_of (anchors_of stream open_at (events ++ Arrive path packet ∷ []))) (events ++ Arrive path packet ∷ []) ≡ []
+  standings_after = ap (λ o. standings_of stream open_at o (events ++ Arrive path packet ∷ [])) last_after ∙ by_test (can_anchor stream m.time packet)
+    where
+      by_test : (b : Bool) → standings_of stream open_at (if b then Some (length events, anchor_from stream m.time packet) else None) (events ++ Arrive path packet ∷ []) ≡ []
+      by_test true = standings_of-made stream open_at (anchor_from stream m.time packet) events (Arrive path packet)
+      by_test false = refl
+
+  was_untracked : (on : ℕ) → on < 4 → track_at m.tracks on ≡ no_track
+  was_untracked on few_on = at.tracks on few_on ∙ ap (λ o. track_of (standings_on on (standings_of stream open_at o events))) no_last
 
   was_none : (on : ℕ) → on < 4 → probation_at m.probations on ≡ no_probation
   was_none on few_on = at.probation on few_on ∙ ap (λ o. probation_of stream (heard_of stream open_at o events on)) no_last
@@ -171,6 +183,7 @@ module _ (stream : Stream) (open_at : ℤ) (m : MergeState) (media : ℤ) (s : I
     anchor = step.anchor ∙ ap (λ b. if b then Some (anchor_from stream m.time packet) else None) (taken_is new fate step) ∙ sym anchor_after;
     base = base_after new fate step;
     probation = λ on few_on. ap (λ (x : MergeState). probation_at x.probations on) step.changed ∙ was_none on few_on ∙ ap (probation_of stream) (sym (heard_after on));
+    tracks = λ on few_on. ap (λ (x : MergeState). track_at x.tracks on) step.changed ∙ was_untracked on few_on ∙ ap (λ l. track_of (standings_on on l)) (sym standings_after);
     held = held_after new fate step;
     quiet = ap (λ (x : MergeState). x.quiet) step.changed;
     counts = ap (λ (x : MergeState). x.counts) step.changed ∙ ap (λ t. with_fate t path fate) (at.counts ∙ ap (counts_of stream open_at events) (all stream open_at m media s open_yet events k at)) ∙ sym (counts_heard stream open_at m media s open_yet events k at path packet room fate (fate_first new fate step) (ap is_counted_fate step.fate_is ∙ first_counts stream m.time packet) few_paths);
@@ -235,7 +248,7 @@ sound_refused m media path fate counts' probations' s room untaken is_counts = r
 
 pub sound_first : (m : MergeState) (media media' : ℤ) (path : ℕ) (packet : Packet) (a : Anchor) (g h : FinMap nat_cmp Packet) (base' size' : ℕ) (counts' : Tally) → IsSound m media → m.anchor ≡ None → m.closed ≡ false → m.counts.arrived < 2 ^ 62 → Fits m.spec packet → packet.seq < 65536 → packet.ts < 2 ^ 32 → can_anchor m.spec m.time packet ≡ true → a ≡ anchor_from m.spec m.time packet → IsEmpty g → ((n : ℕ) → get h n ≡ (if nat_eq n (65536 + packet.seq) then Some packet else get g n)) → base' ≡ 65536 + packet.seq → size' ≡ m.size → counts' ≡ with_fate m.counts path Taken → media' ≡ a.media → IsSound (record m { anchor = Some a; base = base'; size = size'; held = h; counts = counts' }) media'
 sound_first m media media' path packet a g h base' size' counts' s is_none open_yet room fits seq ts can is_a empty put is_base is_size is_counts is_media =
-    rw (is_media, is_a, is_base, is_size, is_counts) (sound_anew m media (first_media_time m.spec.clock packet.ts m.time) packet 0 g h (with_fate m.counts path Taken) m.probations s fits seq ts first.after first.before empty put (omega (arith, counts.restarts, none.none_restarted)) (record {
+    rw (is_media, is_a, is_base, is_size, is_counts) (sound_anew m media (first_media_time m.spec.clock packet.ts m.time) packet 0 g h (with_fate m.counts path Taken) m.probations m.tracks s fits seq ts first.after first.before empty put (omega (arith, counts.restarts, none.none_restarted)) (record {
       few_arrived = omega (arith, counts.arrived, room);
       few_epochs = omega (arith, counts.arrived, counts.restarts, none.none_restarted);
       slots_given = omega (arith, ints, counts.got, counts.lost, none.none_got, none.none_lost, first.after, s.time_low, s.spec_ok.small_latency);
@@ -304,5 +317,6 @@ pub refused_first : (stream : Stream) (old new : MergeState) (path : ℕ) (packe
 refused_first stream old new path packet fate step untaken = record {
   held = λ n. ap (λ (x : MergeState). get x.held n) (step.refused untaken);
   other_paths = λ other apart. ap (λ (x : MergeState). probation_at x.probations other) (step.refused untaken);
-  changed = subst (λ (x : MergeState). x ≡ record old { held = x.held; probations = x.probations; counts = with_fate old.counts path fate }) (sym (step.refused untaken)) refl;
+  other_tracks = λ other apart. ap (λ (x : MergeState). track_at x.tracks other) (step.refused untaken);
+  changed = subst (λ (x : MergeState). x ≡ record old { held = x.held; probations = x.probations; tracks = x.tracks; counts = with_fate old.counts path fate }) (sym (step.refused untaken)) refl;
 }

@@ -1,5 +1,7 @@
 -- A reading to a deadline on the way to a later reading changes nothing.
-use Rattle.path_merge.proofs.EpochLemmas.{heard_of-tick}
+use Rattle.path_merge.proofs.EpochLemmas.{heard_of-tick, standings_of-tick}
+use Rattle.rtp_stream.specs.PathTrack.{track_of}
+use Rattle.rtp_stream.specs.Standing.{standings_on}
 use Rattle.rtp_stream.specs.PathProbation.{probation_of}
 use Rattle.rtp_stream.specs.Epochs.{anchor_of}
 use Rattle.rtp_stream.specs.Grid.{first_with}
@@ -23,7 +25,7 @@ use Rattle.rtp_stream.specs.declared.event.Event.{Event}
 use Rattle.rtp_stream.specs.declared.event.Event.TheVariants.{Tick}
 
 pub alike-refl : (stream : Stream) (open_at : ℤ) (e : List Event) → IsAlike stream open_at e e
-alike-refl stream open_at e = record { well_timed = λ l. l; time = refl; closed = refl; fates = refl; anchor = refl; heard = λ path. refl; copies = refl; marks = refl; before_close = refl }
+alike-refl stream open_at e = record { well_timed = λ l. l; time = refl; closed = refl; fates = refl; anchor = refl; heard = λ path. refl; standings = refl; copies = refl; marks = refl; before_close = refl }
 
 pub alike-trans : (stream : Stream) (open_at : ℤ) (e f g : List Event) → IsAlike stream open_at e f → IsAlike stream open_at f g → IsAlike stream open_at e g
 alike-trans stream open_at e f g a b = record {
@@ -33,6 +35,7 @@ alike-trans stream open_at e f g a b = record {
   fates = a.fates ∙ b.fates;
   anchor = a.anchor ∙ b.anchor;
   heard = λ path. a.heard path ∙ b.heard path;
+  standings = a.standings ∙ b.standings;
   copies = a.copies ∙ b.copies;
   marks = a.marks ∙ b.marks;
   before_close = a.before_close ∙ b.before_close;
@@ -52,6 +55,7 @@ stands_alike stream open_at m e f k same at = record {
   base = rw (← same.marks) at.base;
   held = λ n. rw (← same.copies) (at.held n);
   probation = λ path few. at.probation path few ∙ ap (probation_of stream) (same.heard path);
+  tracks = λ path few. at.tracks path few ∙ ap (λ l. track_of (standings_on path l)) same.standings;
   quiet = rw (← same.marks) at.quiet;
   ended = rw (← same.marks) at.ended;
 }
@@ -108,6 +112,7 @@ module _ (stream : Stream) (open_at : ℤ) (some : 0 < stream.frames) (events : 
     fates = fates_of-tick stream open_at (events ++ Tick u ∷ []) v ∙ fates_of-tick stream open_at events u ∙ sym (fates_of-tick stream open_at events v);
     anchor = anchor_of-tick stream open_at (events ++ Tick u ∷ []) v ∙ anchor_of-tick stream open_at events u ∙ sym (anchor_of-tick stream open_at events v);
     heard = λ path. heard_of-tick stream open_at (events ++ Tick u ∷ []) v path ∙ heard_of-tick stream open_at events u path ∙ sym (heard_of-tick stream open_at events v path);
+    standings = standings_of-tick stream open_at (events ++ Tick u ∷ []) v ∙ standings_of-tick stream open_at events u ∙ sym (standings_of-tick stream open_at events v);
     copies = copies_of-tick stream open_at (events ++ Tick u ∷ []) v ∙ copies_of-tick stream open_at events u ∙ sym (copies_of-tick stream open_at events v);
     marks = joined_marks;
     before_close = rw (events_until_close-open ((events ++ Tick u ∷ []) ++ Tick v ∷ []) (is_closed-append (events ++ Tick u ∷ []) (Tick v ∷ []) ∙ rw open_u), events_until_close-open (events ++ Tick v ∷ []) (is_closed-append events (Tick v ∷ []) ∙ rw tick.open_yet)) joined_marks;

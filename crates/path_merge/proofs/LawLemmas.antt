@@ -8,7 +8,7 @@ use Rattle.path_merge.proofs.ArrivalLemmas.{marks_of-arrive}
 use Rattle.path_merge.proofs.CloseLemmas.{marks_of-close}
 use Rattle.path_merge.proofs.HistoryLemmas.{anchor_of-tick, by_last_event, copies_of-tick, events_until_close-open, fates_of-tick, is_closed-append, marks_in, marks_in-push, marks_of-in, time_of-append}
 use Rattle.path_merge.proofs.JoinLemmas.{has_slot-append, slots_or_quiet-slotted}
-use Rattle.path_merge.proofs.EpochLemmas.{deaf_copies_all, heard_of-tick}
+use Rattle.path_merge.proofs.EpochLemmas.{deaf_copies_all, heard_of-tick, standings_of-tick}
 use Rattle.path_merge.proofs.MarkGrowthLemmas.{IsTickAt, tick_well_timed, well_timed_before, well_timed_tick}
 use Rattle.path_merge.proofs.DueLemmas.{before_next_number, due_before_next, next_number-at_deadline, next_number-rises}
 use Rattle.path_merge.proofs.StepLemmas.{marks_of-tick, take_all}
@@ -98,6 +98,7 @@ module _ (stream : Stream) (open_at : ℤ) (some : 0 < stream.frames) (events : 
     fates = fates_of-tick stream open_at (events ++ Tick (deadline_of stream a n) ∷ []) v ∙ fates_of-tick stream open_at events (deadline_of stream a n) ∙ sym (fates_of-tick stream open_at events v);
     anchor = anchor_of-tick stream open_at (events ++ Tick (deadline_of stream a n) ∷ []) v ∙ anchor_of-tick stream open_at events (deadline_of stream a n) ∙ sym (anchor_of-tick stream open_at events v);
     heard = λ path. heard_of-tick stream open_at (events ++ Tick (deadline_of stream a n) ∷ []) v path ∙ heard_of-tick stream open_at events (deadline_of stream a n) path ∙ sym (heard_of-tick stream open_at events v path);
+    standings = standings_of-tick stream open_at (events ++ Tick (deadline_of stream a n) ∷ []) v ∙ standings_of-tick stream open_at events (deadline_of stream a n) ∙ sym (standings_of-tick stream open_at events v);
     copies = copies_of-tick stream open_at (events ++ Tick (deadline_of stream a n) ∷ []) v ∙ copies_of-tick stream open_at events (deadline_of stream a n) ∙ sym (copies_of-tick stream open_at events v);
     marks = split_marks;
     before_close = rw (events_until_close-open ((events ++ Tick (deadline_of stream a n) ∷ []) ++ Tick v ∷ []) (is_closed-append (events ++ Tick (deadline_of stream a n) ∷ []) (Tick v ∷ []) ∙ rw open_u), events_until_close-open (events ++ Tick v ∷ []) (is_closed-append events (Tick v ∷ []) ∙ rw still.open_yet)) split_marks;

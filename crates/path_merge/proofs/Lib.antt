@@ -41,5 +41,6 @@ pub mod SpanLemmas
 pub mod FullNumberLemmas
 pub mod SentHistoryLemmas
 pub mod NearLemmas
+pub mod HeardLemmas
 pub mod GainLemmas
 pub mod LentLemmas

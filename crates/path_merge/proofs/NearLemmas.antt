@@ -1,5 +1,5 @@
 -- Where every number that was sent lies within half a cycle, the received history has one epoch.
-use Rattle.std.proofs.Common.{◌≡◌, ℕ, ◌<◌, ◌≤◌, Bool, true, false, ◌&&◌, List, [], ◌∷◌, ◌++◌, length, Some, ℤ, refl, sym, ap, subst, ◌∙◌, arith, append-nil, append_assoc, if◌then◌else◌}
+use Rattle.std.proofs.Common.{◌≡◌, ℕ, ◌<◌, ◌≤◌, Bool, true, false, ◌&&◌, ◌||◌, List, [], ◌∷◌, ◌++◌, length, Some, ℤ, refl, sym, ap, subst, ◌∙◌, arith, append-nil, append_assoc, if◌then◌else◌}
 use Rattle.path_merge.proofs.EpochLemmas.{WithinLength, heard_of-push, no_anchors, place_within}
 use Rattle.path_merge.proofs.HistoryLemmas.{anchors_of-push, arrival_count-append, time_of-append}
 use Rattle.rtp_stream.proofs.ProbationLemmas.{complete_is, probation_of-push}
@@ -12,6 +12,7 @@ use Rattle.rtp_stream.specs.History.{arrival_count, is_closed, is_counting, time
 use Rattle.rtp_stream.specs.Marks.{marks_of}
 use Rattle.rtp_stream.specs.PathProbation.{is_complete}
 use Rattle.rtp_stream.specs.Probation.{completes_probation, heard_since, is_off}
+use Rattle.rtp_stream.specs.Standing.{is_following, is_slip}
 use Rattle.rtp_stream.specs.Sent.{Arrives, BeginsWith, Closes, IsNear, IsOneEpoch, IsWithinReach, SentEvent, SentPacket, Ticks, marks_by_number, wire_history, wire_packet}
 use Rattle.rtp_stream.specs.declared.stream_spec.Stream.{Stream}
 use Rattle.rtp_stream.specs.declared.anchor.Anchor.{Anchor}
@@ -23,7 +24,7 @@ use Rattle.rtp_stream.specs.declared.packet.Packet.{Packet}
 on_grid_completes_none : (stream : Stream) (heard : List (Bool × Packet)) (packet : Packet) → completes_probation stream (heard ++ (false, packet) ∷ []) ≡ false
 on_grid_completes_none stream heard packet = complete_is stream (heard ++ (false, packet) ∷ []) ∙ ap is_complete (probation_of-push stream heard (false, packet))
 
-module _ (stream : Stream) (open_at : ℤ) (before : List Event) (path : ℕ) (packet : Packet) (place : ℕ) (a : Anchor) (on : is_off stream a (next_number stream a (time_of open_at before)) packet ≡ false) (within : place < length before) (counts : is_counting before ≡ true) where
+module _ (stream : Stream) (open_at : ℤ) (plain : is_following stream.clock ≡ false) (before : List Event) (path : ℕ) (packet : Packet) (place : ℕ) (a : Anchor) (on : is_off stream a (next_number stream a (time_of open_at before)) packet ≡ false) (within : place < length before) (counts : is_counting before ≡ true) where
   -- so it opens no epoch
   opens_none : can_restart stream open_at place a before path packet ≡ false
   opens_none = by_wanted (is_source_wanted stream.ssrc packet.ssrc) refl (continues_media_time stream (time_of open_at before) a packet) (is_all_given stream open_at place a before)
@@ -33,16 +34,19 @@ module _ (stream : Stream) (open_at : ℤ) (before : List Event) (path : ℕ) (p
       none true false = refl
       none true true = refl
 
-      by_wanted : (w : Bool) → is_source_wanted stream.ssrc packet.ssrc ≡ w → (b c : Bool) → (b && (c && (w && completes_probation stream (heard_since stream open_at place a (before ++ Arrive path packet ∷ []) path)))) ≡ false
+      no_slip : is_slip stream open_at place a before path packet ≡ false
+      no_slip = rw plain refl
+
+      by_wanted : (w : Bool) → is_source_wanted stream.ssrc packet.ssrc ≡ w → (b c : Bool) → (b && (c && (w && (completes_probation stream (heard_since stream open_at place a (before ++ Arrive path packet ∷ []) path) || is_slip stream open_at place a before path packet)))) ≡ false
       by_wanted false is b c = none b c
       by_wanted true is b c =
           let heard : heard_since stream open_at place a (before ++ Arrive path packet ∷ []) path ≡ heard_since stream open_at place a before path ++ (false, packet) ∷ [] =
           heard_of-push stream open_at (Some (place, a)) before (Arrive path packet) path within
           ∙ ap (λ l. heard_since stream open_at place a before path ++ l) (rw (counts, itself_eq path, is, on) refl) in
           let no : completes_probation stream (heard_since stream open_at place a (before ++ Arrive path packet ∷ []) path) ≡ false = ap (completes_probation stream) heard ∙ on_grid_completes_none stream (heard_since stream open_at place a before path) packet in
-          ap (λ d. b && (c && d)) no ∙ none b c
+          ap (λ d. b && (c && (d || is_slip stream open_at place a before path packet))) no ∙ ap (λ d. b && (c && d)) no_slip ∙ none b c
 
-module _ (stream : Stream) (anchor : Anchor) (open_at : ℤ) where
+module _ (stream : Stream) (anchor : Anchor) (open_at : ℤ) (plain : is_following stream.clock ≡ false) where
   -- the anchor alone stays
   base_alone : (before : List Event) (path : ℕ) (packet : SentPacket) (place : ℕ) → 65536 ≤ next_number stream anchor (time_of open_at before) → anchors_of stream open_at before ≡ (place, anchor) ∷ [] → IsNear 32768 (next_number stream anchor (time_of open_at before)) packet.number → anchors_of stream open_at (before ++ Arrive path (wire_packet stream anchor packet) ∷ []) ≡ (place, anchor) ∷ []
   base_alone before path packet place high is near =
@@ -58,7 +62,7 @@ module _ (stream : Stream) (anchor : Anchor) (open_at : ℤ) where
 
       by_counting : (b : Bool) → is_counting before ≡ b → (if b then placed (length before) (anchors_after stream open_at (Some (place, anchor)) before path (wire_packet stream anchor packet)) else []) ≡ []
       by_counting false counts = refl
-      by_counting true counts = rw (opens_none stream open_at before path (wire_packet stream anchor packet) place anchor on within counts) refl
+      by_counting true counts = rw (opens_none stream open_at plain before path (wire_packet stream anchor packet) place anchor on within counts) refl
 
   one_anchor : (events : List Event) (place : ℕ) → anchors_of stream open_at events ≡ (place, anchor) ∷ [] → IsOneEpoch stream open_at events
   one_anchor events place is = omega (arith, ap length is)
@@ -98,4 +102,4 @@ module _ (stream : Stream) (anchor : Anchor) (open_at : ℤ) where
   near_is_one_epoch sent begins within = before_base [] sent (no_anchors stream open_at) refl refl begins within
 
   pub near_marks : (sent : List SentEvent) → BeginsWith stream anchor open_at sent → IsWithinReach stream anchor 32768 open_at sent → marks_of stream open_at (wire_history stream anchor sent) ≡ marks_by_number stream anchor open_at sent
-  near_marks sent begins within = marks_near stream anchor open_at sent begins within (near_is_one_epoch sent begins within)
+  near_marks sent begins within = marks_near stream anchor open_at plain sent begins within (near_is_one_epoch sent begins within)

@@ -1,5 +1,5 @@
 -- The epoch that a packet may open: nothing is held, and media time goes on.
-use Rattle.std.proofs.Common.{◌≡◌, ℕ, ◌-◌, ◌<◌, ◌≤◌, Bool, true, false, ◌&&◌, Some, None, IsSome, ℤ, refl, ap, ◌∙◌, arith, if◌then◌else◌, ⊎_elim}
+use Rattle.std.proofs.Common.{◌≡◌, ℕ, ◌-◌, ◌<◌, ◌≤◌, Bool, true, false, ◌&&◌, ◌||◌, Some, None, IsSome, ℤ, refl, ap, ◌∙◌, arith, if◌then◌else◌, ⊎_elim}
 use Rattle.std.specs.Prelude.{nat_le}
 use Rattle.std.specs.FinMap.{get}
 use Rattle.std.proofs.lemmas.Bool.{cases_lt}
@@ -9,6 +9,7 @@ use Rattle.path_merge.proofs.SoundLemmas.{anchored_at}
 use Rattle.rtp_stream.specs.Anchor.{is_restart_in_reach, is_source_wanted, media_time_of, restart_media_time}
 use Rattle.path_merge.specs.MergeState.{IsAnchored, IsSound, MergeState, held_count, holds_nothing}
 use Rattle.rtp_stream.specs.PathProbation.{is_complete, probation_at, probation_heard}
+use Rattle.rtp_stream.specs.PathTrack.{is_slip_by}
 use Rattle.rtp_stream.specs.Probation.{is_off}
 use Rattle.path_merge.specs.Steps.{epoch_media, opening_of}
 use Rattle.path_merge.specs.Window.{IsEmpty}
@@ -46,7 +47,7 @@ pub record Opens (m : MergeState) (a : Anchor) (packet : Packet) (media : ℤ) :
   pub continues_media_time : is_restart_in_reach m.spec m.time (media_time_of m.spec a m.base) media ≡ true
 
 pub opening_is : (m : MergeState) (a : Anchor) (path : ℕ) (packet : Packet) (media : ℤ) → Some media ≡ opening_of m a path packet → Opens m a packet media
-opening_is m a path packet media is = by_tests (is_source_wanted m.spec.ssrc packet.ssrc && is_complete (probation_heard m.spec (probation_at m.probations path) (is_off m.spec a m.base packet) packet)) (holds_nothing m) (is_restart_in_reach m.spec m.time (media_time_of m.spec a m.base) (restart_media_time m.spec.clock packet.ts m.time (media_time_of m.spec a m.base))) refl refl is
+opening_is m a path packet media is = by_tests (is_source_wanted m.spec.ssrc packet.ssrc && (is_complete (probation_heard m.spec (probation_at m.probations path) (is_off m.spec a m.base packet) packet) || is_slip_by m.spec a m.base m.tracks path packet)) (holds_nothing m) (is_restart_in_reach m.spec m.time (media_time_of m.spec a m.base) (restart_media_time m.spec.clock packet.ts m.time (media_time_of m.spec a m.base))) refl refl is
   where
     some_inj : {x y : ℤ} → Some x ≡ Some y → x ≡ y
     some_inj e = cc

@@ -11,6 +11,7 @@ use Rattle.rtp_stream.specs.Anchor.{next_number}
 use Rattle.rtp_stream.specs.Counts.{is_restarted, is_taken_fate}
 use Rattle.rtp_stream.specs.CountsFacts.{Tally, with_fate}
 use Rattle.rtp_stream.specs.Fate.{fate_at, fate_of_put, place_of}
+use Rattle.rtp_stream.specs.Grid.{in_room}
 use Rattle.path_merge.specs.MergeState.{IsSound, MergeState, held_count}
 use Rattle.path_merge.specs.Steps.{IsPutStep}
 use Rattle.rtp_stream.specs.declared.probation.Probation.{Probation}
@@ -24,19 +25,19 @@ use Rattle.rtp_stream.specs.declared.fate.Put.{Put}
 use Rattle.rtp_stream.specs.declared.fate.Put.TheVariants.{Double as PutDouble, Taken as PutTaken, Unlike as PutUnlike}
 
 -- the steps that the code makes
-pub put_step_fault : (m : MergeState) (a : Anchor) (path : ℕ) (packet : Packet) (fate : Fate) (counts' : Tally) → place_of m.spec a m.base packet ≡ Err fate → counts' ≡ with_fate m.counts path fate → IsPutStep m.spec m (record m { counts = counts' }) a path packet fate
-put_step_fault m a path packet fate counts' is is_counts =
-    let untaken = (has_no_place m.spec a m.base packet fate is).untaken in
+pub put_step_fault : (m : MergeState) (room : ℕ) (a : Anchor) (path : ℕ) (packet : Packet) (fate : Fate) (counts' : Tally) → place_of (in_room m.spec room) a m.base packet ≡ Err fate → counts' ≡ with_fate m.counts path fate → IsPutStep m.spec room m (record m { counts = counts' }) a path packet fate
+put_step_fault m room a path packet fate counts' is is_counts =
+    let untaken = (has_no_place (in_room m.spec room) a m.base packet fate is).untaken in
     record {
       fate_is = rw is refl;
       held = λ n. rw untaken refl;
       changed = rw is_counts refl;
     }
 
-pub put_step_put : (m : MergeState) (a : Anchor) (path : ℕ) (packet : Packet) (h : FinMap nat_cmp Packet) (base' size' number : ℕ) (counts' : Tally) (p : Put) (fate : Fate) → place_of m.spec a m.base packet ≡ Ok number → fate ≡ fate_of_put p → p ≡ put_answer (get m.held number) packet → ((n : ℕ) → get h n ≡ (if is_taken p && nat_eq n number then Some packet else get m.held n)) → base' ≡ m.base → size' ≡ m.size → counts' ≡ with_fate m.counts path fate → IsPutStep m.spec m (record m { base = base'; size = size'; held = h; counts = counts' }) a path packet fate
-put_step_put m a path packet h base' size' number counts' p fate is is_fate answer held is_base is_size is_counts = record {
+pub put_step_put : (m : MergeState) (room : ℕ) (a : Anchor) (path : ℕ) (packet : Packet) (h : FinMap nat_cmp Packet) (base' size' number : ℕ) (counts' : Tally) (p : Put) (fate : Fate) → place_of (in_room m.spec room) a m.base packet ≡ Ok number → fate ≡ fate_of_put p → p ≡ put_answer (get m.held number) packet → ((n : ℕ) → get h n ≡ (if is_taken p && nat_eq n number then Some packet else get m.held n)) → base' ≡ m.base → size' ≡ m.size → counts' ≡ with_fate m.counts path fate → IsPutStep m.spec room m (record m { base = base'; size = size'; held = h; counts = counts' }) a path packet fate
+put_step_put m room a path packet h base' size' number counts' p fate is is_fate answer held is_base is_size is_counts = record {
   fate_is = is_fate ∙ ap fate_of_put answer ∙ sym (ap (λ o. fate_at o (get m.held) packet) is);
-  held = λ n. held n ∙ ap (λ b. if b && nat_eq n number then Some packet else get m.held n) (sym (ap is_taken_fate is_fate ∙ taken_put p)) ∙ ap (λ x. if is_taken_fate fate && nat_eq n x then Some packet else get m.held n) (has_place m.spec a m.base packet number is).is;
+  held = λ n. held n ∙ ap (λ b. if b && nat_eq n number then Some packet else get m.held n) (sym (ap is_taken_fate is_fate ∙ taken_put p)) ∙ ap (λ x. if is_taken_fate fate && nat_eq n x then Some packet else get m.held n) (has_place (in_room m.spec room) a m.base packet number is).is;
   changed = rw (is_base, is_size, is_counts) refl;
 }
 

@@ -30,6 +30,7 @@ alike-sym stream open_at e f same timed = record {
   fates = sym same.fates;
   anchor = sym same.anchor;
   heard = λ path. sym (same.heard path);
+  standings = sym same.standings;
   copies = sym same.copies;
   marks = sym same.marks;
   before_close = sym same.before_close;

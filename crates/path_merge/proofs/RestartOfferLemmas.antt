@@ -1,10 +1,15 @@
 -- An offer that opens an epoch takes the history on.
-use Rattle.std.proofs.Common.{◌≡◌, ℕ, ◌+◌, ◌^◌, ◌<◌, ◌≤◌, Bool, true, false, not, ◌&&◌, List, [], ◌∷◌, ◌++◌, length, take, min, Some, None, ℤ, refl, sym, ap, subst, ◌∙◌, arith, append-nil, length-append, if◌then◌else◌}
+use Rattle.std.proofs.Common.{◌≡◌, ℕ, ◌+◌, ◌^◌, ◌<◌, ◌≤◌, Bool, true, false, not, ◌&&◌, ◌||◌, List, [], ◌∷◌, ◌++◌, length, take, min, Some, None, ℤ, refl, sym, ap, subst, ◌∙◌, arith, append-nil, length-append, if◌then◌else◌}
 use Rattle.std.specs.Prelude.{IsSome, is_some, nat_eq, nat_le, nat_lt, ◌-◌}
 use Rattle.std.specs.FinMap.{get}
 use Rattle.std.proofs.lemmas.Bool.Decides.{nat_tests}
 use Rattle.path_merge.proofs.ArrivalLemmas.{marks_of-arrive, stands_after_arrival}
-use Rattle.path_merge.proofs.EpochLemmas.{WithinLength, anchor_is, copies_of-since, copies_since-made, heard_of-made, heard_of-push, last-push, place_within, since_of}
+use Rattle.path_merge.proofs.EpochLemmas.{WithinLength, anchor_is, copies_of-since, copies_since-made, heard_of-made, heard_of-push, last-push, place_within, room_made, since_of, standings_of-made, standings_since-push}
+use Rattle.rtp_stream.proofs.TrackLemmas.{astray_is, early_is, end_is, track_of-push}
+use Rattle.rtp_stream.specs.PathTrack.{is_often, is_slip_by, room_by, standing_by, track_after, track_at, track_of}
+use Rattle.rtp_stream.specs.Standing.{are_many, empties, end_of_standings, end_since, has_wire_size, is_astray, is_beyond, is_following, is_slip, room_after, room_since, standing_after, standing_of, standings_on, standings_since}
+use Rattle.rtp_stream.specs.declared.track.Standing.{Standing}
+use Rattle.rtp_stream.specs.declared.track.Track.{Track}
 use Rattle.path_merge.proofs.HistoryLemmas.{arrival_count-append, by_last_event, fates_of-push, fates_of-tick, is_closed-append, marks_of-in, or_else}
 use Rattle.path_merge.proofs.MarkGrowthLemmas.{AllSlotsBelow, IsSlotBelow, limit_of, slots_below}
 use Rattle.rtp_stream.proofs.ProbationLemmas.{complete_is, probation_of-push}
@@ -18,11 +23,11 @@ use Rattle.rtp_stream.specs.Counts.{counts_of, fates_of, is_counted_fate, tally_
 use Rattle.rtp_stream.specs.CountsFacts.{Tally, with_fate}
 use Rattle.rtp_stream.specs.Epochs.{anchor_in, anchor_of, anchors_at, anchors_of, can_restart, copies_since, continues_media_time, is_all_given, last_of}
 use Rattle.rtp_stream.specs.Fate.{fate_of}
-use Rattle.rtp_stream.specs.Grid.{end_of_copies, first_with}
+use Rattle.rtp_stream.specs.Grid.{copies_under, end_of_copies, first_with, in_room}
 use Rattle.rtp_stream.specs.History.{arrival_count, at_places, is_closed, is_counting, time_of}
 use Rattle.rtp_stream.specs.MarkFacts.{MarkView}
 use Rattle.rtp_stream.specs.Marks.{marks_of}
-use Rattle.path_merge.specs.Merge.{HasHistory, heard_of, is_slot_in, slot_count}
+use Rattle.path_merge.specs.Merge.{HasHistory, heard_of, is_slot_in, slot_count, standings_of}
 use Rattle.path_merge.specs.MergeState.{IsSound, MergeState, holds_nothing}
 use Rattle.rtp_stream.specs.PathProbation.{is_complete, probation_after, probation_at, probation_heard, probation_of}
 use Rattle.rtp_stream.specs.Probation.{completes_probation, heard_since, is_off}
@@ -95,6 +100,40 @@ counted_arrivals stream open_at = by_last_event (λ events. is_closed events ≡
             let many : 2 ^ 62 ≤ arrival_count events = grind (arith, nat_tests, is) in
             ap length (append-nil (fates_of stream open_at events)) ∙ omega (arith, same, many, arrival_count-append events (Arrive path packet ∷ []))
 
+-- how arrivals stand on a path, and one more
+pub standings_on-own : (path : ℕ) (standings : List Standing) (s : Standing) → s.path ≡ path → standings_on path (standings ++ s ∷ []) ≡ standings_on path standings ++ s ∷ []
+standings_on-own path [] s is = let same : nat_eq s.path path ≡ true = grind (arith, nat_tests, is) in rw same refl
+standings_on-own path (x ∷ standings) s is = by_test (nat_eq x.path path) (standings_on-own path standings s is)
+  where
+    by_test : (b : Bool) → standings_on path (standings ++ s ∷ []) ≡ standings_on path standings ++ s ∷ [] → (if b then x ∷ standings_on path (standings ++ s ∷ []) else standings_on path (standings ++ s ∷ [])) ≡ (if b then x ∷ standings_on path standings else standings_on path standings) ++ s ∷ []
+    by_test true rest = ap (λ l. x ∷ l) rest
+    by_test false rest = rest
+
+pub standings_on-other : (on : ℕ) (standings : List Standing) (s : Standing) → nat_eq s.path on ≡ false → standings_on on (standings ++ s ∷ []) ≡ standings_on on standings
+standings_on-other on [] s apart = rw apart refl
+standings_on-other on (x ∷ standings) s apart = ap (λ l. if nat_eq x.path on then x ∷ l else l) (standings_on-other on standings s apart)
+
+-- the same on each of four paths
+pub empties_same : (a : Anchor) (next : ℕ) (e f : ℕ → Bool) (n o : ℕ → ℕ) → ((path : ℕ) → path < 4 → e path ≡ f path) → ((path : ℕ) → path < 4 → n path ≡ o path) → empties a next e n ≡ empties a next f o
+empties_same a next e f n o early ends =
+    let e0 = early 0 (omega arith) in
+    let e1 = early 1 (omega arith) in
+    let e2 = early 2 (omega arith) in
+    let e3 = early 3 (omega arith) in
+    let n0 = ends 0 (omega arith) in
+    let n1 = ends 1 (omega arith) in
+    let n2 = ends 2 (omega arith) in
+    let n3 = ends 3 (omega arith) in
+    rw (e0, e1, e2, e3, n0, n1, n2, n3) refl
+
+pub end_same : (a : Anchor) (n o : ℕ → ℕ) → ((path : ℕ) → path < 4 → n path ≡ o path) → end_since a n ≡ end_since a o
+end_same a n o ends =
+    let n0 = ends 0 (omega arith) in
+    let n1 = ends 1 (omega arith) in
+    let n2 = ends 2 (omega arith) in
+    let n3 = ends 3 (omega arith) in
+    rw (n0, n1, n2, n3) refl
+
 module _ (stream : Stream) (open_at : ℤ) (m : MergeState) (media : ℤ) (s : IsSound m media) (open_yet : m.closed ≡ false) (events : List Event) (k : ℕ) (at : HasHistory stream open_at m events k) where
   pub some_frames : 0 < stream.frames
   some_frames = rw at.spec at s.spec_ok.some_frames
@@ -139,6 +178,59 @@ module _ (stream : Stream) (open_at : ℤ) (m : MergeState) (media : ℤ) (s : I
         ∙ ap (λ p. is_complete (probation_after stream p (is_off stream a m.base packet, packet))) (sym (at.probation path few_paths ∙ ap (λ o. probation_of stream (heard_of stream open_at o events path)) last))
         ∙ sym (rw wanted refl)
 
+    -- how arrivals stand since the anchor, and what the tracks keep of it
+    abbrev standings_now : List Standing
+    standings_now = standings_since stream open_at place a events
+
+    pub was_track : (on : ℕ) → on < 4 → track_at m.tracks on ≡ track_of (standings_on on (standings_since stream open_at place a events))
+    was_track on few_on = at.tracks on few_on ∙ ap (λ o. track_of (standings_on on (standings_of stream open_at o events))) last
+
+    next_then : m.base ≡ next_number stream a (time_of open_at events)
+    next_then = next_is ∙ ap (next_number stream a) at.time
+
+    room_here : room_by stream a m.base m.tracks ≡ room_after stream a m.base (standings_since stream open_at place a events)
+    room_here = ap (λ b. if is_following stream.clock && b then 0 else stream.window) (empties_same a m.base (λ on. is_often (track_at m.tracks on).early) (λ on. are_many is_beyond (standings_on on (standings_since stream open_at place a events))) (λ on. (track_at m.tracks on).end) (λ on. end_of_standings (standings_on on (standings_since stream open_at place a events)))
+        (λ on few_on. ap (λ (t : Track). is_often t.early) (was_track on few_on) ∙ early_is (standings_on on (standings_since stream open_at place a events)))
+        (λ on few_on. ap (λ (t : Track). t.end) (was_track on few_on) ∙ end_is (standings_on on (standings_since stream open_at place a events))))
+
+    pub room_is : room_by stream a m.base m.tracks ≡ room_since stream open_at place a events
+    room_is = room_here ∙ ap (λ b. room_after stream a b (standings_since stream open_at place a events)) next_then
+
+    pub stands_is : standing_by stream a m.base m.tracks path packet ≡ standing_after stream a (next_number stream a (time_of open_at events)) (standings_since stream open_at place a events) path packet
+    stands_is =
+        ap (λ r. standing_of stream a m.base r (end_since a (λ on. (track_at m.tracks on).end)) path packet) room_here
+        ∙ ap (λ e. standing_of stream a m.base (room_after stream a m.base (standings_since stream open_at place a events)) e path packet) (end_same a (λ on. (track_at m.tracks on).end) (λ on. end_of_standings (standings_on on (standings_since stream open_at place a events))) (λ on few_on. ap (λ (t : Track). t.end) (was_track on few_on) ∙ end_is (standings_on on (standings_since stream open_at place a events))))
+        ∙ ap (λ b. standing_after stream a b (standings_since stream open_at place a events) path packet) next_then
+
+    -- an arrival that is judged
+    pub judged_here : is_following stream.clock ≡ true → is_source_wanted stream.ssrc packet.ssrc ≡ true → standings_on path (standings_since stream open_at place a (events ++ Arrive path packet ∷ [])) ≡ standings_on path (standings_since stream open_at place a events) ++ standing_by stream a m.base m.tracks path packet ∷ []
+    judged_here follows wanted =
+        ap (standings_on path) (standings_since-push stream open_at a place events (Arrive path packet) (subst (WithinLength (length events)) last (place_within stream open_at events))
+        ∙ ap (λ l. standings_since stream open_at place a events ++ l) (one (is_following stream.clock) (is_counting events) (is_source_wanted stream.ssrc packet.ssrc) (standing_after stream a (next_number stream a (time_of open_at events)) (standings_since stream open_at place a events) path packet) follows (hears room) wanted
+        ∙ ap (λ s. s ∷ []) (sym stands_is)))
+        ∙ standings_on-own path (standings_since stream open_at place a events) (standing_by stream a m.base m.tracks path packet) refl
+      where
+        one : (f c w : Bool) (s : Standing) → f ≡ true → c ≡ true → w ≡ true → (if f && (c && w) then s ∷ [] else []) ≡ s ∷ []
+        one f c w s ef ec ew = rw (ef, ec, ew) refl
+
+    often_is : is_following stream.clock ≡ true → is_source_wanted stream.ssrc packet.ssrc ≡ true → is_often (track_after (track_at m.tracks path) (standing_by stream a m.base m.tracks path packet)).astray ≡ are_many is_astray (standings_on path (standings_since stream open_at place a (events ++ Arrive path packet ∷ [])))
+    often_is follows wanted =
+        ap (λ t. is_often (track_after t (standing_by stream a m.base m.tracks path packet)).astray) (was_track path few_paths)
+        ∙ ap (λ (t : Track). is_often t.astray) (sym (track_of-push (standings_on path (standings_since stream open_at place a events)) (standing_by stream a m.base m.tracks path packet)))
+        ∙ astray_is (standings_on path (standings_since stream open_at place a events) ++ standing_by stream a m.base m.tracks path packet ∷ [])
+        ∙ ap (are_many is_astray) (sym (judged_here follows wanted))
+
+    slips_is : is_source_wanted stream.ssrc packet.ssrc ≡ true → is_slip_by stream a m.base m.tracks path packet ≡ is_slip stream open_at place a events path packet
+    slips_is wanted = by_clock (is_following stream.clock) refl
+      where
+        by_clock : (f : Bool) → is_following stream.clock ≡ f
+            → (f && (has_wire_size packet && (is_astray (standing_by stream a m.base m.tracks path packet) && is_often (track_after (track_at m.tracks path) (standing_by stream a m.base m.tracks path packet)).astray)))
+            ≡ (f && (has_wire_size packet && (is_astray (standing_after stream a (next_number stream a (time_of open_at events)) (standings_since stream open_at place a events) path packet) && are_many is_astray (standings_on path (standings_since stream open_at place a (events ++ Arrive path packet ∷ []))))))
+        by_clock false follows = refl
+        by_clock true follows =
+            ap (λ b. has_wire_size packet && (is_astray (standing_by stream a m.base m.tracks path packet) && b)) (often_is follows wanted)
+            ∙ ap (λ s. has_wire_size packet && (is_astray s && are_many is_astray (standings_on path (standings_since stream open_at place a (events ++ Arrive path packet ∷ []))))) stands_is
+
     copies_are : copies_of stream open_at events ≡ copies_since stream open_at place a events
     copies_are = copies_of-since stream open_at events ∙ ap (λ o. since_of stream open_at o events) last
 
@@ -156,8 +248,8 @@ module _ (stream : Stream) (open_at : ℤ) (m : MergeState) (media : ℤ) (s : I
 
     pub opens_is : opens_epoch m a path packet ≡ can_restart stream open_at place a events path packet
     opens_is =
-        ap (λ sp. is_some (if is_source_wanted sp.ssrc packet.ssrc && is_complete (probation_heard sp (probation_at m.probations path) (is_off sp a m.base packet) packet) then (if holds_nothing m && is_restart_in_reach sp m.time (media_time_of sp a m.base) (restart_media_time sp.clock packet.ts m.time (media_time_of sp a m.base)) then Some (restart_media_time sp.clock packet.ts m.time (media_time_of sp a m.base)) else None) else None)) at.spec
-        ∙ by_tests (is_source_wanted stream.ssrc packet.ssrc) _ _ _ _ _ _ (restart_media_time stream.clock packet.ts m.time (media_time_of stream a m.base)) (λ wanted. sym (completes_is wanted)) given_is goes_is
+        ap (λ sp. is_some (if is_source_wanted sp.ssrc packet.ssrc && (is_complete (probation_heard sp (probation_at m.probations path) (is_off sp a m.base packet) packet) || is_slip_by sp a m.base m.tracks path packet) then (if holds_nothing m && is_restart_in_reach sp m.time (media_time_of sp a m.base) (restart_media_time sp.clock packet.ts m.time (media_time_of sp a m.base)) then Some (restart_media_time sp.clock packet.ts m.time (media_time_of sp a m.base)) else None) else None)) at.spec
+        ∙ by_tests (is_source_wanted stream.ssrc packet.ssrc) _ _ _ _ _ _ (restart_media_time stream.clock packet.ts m.time (media_time_of stream a m.base)) (λ wanted. ap (λ b. b || is_slip_by stream a m.base m.tracks path packet) (sym (completes_is wanted)) ∙ ap (λ b. completes_probation stream (heard_since stream open_at place a (events ++ Arrive path packet ∷ []) path) || b) (slips_is wanted)) given_is goes_is
       where
         in_order : (c g r : Bool) (z : ℤ) → is_some (if c then (if g && r then Some z else None) else None) ≡ (r && (g && c))
         in_order true true true z = refl
@@ -181,7 +273,7 @@ module _ (stream : Stream) (open_at : ℤ) (m : MergeState) (media : ℤ) (s : I
       first : GoesOn stream m.time (media_time_of stream a m.base) (restart_media_time stream.clock packet.ts m.time (media_time_of stream a m.base))
       first = in_reach_then (continues_media_time stream (time_of open_at events) a packet) refl opens
         where
-          in_reach_then : (b : Bool) → continues_media_time stream (time_of open_at events) a packet ≡ b → (b && (is_all_given stream open_at place a events && (is_source_wanted stream.ssrc packet.ssrc && completes_probation stream (heard_since stream open_at place a (events ++ Arrive path packet ∷ []) path)))) ≡ true → GoesOn stream m.time (media_time_of stream a m.base) (restart_media_time stream.clock packet.ts m.time (media_time_of stream a m.base))
+          in_reach_then : (b : Bool) → continues_media_time stream (time_of open_at events) a packet ≡ b → (b && (is_all_given stream open_at place a events && (is_source_wanted stream.ssrc packet.ssrc && (completes_probation stream (heard_since stream open_at place a (events ++ Arrive path packet ∷ []) path) || is_slip stream open_at place a events path packet)))) ≡ true → GoesOn stream m.time (media_time_of stream a m.base) (restart_media_time stream.clock packet.ts m.time (media_time_of stream a m.base))
           in_reach_then true is e = in_reach stream m.time (media_time_of stream a m.base) (restart_media_time stream.clock packet.ts m.time (media_time_of stream a m.base)) (rw (next_is, at.time) is)
           in_reach_then false is e = cc
 
@@ -198,7 +290,8 @@ module _ (stream : Stream) (open_at : ℤ) (m : MergeState) (media : ℤ) (s : I
           copies_of-since stream open_at (events ++ Arrive path packet ∷ [])
           ∙ ap (λ o. since_of stream open_at o (events ++ Arrive path packet ∷ [])) made_then
           ∙ copies_since-made stream open_at events (Arrive path packet) (restart_from stream m.time a m.base packet)
-          ∙ rw (← at.time, hears room) (own_copy stream m.time packet (a.epoch + 1) (restart_media_time stream.clock packet.ts m.time (media_time_of stream a m.base)) some_frames (rw at.spec at (some_window m.spec s.spec_ok)) seq ts first.after)
+          ∙ ap (λ r. copies_under (in_room stream r) (time_of open_at events) (is_counting events) (Some (restart_from stream m.time a m.base packet)) packet) (room_made stream open_at (restart_from stream m.time a m.base packet) events)
+          ∙ rw (← at.time, hears room) (own_copy (in_room stream stream.window) m.time packet (a.epoch + 1) (restart_media_time stream.clock packet.ts m.time (media_time_of stream a m.base)) some_frames (rw at.spec at (some_window m.spec s.spec_ok)) seq ts first.after)
 
       -- no slot of it yet
       none_yet : slot_count (a.epoch + 1) (marks_of stream open_at events) ≡ 0
@@ -219,6 +312,7 @@ module _ (stream : Stream) (open_at : ℤ) (m : MergeState) (media : ℤ) (s : I
         base = rw (ap (λ (x : MergeState). x.anchor) step.changed) (omega (arith, ap (λ (x : MergeState). x.base) step.changed, none_yet));
         held = λ n. step.held n ∙ sym (ap (λ b. if nat_lt n b then None else first_with n (copies_of stream open_at (events ++ Arrive path packet ∷ []))) (ap (λ (x : MergeState). x.base) step.changed) ∙ ap (λ l. if nat_lt n (65536 + packet.seq) then None else first_with n l) copies_then ∙ one_held n (65536 + packet.seq) packet);
         probation = λ other few_others. step.probations other ∙ sym (ap (λ o. probation_of stream (heard_of stream open_at o (events ++ Arrive path packet ∷ []) other)) made_then ∙ ap (probation_of stream) (heard_of-made stream open_at (restart_from stream m.time a m.base packet) events (Arrive path packet) other));
+        tracks = λ other few_others. step.tracks other ∙ sym (ap (λ o. track_of (standings_on other (standings_of stream open_at o (events ++ Arrive path packet ∷ [])))) made_then ∙ ap (λ l. track_of (standings_on other l)) (standings_of-made stream open_at (restart_from stream m.time a m.base packet) events (Arrive path packet)));
         quiet = ap (λ (x : MergeState). x.quiet) step.changed;
         counts = ap (λ (x : MergeState). x.counts) step.changed ∙ ap (λ t. with_fate t path Restarted) (at.counts ∙ ap (counts_of stream open_at events) all) ∙ sym (counts_heard path packet room Restarted fate_restart refl few_paths);
         closed = ap (λ (x : MergeState). x.closed) step.changed;

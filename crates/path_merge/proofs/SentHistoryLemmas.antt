@@ -5,14 +5,15 @@ use Rattle.std.proofs.lemmas.Bool.Decides.{nat_tests}
 use Rattle.std.proofs.lemmas.Int.{ints}
 use Rattle.path_merge.proofs.AliasLemmas.{size_is}
 use Rattle.path_merge.proofs.AfterCloseLemmas.{closed_stays}
-use Rattle.path_merge.proofs.EpochLemmas.{anchor_is, deaf_anchors, last-push, no_anchors}
+use Rattle.path_merge.proofs.EpochLemmas.{anchor_is, deaf_anchors, last-push, no_anchors, room_plain}
+use Rattle.rtp_stream.specs.Standing.{is_following}
 use Rattle.path_merge.proofs.HistoryLemmas.{anchors_of-push, arrival_count-append, at_places-append, by_last_event, is_closed-append, or_else, time_of-append}
 use Rattle.path_merge.proofs.CopiesLemmas.{first_with-append}
 use Rattle.path_merge.proofs.FullNumberLemmas.{CountsAsSent, far_counts, near_counts, one_copy}
 use Rattle.rtp_stream.specs.Anchor.{anchor_from, can_anchor, next_number, restart_from}
-use Rattle.rtp_stream.specs.Copies.{copies_at, copies_in, copies_of, copies_of_all, copies_with, first_copy, with_epoch}
-use Rattle.rtp_stream.specs.Epochs.{anchor_in, anchor_of, anchors_after, anchors_at, anchors_of, can_restart, last_of, placed}
-use Rattle.rtp_stream.specs.Grid.{copies_under, extended_number, first_with, is_in_time}
+use Rattle.rtp_stream.specs.Copies.{copies_at, copies_in, copies_of, copies_of_all, copies_under_with, copies_with, first_copy, with_epoch}
+use Rattle.rtp_stream.specs.Epochs.{anchor_in, anchor_of, anchors_after, anchors_at, anchors_of, can_restart, last_of, placed, room_in_force}
+use Rattle.rtp_stream.specs.Grid.{copies_under, extended_number, first_with, in_room, is_in_time}
 use Rattle.rtp_stream.specs.History.{arrival_count, at_places, is_closed, is_counting, time_of}
 use Rattle.rtp_stream.specs.Marks.{marks_at, marks_from, marks_of, marks_under}
 use Rattle.rtp_stream.specs.MarkFacts.{MarkView}
@@ -156,11 +157,11 @@ module _ (stream : Stream) (anchor : Anchor) (open_at : ℤ) where
   closed_first before Closes shut = refl
   closed_first before (Arrives path packet) shut =
       let deaf : is_counting before ≡ false = rw shut refl in
-      rw deaf (by_anchor (anchor_of stream open_at (before ++ Arrive path (wire_packet stream anchor packet) ∷ [])))
+      rw deaf (by_anchor (room_in_force stream open_at (last_of (anchors_of stream open_at (before ++ Arrive path (wire_packet stream anchor packet) ∷ []))) before) (anchor_of stream open_at (before ++ Arrive path (wire_packet stream anchor packet) ∷ [])))
     where
-      by_anchor : (o : Option Anchor) → with_epoch o (copies_under stream (time_of open_at before) false o (wire_packet stream anchor packet)) ≡ []
-      by_anchor None = refl
-      by_anchor (Some a) = refl
+      by_anchor : (room : ℕ) (o : Option Anchor) → with_epoch o (copies_under (in_room stream room) (time_of open_at before) false o (wire_packet stream anchor packet)) ≡ []
+      by_anchor room None = refl
+      by_anchor room (Some a) = refl
 
   after_close : (before : List Event) (after : List SentEvent) → is_closed before ≡ true → IsRecovered before after
   after_close before [] shut = none_left before
@@ -256,10 +257,12 @@ module _ (stream : Stream) (anchor : Anchor) (open_at : ℤ) where
         (λ more. marks_before_base more (before ++ Tick u ∷ []) after (anchors_of-push stream open_at before (Tick u) ∙ append-nil _ ∙ is) (open_next stream open_at before (Tick u) still refl) none_yet (subst (λ t. BeginsWith stream anchor t after) (sym (time_of-append open_at before (Tick u ∷ []))) begins) one')
     marks_before_base given before (Closes ∷ after) is still none begins one = marked_next given before Closes after (marked_unanchored given before Close is none) (λ more. marks_after_close more (before ++ Close ∷ []) after (close_shuts stream open_at before))
 
-  -- within a reach at which arrivals count as they were sent
-  module _ (reach : ℕ) (counts : (next : ℕ) (packet : SentPacket) → 65536 ≤ next → IsNear reach next packet.number → CountsAsSent stream anchor next packet) where
+  -- within a reach at which arrivals count as they were sent, by another clock than `Follow`
+  module _ (plain : is_following stream.clock ≡ false) (reach : ℕ) (counts : (next : ℕ) (packet : SentPacket) → 65536 ≤ next → IsNear reach next packet.number → CountsAsSent stream anchor next packet) where
     arrived : (before : List Event) (path : ℕ) (packet : SentPacket) → ((at : ℤ) → 65536 ≤ next_number stream anchor at) → anchor_of stream open_at (before ++ Arrive path (wire_packet stream anchor packet) ∷ []) ≡ Some anchor → IsNear reach (next_number stream anchor (time_of open_at before)) packet.number → copies_at stream open_at before (Arrive path (wire_packet stream anchor packet)) ≡ with_epoch (Some anchor) (sent_copies_at stream anchor open_at before (Arrives path packet))
-    arrived before path packet high is near = rw is (ap (with_epoch (Some anchor)) (by_counting (is_counting before)))
+    arrived before path packet high is near =
+        ap (λ room. copies_under_with (in_room stream room) (time_of open_at before) (is_counting before) (anchor_of stream open_at (before ++ Arrive path (wire_packet stream anchor packet) ∷ [])) (wire_packet stream anchor packet)) (room_plain stream open_at plain (last_of (anchors_of stream open_at (before ++ Arrive path (wire_packet stream anchor packet) ∷ []))) before)
+        ∙ rw is (ap (with_epoch (Some anchor)) (by_counting (is_counting before)))
       where
         by_counting : (b : Bool) → one_copy (b && is_in_time stream anchor (next_number stream anchor (time_of open_at before)) (wire_packet stream anchor packet)) (extended_number (wire_packet stream anchor packet) (next_number stream anchor (time_of open_at before))) (wire_packet stream anchor packet) ≡ one_copy (b && (int_le (pos (next_number stream anchor (time_of open_at before))) packet.number && int_lt packet.number (pos (next_number stream anchor (time_of open_at before) + stream.window)))) (unsigned_abs packet.number) (wire_packet stream anchor packet)
         by_counting false = refl
@@ -304,18 +307,18 @@ module _ (stream : Stream) (anchor : Anchor) (open_at : ℤ) where
     unfolding marks_of
     marks_within sent begins within one = ap (λ copies. marks_from stream open_at copies [] [] (wire_history stream anchor sent)) (copies_within sent begins within one) ∙ marks_before_base (sent_copies stream anchor open_at sent) [] [] sent (no_anchors stream open_at) refl refl begins one
 
-  pub marks_near : (sent : List SentEvent) → BeginsWith stream anchor open_at sent → IsWithinReach stream anchor 32768 open_at sent → IsOneEpoch stream open_at (wire_history stream anchor sent) → marks_of stream open_at (wire_history stream anchor sent) ≡ marks_by_number stream anchor open_at sent
-  marks_near = marks_within 32768 (near_counts stream anchor)
+  pub marks_near : is_following stream.clock ≡ false → (sent : List SentEvent) → BeginsWith stream anchor open_at sent → IsWithinReach stream anchor 32768 open_at sent → IsOneEpoch stream open_at (wire_history stream anchor sent) → marks_of stream open_at (wire_history stream anchor sent) ≡ marks_by_number stream anchor open_at sent
+  marks_near plain = marks_within plain 32768 (near_counts stream anchor)
 
-  pub marks_recovered : IsStream stream → (sent : List SentEvent) → BeginsWith stream anchor open_at sent → IsWithinReach stream anchor 33554432 open_at sent → IsOneEpoch stream open_at (wire_history stream anchor sent) → marks_of stream open_at (wire_history stream anchor sent) ≡ marks_by_number stream anchor open_at sent
-  marks_recovered ok = marks_within 33554432 (far_counts stream anchor ok.packet_time ok.narrow)
+  pub marks_recovered : IsStream stream → is_following stream.clock ≡ false → (sent : List SentEvent) → BeginsWith stream anchor open_at sent → IsWithinReach stream anchor 33554432 open_at sent → IsOneEpoch stream open_at (wire_history stream anchor sent) → marks_of stream open_at (wire_history stream anchor sent) ≡ marks_by_number stream anchor open_at sent
+  marks_recovered ok plain = marks_within plain 33554432 (far_counts stream anchor ok.packet_time ok.narrow)
 
   -- in every epoch, what is received under its anchor counts under the numbers that it was sent as
-  pub epoch_recovered : IsStream stream → (before : List Event) (sent : List SentEvent) → anchor_of stream open_at before ≡ Some anchor → is_closed before ≡ false → IsWithinReach stream anchor 33554432 (time_of open_at before) sent → OpensNoEpoch stream open_at before (wire_history stream anchor sent) → copies_of_all stream open_at (before ++ wire_history stream anchor sent) ≡ copies_of_all stream open_at before ++ with_epoch (Some anchor) (sent_copies_after stream anchor open_at before sent)
+  pub epoch_recovered : IsStream stream → is_following stream.clock ≡ false → (before : List Event) (sent : List SentEvent) → anchor_of stream open_at before ≡ Some anchor → is_closed before ≡ false → IsWithinReach stream anchor 33554432 (time_of open_at before) sent → OpensNoEpoch stream open_at before (wire_history stream anchor sent) → copies_of_all stream open_at (before ++ wire_history stream anchor sent) ≡ copies_of_all stream open_at before ++ with_epoch (Some anchor) (sent_copies_after stream anchor open_at before sent)
   unfolding copies_of_all
-  epoch_recovered ok before sent is still within none =
+  epoch_recovered ok plain before sent is still within none =
       at_places-append (copies_at stream open_at) [] before (wire_history stream anchor sent)
-      ∙ ap (λ l. at_places (copies_at stream open_at) [] before ++ l) (after_base 33554432 (far_counts stream anchor ok.packet_time ok.narrow) before sent (next_high stream open_at before anchor is) is still within none)
+      ∙ ap (λ l. at_places (copies_at stream open_at) [] before ++ l) (after_base plain 33554432 (far_counts stream anchor ok.packet_time ok.narrow) before sent (next_high stream open_at before anchor is) is still within none)
 
   -- the payload of a number whose packets all have one
   sent_payload : (number : ℕ) (payload : List ℕ) (before : List Event) (after : List SentEvent) → HasEqualCopies number payload after → IfSome (first_with number (sent_copies_after stream anchor open_at before after)) (λ packet. packet.payload.items ≡ payload)
@@ -339,9 +342,9 @@ module _ (stream : Stream) (anchor : Anchor) (open_at : ℤ) where
   sent_payload number payload before (Ticks u ∷ after) equal = sent_payload number payload (before ++ Tick u ∷ []) after equal
   sent_payload number payload before (Closes ∷ after) equal = sent_payload number payload (before ++ Close ∷ []) after equal
 
-  pub payload_recovered : IsStream stream → (sent : List SentEvent) (number : ℕ) (payload : List ℕ) → BeginsWith stream anchor open_at sent → IsWithinReach stream anchor 33554432 open_at sent → IsOneEpoch stream open_at (wire_history stream anchor sent) → HasEqualCopies number payload sent → IfSome (first_copy stream open_at (wire_history stream anchor sent) number) (λ packet. packet.payload.items ≡ payload)
+  pub payload_recovered : IsStream stream → is_following stream.clock ≡ false → (sent : List SentEvent) (number : ℕ) (payload : List ℕ) → BeginsWith stream anchor open_at sent → IsWithinReach stream anchor 33554432 open_at sent → IsOneEpoch stream open_at (wire_history stream anchor sent) → HasEqualCopies number payload sent → IfSome (first_copy stream open_at (wire_history stream anchor sent) number) (λ packet. packet.payload.items ≡ payload)
   unfolding copies_of
-  payload_recovered ok sent number payload begins within one equal = by_anchor (anchor_of stream open_at (wire_history stream anchor sent))
+  payload_recovered ok plain sent number payload begins within one equal = by_anchor (anchor_of stream open_at (wire_history stream anchor sent))
     where
       all : IfSome (first_with number (sent_copies stream anchor open_at sent)) (λ packet. packet.payload.items ≡ payload)
       all = sent_payload number payload [] sent equal
@@ -352,4 +355,4 @@ module _ (stream : Stream) (anchor : Anchor) (open_at : ℤ) where
 
       by_anchor : (o : Option Anchor) → IfSome (first_with number (copies_with o (copies_of_all stream open_at (wire_history stream anchor sent)))) (λ packet. packet.payload.items ≡ payload)
       by_anchor None = tt
-      by_anchor (Some a) = rw (copies_within 33554432 (far_counts stream anchor ok.packet_time ok.narrow) sent begins within one, copies_in-tags a.epoch anchor (sent_copies stream anchor open_at sent)) (by_epoch (nat_eq anchor.epoch a.epoch))
+      by_anchor (Some a) = rw (copies_within plain 33554432 (far_counts stream anchor ok.packet_time ok.narrow) sent begins within one, copies_in-tags a.epoch anchor (sent_copies stream anchor open_at sent)) (by_epoch (nat_eq anchor.epoch a.epoch))

@@ -2,7 +2,9 @@
 use Rattle.std.proofs.Common.{◌≡◌, ℕ, ◌^◌, ◌≤◌, Bool, true, false, List, [], ◌∷◌, ◌++◌, length, None, ℤ, refl, sym, ap, ◌∙◌, arith, append-nil, if◌then◌else◌}
 use Rattle.std.specs.Prelude.{nat_lt}
 use Rattle.std.proofs.lemmas.Bool.Decides.{nat_tests}
-use Rattle.path_merge.proofs.EpochLemmas.{deaf_anchor, deaf_copies, deaf_copies_all, deaf_heard}
+use Rattle.path_merge.proofs.EpochLemmas.{deaf_anchor, deaf_copies, deaf_copies_all, deaf_heard, deaf_standings}
+use Rattle.rtp_stream.specs.PathTrack.{track_of}
+use Rattle.rtp_stream.specs.Standing.{standings_on}
 use Rattle.path_merge.proofs.HistoryLemmas.{events_until_close-closed, events_until_close-open, fates_of-push, is_closed-append, is_well_timed_from-append, marks_in, marks_in-push, marks_of-in, time_of-append}
 use Rattle.path_merge.proofs.RestartOfferLemmas.{counted_arrivals}
 use Rattle.rtp_stream.specs.Copies.{copies_of_all}
@@ -49,6 +51,7 @@ module _ (stream : Stream) (open_at : ℤ) (m : MergeState) (events : List Event
     base = rw deaf_marks at.base;
     held = λ n. at.held n ∙ ap (λ l. if nat_lt n m.base then None else first_with n l) (sym (deaf_copies stream open_at events deaf path packet));
     probation = λ on few. at.probation on few ∙ ap (probation_of stream) (sym (deaf_heard stream open_at events deaf path packet on));
+    tracks = λ on few. at.tracks on few ∙ ap (λ l. track_of (standings_on on l)) (sym (deaf_standings stream open_at events deaf path packet));
     quiet = at.quiet ∙ rw deaf_marks;
     ended = at.ended ∙ rw deaf_marks;
   }

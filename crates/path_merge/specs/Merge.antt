@@ -12,6 +12,9 @@ use Rattle.rtp_stream.specs.History.{time_of, is_closed, is_well_timed, events_u
 use Rattle.rtp_stream.specs.Epochs.{anchor_of, anchors_of, last_of}
 use Rattle.rtp_stream.specs.Probation.{heard_since}
 use Rattle.rtp_stream.specs.PathProbation.{probation_at, probation_of}
+use Rattle.rtp_stream.specs.PathTrack.{track_at, track_of}
+use Rattle.rtp_stream.specs.Standing.{standings_on, standings_since}
+use Rattle.rtp_stream.specs.declared.track.Standing.{Standing}
 use Rattle.rtp_stream.specs.Copies.{first_copy}
 use Rattle.rtp_stream.specs.Marks.{marks_of}
 use Rattle.rtp_stream.specs.MarkList.{has_end}
@@ -48,6 +51,11 @@ abbrev pub heard_of : Stream → ℤ → Option (ℕ × Anchor) → List Event �
 heard_of stream open_at None events path = []
 heard_of stream open_at (Some (place, anchor)) events path = heard_since stream open_at place anchor events path
 
+-- how all arrivals stand since the anchor in force; without one, none stands
+abbrev pub standings_of : Stream → ℤ → Option (ℕ × Anchor) → List Event → List Standing
+standings_of stream open_at None events = []
+standings_of stream open_at (Some (place, anchor)) events = standings_since stream open_at place anchor events
+
 -- the merge is where this history leaves it, with its first k marks handed on; before a close all were, and after it at least those up to the close
 pub record HasHistory (stream : Stream) (open_at : ℤ) (m : MergeState) (events : List Event) (k : ℕ) : Type 0 where
   pub spec : m.spec ≡ stream
@@ -62,5 +70,6 @@ pub record HasHistory (stream : Stream) (open_at : ℤ) (m : MergeState) (events
   pub base : IsBaseOf m.anchor m.base (take k (marks_of stream open_at events))
   pub held : (n : ℕ) → get m.held n ≡ (if nat_lt n m.base then None else first_copy stream open_at events n)
   pub probation : (path : ℕ) → path < 4 → probation_at m.probations path ≡ probation_of stream (heard_of stream open_at (last_of (anchors_of stream open_at events)) events path)
+  pub tracks : (path : ℕ) → path < 4 → track_at m.tracks path ≡ track_of (standings_on path (standings_of stream open_at (last_of (anchors_of stream open_at events)) events))
   pub quiet : m.quiet ≡ last_quiet_or (open_at -ℤ pos stream.latency) (take k (marks_of stream open_at events))
   pub ended : m.ended ≡ has_end (take k (marks_of stream open_at events))

@@ -7,6 +7,7 @@ use Rattle.rtp_stream.specs.StreamSpecFacts.{IsStream}
 use Rattle.rtp_stream.specs.StreamSpec.{Fits}
 use Rattle.rtp_stream.specs.CountsFacts.{Tally}
 use Rattle.rtp_stream.specs.declared.probation.Probation.{Probation}
+use Rattle.rtp_stream.specs.declared.track.Track.{Track}
 use Rattle.rtp_stream.specs.declared.anchor.Anchor.{Anchor}
 use Rattle.rtp_stream.specs.declared.packet.Packet.{Packet}
 use Rattle.path_merge.specs.Window.{IsEmpty}
@@ -24,6 +25,7 @@ pub record MergeState : Type 0 where
   pub closed : Bool
   pub ended : Bool
   pub probations : List Probation
+  pub tracks : List Track
 
 -- how many of these `count` numbers, from one on, have a packet
 abbrev pub held_count : FinMap nat_cmp Packet → ℕ → ℕ → ℕ

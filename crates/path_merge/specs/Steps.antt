@@ -1,5 +1,5 @@
 -- What each call of a merge does to it.
-use Rattle.std.specs.Prelude.{◌≡◌, ℕ, ◌+◌, ◌-◌, Bool, true, false, ◌&&◌, nat_eq, List, [], ◌∷◌, ◌++◌, length, ℤ, pos, ◌-ℤ◌, ◌≤ℤ◌, ◌<ℤ◌, int_lt, int_le, Option, Some, None, IsSome, is_some, take, drop, ◌≤◌, if◌then◌else◌, option_to_list}
+use Rattle.std.specs.Prelude.{◌≡◌, ℕ, ◌+◌, ◌-◌, Bool, true, false, ◌&&◌, ◌||◌, nat_eq, List, [], ◌∷◌, ◌++◌, length, ℤ, pos, ◌-ℤ◌, ◌≤ℤ◌, ◌<ℤ◌, int_lt, int_le, Option, Some, None, Result, IsSome, is_some, take, drop, ◌≤◌, if◌then◌else◌, option_to_list}
 use Rattle.std.specs.FinMap.{get}
 use Rattle.std.specs.Option.{option_map}
 use Rattle.rtp_stream.specs.declared.stream_spec.Stream.{Stream}
@@ -9,11 +9,13 @@ use Rattle.rtp_stream.specs.declared.packet.Packet.{Packet}
 use Rattle.rtp_stream.specs.declared.fate.Fate.{Fate}
 use Rattle.rtp_stream.specs.declared.fate.Fate.TheVariants.{Restarted}
 use Rattle.rtp_stream.specs.declared.probation.Probation.{Probation}
+use Rattle.rtp_stream.specs.declared.track.Track.{Track}
+use Rattle.rtp_stream.specs.PathTrack.{is_slip_by, no_track, room_by, track_at, track_heard}
 use Rattle.rtp_stream.specs.declared.event.Event.{Event}
 use Rattle.rtp_stream.specs.declared.event.Event.TheVariants.{Arrive, Tick}
 use Rattle.rtp_stream.specs.History.{time_of, is_closed, is_well_timed, events_until_close}
 use Rattle.rtp_stream.specs.Anchor.{anchor_from, deadline_of, is_source_wanted, is_restart_in_reach, media_time_of, next_number, restart_from, restart_media_time}
-use Rattle.rtp_stream.specs.Grid.{extended_number}
+use Rattle.rtp_stream.specs.Grid.{extended_number, in_room}
 use Rattle.rtp_stream.specs.Epochs.{anchor_of, anchors_of, last_of}
 use Rattle.rtp_stream.specs.Probation.{is_off}
 use Rattle.rtp_stream.specs.PathProbation.{is_complete, no_probation, probation_at, probation_heard}
@@ -23,7 +25,7 @@ use Rattle.rtp_stream.specs.Fate.{fate_at, fate_of, first_fate, place_of}
 use Rattle.rtp_stream.specs.CountsFacts.{with_fate, with_body}
 use Rattle.rtp_stream.specs.Counts.{fates_of, is_taken_fate}
 use Rattle.path_merge.specs.MergeState.{MergeState, holds_nothing}
-use Rattle.path_merge.specs.Merge.{HasHistory, heard_of}
+use Rattle.path_merge.specs.Merge.{HasHistory, heard_of, standings_of}
 
 -- the media time of the epoch that a packet may open: nothing is held, and media time goes on
 abbrev pub epoch_media : MergeState → Anchor → Packet → Option ℤ
@@ -31,39 +33,49 @@ epoch_media m anchor packet =
     if holds_nothing m && is_restart_in_reach m.spec m.time (media_time_of m.spec anchor m.base) (restart_media_time m.spec.clock packet.ts m.time (media_time_of m.spec anchor m.base))
     then Some (restart_media_time m.spec.clock packet.ts m.time (media_time_of m.spec anchor m.base)) else None
 
--- that of the epoch that the arrival opens: it completes its path's probation, and may
+-- that of the epoch that the arrival opens: it completes its path's probation, or shows that its sender is astray, and may
 abbrev pub opening_of : MergeState → Anchor → ℕ → Packet → Option ℤ
 opening_of m anchor path packet =
-    if is_source_wanted m.spec.ssrc packet.ssrc && is_complete (probation_heard m.spec (probation_at m.probations path) (is_off m.spec anchor m.base packet) packet)
+    if is_source_wanted m.spec.ssrc packet.ssrc && (is_complete (probation_heard m.spec (probation_at m.probations path) (is_off m.spec anchor m.base packet) packet) || is_slip_by m.spec anchor m.base m.tracks path packet)
     then epoch_media m anchor packet else None
 
 abbrev pub opens_epoch : MergeState → Anchor → ℕ → Packet → Bool
 opens_epoch m anchor path packet = is_some (opening_of m anchor path packet)
 
--- an arrival that is heard changes its path's probation alone
+-- an arrival that is heard changes its path's probation and track alone
 pub record IsHeardStep (old new : MergeState) (a : Anchor) (path : ℕ) (packet : Packet) : Type 0 where
   pub probation : probation_at new.probations path ≡ probation_heard old.spec (probation_at old.probations path) (is_off old.spec a old.base packet) packet
   pub other_paths : (other : ℕ) → nat_eq other path ≡ false → probation_at new.probations other ≡ probation_at old.probations other
-  pub changed : new ≡ record old { probations = new.probations }
+  pub track : track_at new.tracks path ≡ track_heard old.spec a old.base old.tracks path packet
+  pub other_tracks : (other : ℕ) → nat_eq other path ≡ false → track_at new.tracks other ≡ track_at old.tracks other
+  pub changed : new ≡ record old { probations = new.probations; tracks = new.tracks }
+
+-- the place of an arrival, with some room that the window has
+pub record IsPlaced (stream : Stream) (a : Anchor) (next : ℕ) (packet : Packet) (place : Result ℕ Fate) : Type 0 where
+  pub room : ℕ
+  pub within : room ≤ stream.window
+  pub is : place ≡ place_of (in_room stream room) a next packet
 
 -- an arrival at an anchored merge that is put, or refused: only a packet that is taken changes what is held
-pub record IsPutStep (stream : Stream) (old new : MergeState) (a : Anchor) (path : ℕ) (packet : Packet) (fate : Fate) : Type 0 where
-  pub fate_is : fate ≡ fate_at (place_of stream a old.base packet) (get old.held) packet
+pub record IsPutStep (stream : Stream) (room : ℕ) (old new : MergeState) (a : Anchor) (path : ℕ) (packet : Packet) (fate : Fate) : Type 0 where
+  pub fate_is : fate ≡ fate_at (place_of (in_room stream room) a old.base packet) (get old.held) packet
   pub held : (n : ℕ) → get new.held n ≡ (if is_taken_fate fate && nat_eq n (extended_number packet old.base) then Some packet else get old.held n)
   pub changed : new ≡ record old { held = new.held; counts = with_fate old.counts path fate }
 
--- an arrival that opens no epoch: it is heard, and then put or refused
+-- an arrival that opens no epoch: it is heard, and then put or refused, with the room that there was before it
 pub record IsNextStep (stream : Stream) (old new : MergeState) (a : Anchor) (path : ℕ) (packet : Packet) (fate : Fate) : Type 0 where
   pub heard : List Probation
-  pub hears : IsHeardStep old (record old { probations = heard }) a path packet
-  pub puts : IsPutStep stream (record old { probations = heard }) new a path packet fate
+  pub noted : List Track
+  pub hears : IsHeardStep old (record old { probations = heard; tracks = noted }) a path packet
+  pub puts : IsPutStep stream (room_by stream a old.base old.tracks) (record old { probations = heard; tracks = noted }) new a path packet fate
 
--- an arrival that opens an epoch, where nothing is held: the window begins anew at its number, and every probation too
+-- an arrival that opens an epoch, where nothing is held: the window begins anew at its number, and every probation and track too
 pub record IsRestartStep (stream : Stream) (old new : MergeState) (a : Anchor) (path : ℕ) (packet : Packet) (fate : Fate) : Type 0 where
   pub fate_is : fate ≡ Restarted
   pub held : (n : ℕ) → get new.held n ≡ (if nat_eq n (65536 + packet.seq) then Some packet else None)
   pub probations : (other : ℕ) → probation_at new.probations other ≡ no_probation
-  pub changed : new ≡ record old { anchor = Some (restart_from stream old.time a old.base packet); base = 65536 + packet.seq; held = new.held; counts = with_fate old.counts path Restarted; probations = new.probations }
+  pub tracks : (other : ℕ) → track_at new.tracks other ≡ no_track
+  pub changed : new ≡ record old { anchor = Some (restart_from stream old.time a old.base packet); base = 65536 + packet.seq; held = new.held; counts = with_fate old.counts path Restarted; probations = new.probations; tracks = new.tracks }
 
 -- an arrival at a merge with no anchor: a packet that is taken becomes the anchor
 pub record IsFirstStep (stream : Stream) (old new : MergeState) (path : ℕ) (packet : Packet) (fate : Fate) : Type 0 where
@@ -74,11 +86,12 @@ pub record IsFirstStep (stream : Stream) (old new : MergeState) (path : ℕ) (pa
   pub changed : new ≡ record old { anchor = new.anchor; base = new.base; held = new.held; counts = with_fate old.counts path fate }
   pub refused : is_taken_fate fate ≡ false → new ≡ record old { counts = with_fate old.counts path fate }
 
--- an arrival that was counted and not taken changes its count, and no more than the probation of its path
+-- an arrival that was counted and not taken changes its count, and no more than the probation and the track of its path
 pub record IsRefusal (old new : MergeState) (path : ℕ) (fate : Fate) : Type 0 where
   pub held : (n : ℕ) → get new.held n ≡ get old.held n
   pub other_paths : (other : ℕ) → nat_eq other path ≡ false → probation_at new.probations other ≡ probation_at old.probations other
-  pub changed : new ≡ record old { held = new.held; probations = new.probations; counts = with_fate old.counts path fate }
+  pub other_tracks : (other : ℕ) → nat_eq other path ≡ false → track_at new.tracks other ≡ track_at old.tracks other
+  pub changed : new ≡ record old { held = new.held; probations = new.probations; tracks = new.tracks; counts = with_fate old.counts path fate }
 
 -- the slot of the base is given, at its deadline
 pub record IsSlotStep (stream : Stream) (old new : MergeState) (a : Anchor) : Type 0 where
@@ -111,6 +124,7 @@ pub record IsAlike (stream : Stream) (open_at : ℤ) (e f : List Event) : Type 0
   pub fates : fates_of stream open_at e ≡ fates_of stream open_at f
   pub anchor : anchor_of stream open_at e ≡ anchor_of stream open_at f
   pub heard : (path : ℕ) → heard_of stream open_at (last_of (anchors_of stream open_at e)) e path ≡ heard_of stream open_at (last_of (anchors_of stream open_at f)) f path
+  pub standings : standings_of stream open_at (last_of (anchors_of stream open_at e)) e ≡ standings_of stream open_at (last_of (anchors_of stream open_at f)) f
   pub copies : copies_of stream open_at e ≡ copies_of stream open_at f
   pub marks : marks_of stream open_at e ≡ marks_of stream open_at f
   pub before_close : marks_of stream open_at (events_until_close e) ≡ marks_of stream open_at (events_until_close f)

@@ -53,6 +53,7 @@ ghost use Rattle.rtp_stream.specs.Sent.{
   wire_history,
 };
 ghost use Rattle.rtp_stream.specs.Counts.{counts_of};
+ghost use Rattle.rtp_stream.specs.Standing.{is_following};
 ghost use Rattle.path_merge.specs.Merge.{HasHistory};
 ghost use Rattle.path_merge.specs.ClockLag.{IsDue, KeepUp};
 ghost use Rattle.path_merge.specs.Clock.{clock_fault_of};
@@ -186,15 +187,18 @@ pub fn aliases_are_off_grid()
 
 /// The marks are those of the full numbers, as sent, if the received history has one epoch and each number lies from
 /// 2^25 below the one due next to just below 2^25 above it. Full numbers are whole numbers of any sign. If all
-/// packets of a number have one payload, its first copy has it.
+/// packets of a number have one payload, its first copy has it. The clock `Follow` takes a packet that is in time for
+/// too early while the stream is emptying, so it is left out.
 pub fn sent_numbers_are_recovered()
     ensures marks { (stream : Stream) (anchor : Anchor) (open_at : ℤ) (sent : List SentEvent) →
-        IsStream stream → BeginsWith stream anchor open_at sent → IsWithinReach stream anchor (2 ^ 25) open_at sent →
+        IsStream stream → is_following stream.clock ≡ false → BeginsWith stream anchor open_at sent
+        → IsWithinReach stream anchor (2 ^ 25) open_at sent →
         IsOneEpoch stream open_at (wire_history stream anchor sent) →
         marks_of stream open_at (wire_history stream anchor sent) ≡ marks_by_number stream anchor open_at sent }
     ensures payload { (stream : Stream) (anchor : Anchor) (open_at : ℤ) (sent : List SentEvent) (number : ℕ)
         (payload : List ℕ) →
-        IsStream stream → BeginsWith stream anchor open_at sent → IsWithinReach stream anchor (2 ^ 25) open_at sent →
+        IsStream stream → is_following stream.clock ≡ false → BeginsWith stream anchor open_at sent
+        → IsWithinReach stream anchor (2 ^ 25) open_at sent →
         IsOneEpoch stream open_at (wire_history stream anchor sent) → HasEqualCopies number payload sent →
         IfSome (first_copy stream open_at (wire_history stream anchor sent) number)
         (λ packet. packet.payload.items ≡ payload) }
@@ -202,10 +206,11 @@ pub fn sent_numbers_are_recovered()
 
 /// Packets are copies of the numbers that they were sent as, in every epoch, whatever came before. That holds until
 /// another epoch opens, if the packets are under the epoch's anchor and their numbers lie from 2^25 below the one due
-/// next to just below 2^25 above it.
+/// next to just below 2^25 above it, by a clock other than `Follow`.
 pub fn each_epoch_recovers_its_numbers()
     ensures { (stream : Stream) (anchor : Anchor) (open_at : ℤ) (before : List Event) (sent : List SentEvent) →
-        IsStream stream → anchor_of stream open_at before ≡ Some anchor → is_closed before ≡ false →
+        IsStream stream → is_following stream.clock ≡ false → anchor_of stream open_at before ≡ Some anchor
+        → is_closed before ≡ false →
         IsWithinReach stream anchor (2 ^ 25) (time_of open_at before) sent →
         OpensNoEpoch stream open_at before (wire_history stream anchor sent) →
         copies_of_all stream open_at (before ++ wire_history stream anchor sent)
@@ -214,12 +219,15 @@ pub fn each_epoch_recovers_its_numbers()
 {}
 
 /// The received history has one epoch if each number lies from 2^15 below the one due next to just below 2^15 above
-/// it: no packet is off the grid, so no probation begins. The marks are then those of the numbers as sent.
+/// it, by a clock other than `Follow`: no packet is off the grid, so no probation begins. The marks are then those of
+/// the numbers as sent.
 pub fn near_numbers_open_one_epoch()
     ensures one { (stream : Stream) (anchor : Anchor) (open_at : ℤ) (sent : List SentEvent) →
-        BeginsWith stream anchor open_at sent → IsWithinReach stream anchor (2 ^ 15) open_at sent →
+        is_following stream.clock ≡ false → BeginsWith stream anchor open_at sent
+        → IsWithinReach stream anchor (2 ^ 15) open_at sent →
         IsOneEpoch stream open_at (wire_history stream anchor sent) }
     ensures marks { (stream : Stream) (anchor : Anchor) (open_at : ℤ) (sent : List SentEvent) →
-        BeginsWith stream anchor open_at sent → IsWithinReach stream anchor (2 ^ 15) open_at sent →
+        is_following stream.clock ≡ false → BeginsWith stream anchor open_at sent
+        → IsWithinReach stream anchor (2 ^ 15) open_at sent →
         marks_of stream open_at (wire_history stream anchor sent) ≡ marks_by_number stream anchor open_at sent }
 {}

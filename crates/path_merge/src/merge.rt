@@ -9,7 +9,7 @@ ghost use Rattle.rtp_stream.specs.declared.stream_spec.Stream.{Stream};
 
 use crate::slot_window::SlotWindow;
 use crate::window::Window;
-use rtp_stream::{Anchor, Counts, Probation, StreamSpec};
+use rtp_stream::{Anchor, Counts, Probation, StreamSpec, Track};
 use std::alloc::{AllocError, Global};
 use std::marker::Model;
 
@@ -37,6 +37,7 @@ pub struct Merge<V: Window> {
     closed: bool,
     ended: bool,
     probations: [Probation; 4],
+    tracks: [Track; 4],
 }
 
 impl<V: Window> Model for Merge<V> {
@@ -63,6 +64,7 @@ impl<V: Window> Model for Merge<V> {
       closed = m.closed;
       ended = m.ended;
       probations = m.probations;
+      tracks = m.tracks;
     } };
 
     ghost invariant = { λ m. IsSound (view m) m.next_media };
@@ -113,6 +115,7 @@ impl<V: Window> Merge<V> {
             closed: false,
             ended: false,
             probations: [Probation::new(); 4],
+            tracks: [Track::new(); 4],
         }
     }
 

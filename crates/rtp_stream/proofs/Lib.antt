@@ -4,4 +4,6 @@ pub mod NearestLemmas
 pub mod StreamSpecLemmas
 pub mod WorkedCases
 pub mod ProbationLemmas
+pub mod TrackLemmas
 pub mod SentCases
+pub mod FollowCases

@@ -4,7 +4,7 @@ use Rattle.std.specs.Int.{int_rem_euclid}
 use Rattle.rtp_stream.specs.Nearest.{nearest_number}
 use Rattle.rtp_stream.specs.declared.stream_spec.Stream.{Stream}
 use Rattle.rtp_stream.specs.declared.stream_spec.StreamClock.{StreamClock}
-use Rattle.rtp_stream.specs.declared.stream_spec.StreamClock.TheVariants.{Media, Arrival}
+use Rattle.rtp_stream.specs.declared.stream_spec.StreamClock.TheVariants.{Media, Arrival, Follow}
 use Rattle.rtp_stream.specs.declared.anchor.Anchor.{Anchor}
 use Rattle.rtp_stream.specs.declared.packet.Packet.{Packet}
 
@@ -17,6 +17,7 @@ is_source_wanted (Some wanted) source = nat_eq source wanted
 abbrev pub first_media_time : StreamClock → ℕ → ℤ → ℤ
 first_media_time (Media offset) ts time = nearest_number 2147483648 (unsigned_abs (int_rem_euclid (pos ts -ℤ pos offset) (pos (2 ^ 32)))) time
 first_media_time Arrival ts time = time
+first_media_time Follow ts time = time
 
 -- its deadline is still to come, and it lies within the window
 abbrev pub is_first_in_reach : Stream → ℤ → ℤ → Bool
@@ -52,10 +53,11 @@ steps_until (negsuc since) step = 0
 abbrev pub next_number : Stream → Anchor → ℤ → ℕ
 next_number stream anchor time = anchor.number + steps_until (time -ℤ (anchor.media +ℤ pos stream.latency)) stream.frames
 
--- the media time of a packet that would restart the stream: by the arrival clock not before the slots that were given
+-- the media time of a packet that would restart the stream: by the clocks of arrivals not before the slots that were given
 abbrev pub restart_media_time : StreamClock → ℕ → ℤ → ℤ → ℤ
 restart_media_time (Media offset) ts time due = first_media_time (Media offset) ts time
 restart_media_time Arrival ts time due = if int_lt due time then time else due
+restart_media_time Follow ts time due = if int_lt due time then time else due
 
 -- its deadline is still to come, it lies within the window, and media time doesn't go back
 abbrev pub is_restart_in_reach : Stream → ℤ → ℤ → ℤ → Bool

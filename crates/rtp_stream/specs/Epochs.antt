@@ -1,5 +1,5 @@
 -- The anchors of a history: the first acceptable packet opens epoch 0, and each restart of the source the next one.
-use Rattle.std.specs.Prelude.{ℕ, Bool, ◌&&◌, nat_le, List, [], ◌∷◌, ◌++◌, length, ℤ, Option, Some, None, if◌then◌else◌}
+use Rattle.std.specs.Prelude.{ℕ, Bool, ◌&&◌, ◌||◌, nat_le, List, [], ◌∷◌, ◌++◌, length, ℤ, Option, Some, None, if◌then◌else◌}
 use Rattle.rtp_stream.specs.declared.stream_spec.Stream.{Stream}
 use Rattle.rtp_stream.specs.declared.anchor.Anchor.{Anchor}
 use Rattle.rtp_stream.specs.declared.packet.Packet.{Packet}
@@ -7,8 +7,9 @@ use Rattle.rtp_stream.specs.declared.event.Event.{Event}
 use Rattle.rtp_stream.specs.declared.event.Event.TheVariants.{Arrive, Tick, Close}
 use Rattle.rtp_stream.specs.History.{time_of, is_counting}
 use Rattle.rtp_stream.specs.Anchor.{anchor_from, can_anchor, is_restart_in_reach, is_source_wanted, media_time_of, next_number, restart_from, restart_media_time}
-use Rattle.rtp_stream.specs.Grid.{copies_under_at, end_of_copies}
+use Rattle.rtp_stream.specs.Grid.{copies_under, end_of_copies, in_room}
 use Rattle.rtp_stream.specs.Probation.{completes_probation, from_place, heard_since}
+use Rattle.rtp_stream.specs.Standing.{is_slip, room_since}
 
 -- the last of a list
 abbrev pub last_of : {A : Type 0} → List A → Option A
@@ -16,9 +17,16 @@ last_of [] = None
 last_of (x ∷ []) = Some x
 last_of (x ∷ y ∷ xs) = last_of (y ∷ xs)
 
+-- the arrival is an in-time copy of this number under this anchor, which is in force since its place
+abbrev pub copies_under_at : Stream → ℕ → Anchor → ℤ → List Event → Event → List (ℕ × Packet)
+copies_under_at stream place anchor open_at before (Arrive path packet) =
+    copies_under (in_room stream (room_since stream open_at place anchor before)) (time_of open_at before) (is_counting before) (Some anchor) packet
+copies_under_at stream place anchor open_at before (Tick u) = []
+copies_under_at stream place anchor open_at before Close = []
+
 -- in-time copies from the anchor's arrival on
 abbrev pub copies_since : Stream → ℤ → ℕ → Anchor → List Event → List (ℕ × Packet)
-copies_since stream open_at place anchor events = from_place (copies_under_at stream anchor open_at) place events
+copies_since stream open_at place anchor events = from_place (copies_under_at stream place anchor open_at) place events
 
 -- no number from the one due next on has a copy: all that was held was handed on
 abbrev pub is_all_given : Stream → ℤ → ℕ → Anchor → List Event → Bool
@@ -29,12 +37,13 @@ abbrev pub continues_media_time : Stream → ℤ → Anchor → Packet → Bool
 continues_media_time stream time anchor packet =
     is_restart_in_reach stream time (media_time_of stream anchor (next_number stream anchor time)) (restart_media_time stream.clock packet.ts time (media_time_of stream anchor (next_number stream anchor time)))
 
--- the packet opens the next epoch: nothing is held, media time goes on, and it is itself the last of those that complete a probation on its path
+-- the packet opens the next epoch: nothing is held, media time goes on, and it is itself the last of those that complete a probation on its path, or show that the sender is astray
 abbrev pub can_restart : Stream → ℤ → ℕ → Anchor → List Event → ℕ → Packet → Bool
 can_restart stream open_at place anchor before path packet =
     continues_media_time stream (time_of open_at before) anchor packet
     && (is_all_given stream open_at place anchor before
-    && (is_source_wanted stream.ssrc packet.ssrc && completes_probation stream (heard_since stream open_at place anchor (before ++ Arrive path packet ∷ []) path)))
+    && (is_source_wanted stream.ssrc packet.ssrc
+    && (completes_probation stream (heard_since stream open_at place anchor (before ++ Arrive path packet ∷ []) path) || is_slip stream open_at place anchor before path packet)))
 
 -- the anchor that an arrival makes, where this one is in force since its place
 abbrev pub anchors_after : Stream → ℤ → Option (ℕ × Anchor) → List Event → ℕ → Packet → List Anchor
@@ -67,6 +76,11 @@ anchors_of stream open_at events = anchors_from stream open_at [] [] events
 abbrev pub anchor_in : Option (ℕ × Anchor) → Option Anchor
 anchor_in None = None
 anchor_in (Some (place, anchor)) = Some anchor
+
+-- the room after a history, where this anchor is in force since its place
+abbrev pub room_in_force : Stream → ℤ → Option (ℕ × Anchor) → List Event → ℕ
+room_in_force stream open_at None events = stream.window
+room_in_force stream open_at (Some (place, anchor)) events = room_since stream open_at place anchor events
 
 -- the anchor in force after a history
 unfoldable pub anchor_of : Stream → ℤ → List Event → Option Anchor

@@ -28,16 +28,14 @@ is_in_time stream anchor next packet =
     && (is_on_grid stream anchor (extended_number packet next) packet.ts
     && (nat_le next (extended_number packet next) && nat_lt (extended_number packet next) (next + stream.window)))
 
+-- the stream, with room for so many numbers
+abbrev pub in_room : Stream → ℕ → Stream
+in_room stream room = record stream { window = room }
+
 abbrev pub copies_under : Stream → ℤ → Bool → Option Anchor → Packet → List (ℕ × Packet)
 copies_under stream time counting None packet = []
 copies_under stream time counting (Some anchor) packet =
     if counting && is_in_time stream anchor (next_number stream anchor time) packet then (extended_number packet (next_number stream anchor time), packet) ∷ [] else []
-
--- the arrival is an in-time copy of this number under this anchor
-abbrev pub copies_under_at : Stream → Anchor → ℤ → List Event → Event → List (ℕ × Packet)
-copies_under_at stream anchor open_at before (Arrive path packet) = copies_under stream (time_of open_at before) (is_counting before) (Some anchor) packet
-copies_under_at stream anchor open_at before (Tick u) = []
-copies_under_at stream anchor open_at before Close = []
 
 -- the earliest with a number
 abbrev pub first_with : ℕ → List (ℕ × Packet) → Option Packet

@@ -110,7 +110,7 @@ pub fn media_of_first(clock: StreamClock, ts: u32, time: i64) -> i64
 {
     match clock {
         StreamClock::Media { offset } => near32(ts.wrapping_sub(offset), time),
-        StreamClock::Arrival => time,
+        StreamClock::Arrival | StreamClock::Follow => time,
     }
 }
 
@@ -124,7 +124,7 @@ pub fn media_of_restart(clock: StreamClock, ts: u32, time: i64, due: i64) -> i64
     let media = media_of_first(clock, ts, time);
     match clock {
         // The slots so far reach to `due`, and media time never goes back.
-        StreamClock::Arrival if media <= due => due,
+        StreamClock::Arrival | StreamClock::Follow if media <= due => due,
         _ => media,
     }
 }

@@ -5,6 +5,7 @@ ghost use Rattle.rtp_stream.specs.Anchor.{first_media_time, is_restart_in_reach,
 ghost use Rattle.rtp_stream.specs.Counts.{is_taken_fate};
 ghost use Rattle.rtp_stream.specs.Fate as fate;
 ghost use Rattle.rtp_stream.specs.Fate.{first_fate, reach_fault_of};
+ghost use Rattle.rtp_stream.specs.Grid.{in_room};
 ghost use Rattle.rtp_stream.specs.Probation.{is_off};
 ghost use Rattle.rtp_stream.specs.declared.stream_spec.Stream.{Stream};
 ghost use Rattle.rtp_stream.specs.declared.anchor.Anchor.{Anchor};
@@ -35,22 +36,25 @@ pub fn is_taken(fate: Fate) -> bool
 
 /// Returns the number of which a packet is a copy in time, or the packet's fate if it is none.
 ///
-/// `next` is the number due next, and `media` its media time.
+/// `next` is the number due next, `media` its media time, and `room` the number of packets from it on that are in
+/// time: the window, or 0 while the stream is emptying.
 pub fn place_of(
     spec: &StreamSpec,
     anchor: &Anchor,
     next: u64,
     media: i64,
+    room: u64,
     packet: &PacketRef<'_>,
 ) -> Result<u64, Fate>
     requires low { 65536 ≤ next }
     requires high { next ≤ 2 ^ 61 }
+    requires room { room ≤ 16384 }
     requires media_low { neg_ℤ (pos (2 ^ 61)) ≤ℤ media }
     requires media_high { media ≤ℤ pos (2 ^ 61) }
     requires anchor_low { neg_ℤ (pos (2 ^ 61)) ≤ℤ anchor.now.media }
     requires anchor_high { anchor.now.media ≤ℤ pos (2 ^ 61) }
     requires media_is { media ≡ media_time_of spec.now anchor.now next }
-    ensures { result ≡ fate.place_of spec.now anchor.now next (packet_of packet.now) }
+    ensures { result ≡ fate.place_of (in_room spec.now room) anchor.now next (packet_of packet.now) }
 {
     if packet.ssrc != anchor.source {
         return Err(Fate::WrongSource);
@@ -64,7 +68,7 @@ pub fn place_of(
     if number < next {
         return Err(Fate::Late);
     }
-    if number >= next + u64::from(spec.window()) {
+    if number >= next + room {
         return Err(Fate::Ahead);
     }
     Ok(number)

@@ -17,7 +17,8 @@
 //! Merges are built from functions that decide about one packet. `place_of` returns the number of the
 //! packet or why it has none, from `number_of` and `is_in_step`. `fate_of_first` and `continues_media_time` decide
 //! whether the packet may begin an epoch. `update_probation` decides whether it completes the
-//! probation of its path.
+//! probation of its path, `update_track` whether its sender is astray by the clock `Follow`, and
+//! `room_of` how many packets are in time by that clock.
 #![tactic(auto)]
 
 mod anchor;
@@ -36,6 +37,7 @@ mod probation;
 mod reception;
 mod stream_counts;
 mod stream_spec;
+mod track;
 
 pub use anchor::{
     Anchor, is_in_step, is_wanted_source, media_of_first, media_of_restart, number_of,
@@ -57,3 +59,4 @@ pub use probation::{Probation, update_probation};
 pub use reception::{Reception, ReceptionRef, receive_ref};
 pub use stream_counts::{PathCounts, StreamCounts};
 pub use stream_spec::{AdmitFault, SpecFault, Stream, StreamClock, StreamSpec};
+pub use track::{Track, room_of, update_track};

@@ -20,6 +20,9 @@ pub enum StreamClock {
     /// The receiver's clock reading as an epoch's first packet came, or the end of the slots if that is later: for a
     /// sender that isn't locked to the media clock.
     Arrival,
+    /// As `Arrival`, and an epoch also opens for a sender that is astray: its packets come late, or too early, again
+    /// and again.
+    Follow,
 }
 
 /// The reason why a stream is refused: the first of these that holds, in this order.

@@ -36,7 +36,7 @@ abbrev pub encodings : List (List ℕ)
 encodings = codes "L16" ∷ codes "L24" ∷ []
 
 abbrev pub clocks : List (List ℕ)
-clocks = codes "media" ∷ codes "arrival" ∷ []
+clocks = codes "media" ∷ codes "arrival" ∷ codes "follow" ∷ []
 
 -- a row of a table: a key, and what its value has to be
 pub data Row : Type 0 where

@@ -3,9 +3,8 @@ use Rattle.std.specs.Prelude.{ℕ, List, [], ◌∷◌, ◌++◌, Option, option
 use Rattle.rtp_stream.specs.declared.stream_spec.Stream.{Stream}
 use Rattle.rtp_stream.specs.StreamSpecFacts.{spec_fault_of}
 use Rattle.rtp_stream.specs.declared.stream_spec.StreamClock.{StreamClock}
-use Rattle.rtp_stream.specs.declared.stream_spec.StreamClock.TheVariants.{Media, Arrival}
 use Rattle.toml.specs.Data.{Members}
-use Rattle.studio_config.specs.Values.{number_at, number_or, text_at, encoding_at, is_media}
+use Rattle.studio_config.specs.Values.{number_at, number_or, text_at, encoding_at, clock_named, with_offset}
 use Rattle.studio_config.specs.NetworkTable.{path_rows}
 use Rattle.studio_config.specs.Rows.{Row, required, optional, whole, a_text, one_of, encodings, clocks, first_of, at_table, table_fault}
 use Rattle.studio_config.specs.declared.config.keys.Key.TheVariants as key
@@ -54,9 +53,9 @@ name_rows = optional key.Name (a_text 64) ∷ []
 abbrev pub stream_rows : List Row
 stream_rows = packet_rows ++ source_rows ++ wait_rows ++ port_rows ++ path_rows ++ name_rows
 
--- the media clock with its offset, which is 0 if absent, or the clock of arrivals
+-- the clock that it names; the media clock with its offset, which is 0 if absent
 abbrev pub clock_of : Members → StreamClock
-clock_of members = if is_media (text_at members key.Clock) then Media (number_or members key.Offset 0) else Arrival
+clock_of members = with_offset (clock_named (text_at members key.Clock)) (number_or members key.Offset 0)
 
 -- the stream that a table says; it has two paths if it doesn't say how many
 abbrev pub stream_of : Members → Stream

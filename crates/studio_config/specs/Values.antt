@@ -1,4 +1,6 @@
 -- What a value of a configuration holds.
+use Rattle.rtp_stream.specs.declared.stream_spec.StreamClock.{StreamClock}
+use Rattle.rtp_stream.specs.declared.stream_spec.StreamClock.TheVariants.{Media, Arrival, Follow}
 use Rattle.std.specs.Prelude.{ℕ, ℤ, pos, negsuc, Bool, ◌&&◌, List, [], ◌∷◌, map, codes, Option, Some, None, is_some, option_and_then, option_map, unwrap_or, if◌then◌else◌}
 use Rattle.std.specs.List.{list_all}
 use Rattle.std.specs.Str.{bytes_eq}
@@ -108,9 +110,15 @@ address_in d = option_and_then address_of (as_str d)
 abbrev pub address_at : Members → Key → Option Ipv4Addr
 address_at members key = option_and_then address_in (value_at members key)
 
--- a text names the media clock
-abbrev pub is_media : List ℕ → Bool
-is_media text = bytes_eq text (codes "media")
+-- the clock that a text names; the media clock without its offset
+abbrev pub clock_named : List ℕ → StreamClock
+clock_named text = if bytes_eq text (codes "media") then Media 0 else if bytes_eq text (codes "follow") then Follow else Arrival
+
+-- the media clock with this offset, or another clock
+abbrev pub with_offset : StreamClock → ℕ → StreamClock
+with_offset (Media none) offset = Media offset
+with_offset Arrival offset = Arrival
+with_offset Follow offset = Follow
 
 -- the tables at a key
 abbrev pub tables_at : Members → Key → List Members

@@ -1,5 +1,5 @@
 //! The calls of a merge that take packets.
-ghost use Rattle.std.specs.Prelude.{◌≡◌, ℕ, ◌^◌, ◌<◌, List, ℤ, Some, None, true, false};
+ghost use Rattle.std.specs.Prelude.{◌≡◌, ◌||◌, ℕ, ◌^◌, ◌<◌, List, ℤ, Some, None, true, false};
 ghost use Rattle.rtp_stream.specs.declared.anchor.Anchor.{Anchor};
 ghost use Rattle.rtp_stream.specs.declared.event.Event.{Event};
 ghost use Rattle.rtp_stream.specs.declared.fate.Fate.TheVariants.{Restarted};
@@ -7,20 +7,28 @@ ghost use Rattle.rtp_stream.specs.Anchor.{is_restart_in_reach, media_time_of, re
 ghost use Rattle.rtp_stream.specs.PacketRef.{packet_of};
 ghost use Rattle.rtp_stream.specs.Counts.{is_counted_fate, is_taken_fate};
 ghost use Rattle.rtp_stream.specs.Fate as fate;
-ghost use Rattle.rtp_stream.specs.Probation.{is_off};
+ghost use Rattle.rtp_stream.specs.Grid.{in_room};
+ghost use Rattle.rtp_stream.specs.PathTrack.{room_by};
 ghost use Rattle.rtp_stream.specs.declared.stream_spec.Stream.{Stream};
 
 use super::Merge;
 use crate::window::Window;
 use rtp_stream::{
-    Anchor, Fate, Packet, PacketRef, Path, Probation, continues_media_time, fate_of_first,
+    Anchor, Fate, Packet, PacketRef, Path, Probation, Track, continues_media_time, fate_of_first,
     fate_of_put, is_off_place, is_taken, media_of_first, media_of_restart, place_of,
-    update_probation,
+    room_of, update_probation, update_track,
 };
 
 /// The greatest number of arrivals that are counted, 2^62.
 // An arrival after so many changes nothing, so that counts never wrap.
 const MAX_ARRIVALS: u64 = 4_611_686_018_427_387_904;
+
+/// Returns true if an arrival may open an epoch: it completes a probation, or its sender is astray.
+fn is_either(completes: bool, slips: bool) -> bool
+    ensures { result ≡ completes || slips }
+{
+    completes || slips
+}
 
 impl<V: Window> Merge<V> {
     ghost use Rattle.rtp_stream.specs.StreamSpec.{Fits};
@@ -30,6 +38,7 @@ impl<V: Window> Merge<V> {
       IsFirstStep,
       IsHeardStep,
       IsNextStep,
+      IsPlaced,
       IsPutStep,
       IsRefusal,
       IsRestartStep,
@@ -98,7 +107,8 @@ impl<V: Window> Merge<V> {
             → IsRestartStep self.old.spec self.old self.new anchor path (packet_of packet.now) result }
     {
         let next = self.window.base();
-        match place_of(&self.spec, &anchor, next, self.next_media, packet) {
+        let room = room_of(&self.spec, &anchor, next, &self.tracks);
+        match place_of(&self.spec, &anchor, next, self.next_media, room, packet) {
             Ok(number) => self.offer_at(anchor, Ok(number), path, packet),
             Err(_) => {
                 // A copy, for the reason given in `offer_ref`.
@@ -125,7 +135,8 @@ impl<V: Window> Merge<V> {
         match self.anchor {
             Some(anchor) => {
                 let next = self.window.base();
-                let place = place_of(&self.spec, &anchor, next, self.next_media, packet);
+                let room = room_of(&self.spec, &anchor, next, &self.tracks);
+                let place = place_of(&self.spec, &anchor, next, self.next_media, room, packet);
                 self.offer_at(anchor, place, path, packet)
             }
             // The merge is anchored, so this arm is never reached.
@@ -146,7 +157,8 @@ impl<V: Window> Merge<V> {
         requires open_yet { self.old.closed ≡ false }
         requires room { self.old.counts.arrived < 2 ^ 62 }
         requires fits { Fits self.old.spec (packet_of packet.now) }
-        requires place { place ≡ fate.place_of self.old.spec anchor self.old.base (packet_of packet.now) }
+        requires place { place ≡ fate.place_of (in_room self.old.spec (room_by self.old.spec anchor self.old.base self.old.tracks))
+            anchor self.old.base (packet_of packet.now) }
         ensures next { opens_epoch self.old anchor path (packet_of packet.now) ≡ false
             → IsNextStep self.old.spec self.old self.new anchor path (packet_of packet.now) result }
         ensures restart { opens_epoch self.old anchor path (packet_of packet.now) ≡ true
@@ -154,7 +166,7 @@ impl<V: Window> Merge<V> {
     {
         // The proof cites the invariant of the private fields, which it sees only if the body reads a field.
         let _ = &self.spec;
-        match self.update_probation_of(anchor, path, is_off_place(&place), packet) {
+        match self.note_arrival(anchor, &place, path, packet) {
             Some(media) => {
                 self.restart(anchor, media, path, packet);
                 Fate::Restarted
@@ -163,22 +175,29 @@ impl<V: Window> Merge<V> {
         }
     }
 
-    /// Adds a packet to its path's probation, and returns the media time of the epoch that it opens, if it opens one.
+    /// Adds a packet to its path's probation and track, and returns the media time of the epoch that it opens, if it
+    /// opens one.
     #[inline(always)]
-    fn update_probation_of(
+    fn note_arrival(
         &mut self,
         anchor: Anchor,
+        place: &Result<u64, Fate>,
         path: Path,
-        off: bool,
         packet: &PacketRef<'_>,
     ) -> Option<i64>
         requires anchored { self.old.anchor ≡ Some anchor }
         requires open_yet { self.old.closed ≡ false }
-        requires off { off ≡ is_off self.old.spec anchor self.old.base (packet_of packet.now) }
+        requires place { place.now
+            ≡ fate.place_of (in_room self.old.spec (room_by self.old.spec anchor self.old.base self.old.tracks))
+            anchor self.old.base (packet_of packet.now) }
         ensures opening { result ≡ opening_of self.old anchor path (packet_of packet.now) }
         ensures step { IsHeardStep self.old self.new anchor path (packet_of packet.now) }
     {
-        if update_probation(&mut self.probations, path, &self.spec, off, packet) {
+        let next = self.window.base();
+        let off = is_off_place(place);
+        let completes = update_probation(&mut self.probations, path, &self.spec, off, packet);
+        let slips = update_track(&mut self.tracks, &self.spec, &anchor, next, place, path, packet);
+        if is_either(completes, slips) {
             self.media_of_epoch(packet)
         } else {
             None
@@ -198,8 +217,9 @@ impl<V: Window> Merge<V> {
         requires open_yet { self.old.closed ≡ false }
         requires room { self.old.counts.arrived < 2 ^ 62 }
         requires fits { Fits self.old.spec (packet_of packet.now) }
-        requires place { place ≡ fate.place_of self.old.spec anchor self.old.base (packet_of packet.now) }
-        ensures { IsPutStep self.old.spec self.old self.new anchor path (packet_of packet.now) result }
+        requires place { IsPlaced self.old.spec anchor self.old.base (packet_of packet.now) place }
+        ensures { (room : ℕ) → place ≡ fate.place_of (in_room self.old.spec room) anchor self.old.base (packet_of packet.now)
+            → IsPutStep self.old.spec room self.old self.new anchor path (packet_of packet.now) result }
     {
         match place {
             Ok(number) => {
@@ -253,6 +273,7 @@ impl<V: Window> Merge<V> {
         self.window.begin_at(next.number);
         let _ = self.window.put_ref(next.number, *packet);
         self.probations = [Probation::new(); 4];
+        self.tracks = [Track::new(); 4];
         self.counts.add_fate(path, Fate::Restarted);
     }
 

@@ -1,12 +1,13 @@
 //! Texts of a table that name an encoding or a clock.
 ghost use Rattle.std.specs.Prelude.{◌≡◌, None, Some, OnOk, IfOk, IfErr};
 ghost use Rattle.toml.specs.View.{view, table_view};
-ghost use Rattle.studio_config.specs.Values.{text_in, text_at, encoding_in, encoding_at, is_media};
+ghost use Rattle.studio_config.specs.Values.{text_in, text_at, encoding_in, encoding_at, clock_named, with_offset};
 ghost use Rattle.studio_config.specs.Rows.{required, one_of, encodings, clocks, value_fault, row_fault};
 
 use crate::config::fault::{ConfigTable, SpecError, SpecErrorKind};
 use crate::config::keys::Key;
 use crate::config::lookup::require;
+use rtp_stream::StreamClock;
 use rtp_wire::Enc;
 use toml::{Table, Value};
 
@@ -42,33 +43,48 @@ fn encoding_in(value: &Value) -> Result<Enc, SpecErrorKind>
     Err(SpecErrorKind::OutOfRange)
 }
 
-/// Returns true if the text at a required key is `media`, and false if it is `arrival`.
-pub(crate) fn is_media(table: &Table, place: ConfigTable, key: Key) -> Result<bool, SpecError>
+/// Returns the clock that the text at a required key names: `media`, `arrival` or `follow`. The media clock has the
+/// offset 0.
+pub(crate) fn clock(table: &Table, place: ConfigTable, key: Key) -> Result<StreamClock, SpecError>
     ensures ok { OnOk result (row_fault place (table_view table.now) (required key (one_of clocks)) ≡ None) }
-    ensures media { IfOk result (λ media. is_media (text_at (table_view table.now) key) ≡ media) }
+    ensures clock { IfOk result (λ clock. clock_named (text_at (table_view table.now) key) ≡ clock) }
     ensures fault { IfErr result (λ e. row_fault place (table_view table.now) (required key (one_of clocks)) ≡ Some e) }
 {
     let value = require(table, place, key)?;
-    match is_media_in(value) {
-        Ok(media) => Ok(media),
+    match clock_in(value) {
+        Ok(clock) => Ok(clock),
         Err(kind) => Err(SpecError::at_key(place, key, kind)),
     }
 }
 
-/// Returns true if a value names the media clock, and false if it names the arrival clock.
-fn is_media_in(value: &Value) -> Result<bool, SpecErrorKind>
+/// Returns the clock that a value names.
+fn clock_in(value: &Value) -> Result<StreamClock, SpecErrorKind>
     ensures ok { OnOk result (value_fault (one_of clocks) (view value.now) ≡ None) }
-    ensures media { IfOk result (λ media. is_media (text_in (view value.now)) ≡ media) }
+    ensures clock { IfOk result (λ clock. clock_named (text_in (view value.now)) ≡ clock) }
     ensures fault { IfErr result (λ e. value_fault (one_of clocks) (view value.now) ≡ Some e) }
 {
     let Some(text) = value.as_str() else {
         return Err(SpecErrorKind::WrongKind);
     };
     if text == "media" {
-        return Ok(true);
+        return Ok(StreamClock::Media { offset: 0 });
+    }
+    if text == "follow" {
+        return Ok(StreamClock::Follow);
     }
     if text == "arrival" {
-        return Ok(false);
+        return Ok(StreamClock::Arrival);
     }
     Err(SpecErrorKind::OutOfRange)
+}
+
+/// Returns the media clock with this offset, or another clock as it is.
+pub(crate) fn with_offset(clock: StreamClock, offset: u32) -> StreamClock
+    ensures { result ≡ with_offset clock offset }
+{
+    match clock {
+        StreamClock::Media { .. } => StreamClock::Media { offset },
+        StreamClock::Arrival => StreamClock::Arrival,
+        StreamClock::Follow => StreamClock::Follow,
+    }
 }

@@ -15,7 +15,7 @@ ghost use Rattle.studio_config.specs.StreamTable.{
 };
 ghost use Rattle.studio_config.specs.declared.config.keys.Key.TheVariants as key;
 
-use crate::config::enums::is_media;
+use crate::config::enums::{clock, with_offset};
 use crate::config::fault::{ConfigTable, SpecError, SpecErrorKind};
 use crate::config::integers::{optional_whole, port, whole, whole_or};
 use crate::config::keys::Key;
@@ -130,14 +130,12 @@ fn read_source(table: &Table, place: ConfigTable) -> Result<StreamSource, SpecEr
         Some(ssrc) => Some(ssrc as u32),
         None => None,
     };
-    let media = is_media(table, place, Key::Clock)?;
+    let named = clock(table, place, Key::Clock)?;
     let offset = whole_or(table, place, Key::Offset, 0, 4_294_967_295, 0)? as u32;
-    let clock = if media {
-        StreamClock::Media { offset }
-    } else {
-        StreamClock::Arrival
-    };
-    Ok(StreamSource { ssrc, clock })
+    Ok(StreamSource {
+        ssrc,
+        clock: with_offset(named, offset),
+    })
 }
 
 /// Reads the latency, the window and the number of paths.

@@ -3,6 +3,8 @@ use Rattle.std.proofs.lemmas.Int.{ints}
 use Rattle.rtp_stream.specs.declared.anchor.Anchor.{Anchor}
 use Rattle.rtp_stream.specs.PacketRef.{packet_of}
 use Rattle.rtp_stream.specs.Fate.{place_of}
+use Rattle.rtp_stream.specs.Grid.{in_room}
+use Rattle.rtp_stream.specs.PathTrack.{room_by}
 use Rattle.path_merge.specs.MergeState.{MergeState}
 use Rattle.path_merge.specs.Steps.{IsNextStep, IsRestartStep, opens_epoch}
 use Rattle.path_merge.proofs.SoundLemmas.{anchored_at, base_small, due_times, media_small}
@@ -31,9 +33,12 @@ place_of-place-requires-clause-media_high g c =
     let t = due_times _ c.self.inside.next_media c.in-Some.anchor c.self.invariant is_a open_yet in
     omega (arith, ints, t.media_low, t.media_high)
 
+pub place_of-place-requires-clause-room : goal.place_of-place-requires-clause-room
+place_of-place-requires-clause-room g c = omega (arith, c.room_of-room.ensures.few, c.self.invariant.spec_ok.narrow)
+
 pub offer_at-requires-clause-place : goal.offer_at-requires-clause-place
 offer_at-requires-clause-place g c =
-    c.place_of-place.ensures ∙ ap (λ b. place_of c.self.inside.spec c.in-Some.anchor b (packet_of c.args.packet.now)) c.base-next.ensures ∙ ap (λ (m : MergeState). place_of m.spec c.in-Some.anchor m.base (packet_of c.args.packet.now)) c.self.view_is
+    c.place_of-place.ensures ∙ ap (λ r. place_of (in_room c.self.inside.spec r) c.in-Some.anchor c.base-next.result (packet_of c.args.packet.now)) c.room_of-room.ensures.value ∙ ap (λ b. place_of (in_room c.self.inside.spec (room_by c.self.inside.spec c.in-Some.anchor b c.self.inside.tracks)) c.in-Some.anchor b (packet_of c.args.packet.now)) c.base-next.ensures ∙ ap (λ (m : MergeState). place_of (in_room m.spec (room_by m.spec c.in-Some.anchor m.base m.tracks)) c.in-Some.anchor m.base (packet_of c.args.packet.now)) c.self.view_is
 
 pub returns-in-Some-clause-next : goal.returns-in-Some-clause-next
 returns-in-Some-clause-next g c = λ a is.
@@ -66,3 +71,8 @@ offer_at-requires-clause-room g c = search rules
 
 pub offer_at-requires-clause-fits : goal.offer_at-requires-clause-fits
 offer_at-requires-clause-fits g c = search rules
+
+pub place_of-place-requires-clause-anchor_high : goal.place_of-place-requires-clause-anchor_high
+place_of-place-requires-clause-anchor_high g c =
+    let is_a = c.in-Some.is in
+    omega (arith, ints, (anchored_at _ c.self.inside.next_media _ c.in-Some.anchor is_a c.self.invariant.anchored).bounds.media_high)

@@ -2,6 +2,8 @@ use Rattle.std.proofs.Common.{arith, ap, sym, ◌∙◌, rules}
 use Rattle.std.proofs.lemmas.Int.{ints}
 use Rattle.rtp_stream.specs.PacketRef.{packet_of}
 use Rattle.rtp_stream.specs.Fate.{place_of}
+use Rattle.rtp_stream.specs.Grid.{in_room}
+use Rattle.rtp_stream.specs.PathTrack.{room_by}
 use Rattle.path_merge.specs.MergeState.{MergeState}
 use Rattle.path_merge.proofs.SoundLemmas.{anchored_at, base_small, due_times, media_small}
 use Rattle.path_merge.proofs.merge.Merge.offer_next.Goals as goal
@@ -29,9 +31,12 @@ place_of-requires-clause-media_high g c =
     let t = due_times _ c.self.inside.next_media c.args.anchor c.self.invariant is_a open_yet in
     omega (arith, ints, t.media_low, t.media_high)
 
+pub place_of-requires-clause-room : goal.place_of-requires-clause-room
+place_of-requires-clause-room g c = omega (arith, c.room_of-room.ensures.few, c.self.invariant.spec_ok.narrow)
+
 pub offer_at-requires-clause-place : goal.offer_at-requires-clause-place
 offer_at-requires-clause-place g c =
-    sym (c.in-Ok.is) ∙ c.place_of.ensures ∙ ap (λ b. place_of c.self.inside.spec c.args.anchor b (packet_of c.args.packet.now)) c.base-next.ensures ∙ ap (λ (m : MergeState). place_of m.spec c.args.anchor m.base (packet_of c.args.packet.now)) c.self.view_is
+    sym (c.in-Ok.is) ∙ c.place_of.ensures ∙ ap (λ r. place_of (in_room c.self.inside.spec r) c.args.anchor c.base-next.result (packet_of c.args.packet.now)) c.room_of-room.ensures.value ∙ ap (λ b. place_of (in_room c.self.inside.spec (room_by c.self.inside.spec c.args.anchor b c.self.inside.tracks)) c.args.anchor b (packet_of c.args.packet.now)) c.base-next.ensures ∙ ap (λ (m : MergeState). place_of (in_room m.spec (room_by m.spec c.args.anchor m.base m.tracks)) c.args.anchor m.base (packet_of c.args.packet.now)) c.self.view_is
 
 pub returns-in-Err-clause-next : goal.returns-in-Err-clause-next
 returns-in-Err-clause-next g c = c.offer_elsewhere.ensures.next c.args.anchor c.requires.anchored
@@ -68,3 +73,8 @@ returns-in-Ok-clause-next g c = search rules
 
 pub returns-in-Ok-clause-restart : goal.returns-in-Ok-clause-restart
 returns-in-Ok-clause-restart g c = search rules
+
+pub place_of-requires-clause-anchor_high : goal.place_of-requires-clause-anchor_high
+place_of-requires-clause-anchor_high g c =
+    let is_a = ap (λ (m : MergeState). m.anchor) c.self.view_is ∙ c.requires.anchored in
+    omega (arith, ints, (anchored_at _ c.self.inside.next_media _ c.args.anchor is_a c.self.invariant.anchored).bounds.media_high)

@@ -27,7 +27,7 @@ invariant_of-self g c =
     let there : is_restart_in_reach c.self.inside.spec c.self.inside.time c.self.inside.next_media (to_z w64 (of_z w64 c.args.media)) ≡ true = ap (λ z. is_restart_in_reach c.self.inside.spec c.self.inside.time z (to_z w64 (of_z w64 c.args.media))) an.media_is ∙ ap (is_restart_in_reach c.self.inside.spec c.self.inside.time (media_time_of c.self.inside.spec c.args.anchor (g.V.Window.base c.self.inside.window))) media_is ∙ goes in
     let number : c.following-next.result.number ≡ 65536 + (packet_of c.args.packet.now).seq = ap (λ (a : Anchor). a.number) c.following-next.ensures.value in
     let put = first_put (packet_of c.args.packet.now) c.following-next.result.number (g.V.Window.held c.begin_at.new.self) (g.V.Window.held c.put_ref.new.self) c.put_ref.result number c.begin_at.ensures.held c.put_ref.ensures.answer c.put_ref.ensures.held in
-    sound_restart _ c.self.inside.next_media (to_z w64 (of_z w64 c.args.media)) c.args.path (packet_of c.args.packet.now) c.args.anchor c.following-next.result (g.V.Window.held c.begin_at.new.self) _ _ _ _ _ c.self.invariant is_a open_yet room fits c.following-next.ensures.seq c.following-next.ensures.timestamp none_held (in_reach c.self.inside.spec c.self.inside.time c.self.inside.next_media (to_z w64 (of_z w64 c.args.media)) there) c.following-next.ensures.value c.begin_at.ensures.held put (c.put_ref.ensures.base ∙ c.begin_at.ensures.base ∙ number) (c.put_ref.ensures.size ∙ c.begin_at.ensures.size) c.add_fate.ensures
+    sound_restart _ c.self.inside.next_media (to_z w64 (of_z w64 c.args.media)) c.args.path (packet_of c.args.packet.now) c.args.anchor c.following-next.result (g.V.Window.held c.begin_at.new.self) _ _ _ _ _ _ c.self.invariant is_a open_yet room fits c.following-next.ensures.seq c.following-next.ensures.timestamp none_held (in_reach c.self.inside.spec c.self.inside.time c.self.inside.next_media (to_z w64 (of_z w64 c.args.media)) there) c.following-next.ensures.value c.begin_at.ensures.held put (c.put_ref.ensures.base ∙ c.begin_at.ensures.base ∙ number) (c.put_ref.ensures.size ∙ c.begin_at.ensures.size) c.add_fate.ensures
 
 pub returns : goal.returns
 returns g c =
@@ -36,4 +36,4 @@ returns g c =
     let number : c.following-next.result.number ≡ 65536 + (packet_of c.args.packet.now).seq = ap (λ (a : Anchor). a.number) c.following-next.ensures.value in
     let put = first_put (packet_of c.args.packet.now) c.following-next.result.number (g.V.Window.held c.begin_at.new.self) (g.V.Window.held c.put_ref.new.self) c.put_ref.result number c.begin_at.ensures.held c.put_ref.ensures.answer c.put_ref.ensures.held in
     let anchor = c.following-next.ensures.value ∙ ap (made_by (packet_of c.args.packet.now) (c.args.anchor.epoch + 1)) (media_is ∙ media) in
-    rw (← c.self.view_is) (restart_step _ c.args.path (packet_of c.args.packet.now) c.args.anchor c.following-next.result (g.V.Window.held c.begin_at.new.self) _ _ _ _ c.new-self-inside.result anchor c.begin_at.ensures.held put (c.put_ref.ensures.base ∙ c.begin_at.ensures.base ∙ number) (c.put_ref.ensures.size ∙ c.begin_at.ensures.size) c.add_fate.ensures c.new-self-inside.ensures)
+    rw (← c.self.view_is) (restart_step _ c.args.path (packet_of c.args.packet.now) c.args.anchor c.following-next.result (g.V.Window.held c.begin_at.new.self) _ _ _ _ c.new-self-inside.result c.new-self-inside-2.result anchor c.begin_at.ensures.held put (c.put_ref.ensures.base ∙ c.begin_at.ensures.base ∙ number) (c.put_ref.ensures.size ∙ c.begin_at.ensures.size) c.add_fate.ensures c.new-self-inside.ensures c.new-self-inside-2.ensures)
