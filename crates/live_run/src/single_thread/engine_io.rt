@@ -38,7 +38,7 @@ struct MeteredSink<'a, K> {
 }
 
 impl<K: Sink> Sink for MeteredSink<'_, K> {
-    ghost handed = { λ sink. None };
+    ghost handed = { λ sink. K.handed sink.sink };
 
     fn send(&mut self, datagram: &[u8]) -> SendAnswer {
         // Measured after it was sent, so that the meter does not delay the datagram.
