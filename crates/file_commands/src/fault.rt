@@ -1,7 +1,7 @@
 //! The faults of a command over files, with their lines on standard error and their exit statuses.
 use pcap_file::{CaptureFault, ReaderFault};
 use pcap_flows::ImportFault;
-use pcap_replay::ReplayFault;
+use pcap_replay::{RecordingFault, ReplayFault};
 use std::alloc::{AllocError, AllocFailed};
 use std::io;
 use studio_config::SpecErrorKind;
@@ -16,6 +16,12 @@ pub enum CommandFault {
     /// A word of `--path` is not an IPv4 address and a port.
     #[error("usage: a path is not ADDRESS:PORT")]
     Address,
+    /// A chart of a capture on standard input, which can be read only once.
+    #[error("usage: --chart reads the capture twice, and - can be read once")]
+    ChartOfStdin,
+    /// The file to write is also read. The file's path was written to `faults`.
+    #[error("is an input")]
+    OutputIsInput,
     /// The STREAM of `--wav` is not a number from 0 to 255.
     #[error("usage: STREAM is not a number from 0 to 15")]
     StreamNumber,
@@ -72,6 +78,12 @@ pub enum CaptureInputFault {
     /// The capture has more than 67,108,864 octets, as many as a trace may have. `replay` has no such limit.
     #[error("capture: too long")]
     TooLong,
+    /// A capture on standard input is not the record of a live run.
+    #[error("capture: no record")]
+    NoRecord,
+    /// The record is not one of a run by this configuration.
+    #[error("capture: recorded by another configuration: {0}")]
+    Recording(RecordingFault),
     /// The capture's first fault in its format, with the octet at which it is.
     #[error("capture {0}")]
     Octet(CaptureFault),
@@ -104,6 +116,7 @@ impl CommandFault {
     pub fn status(&self) -> u8 {
         match self {
             CommandFault::Address | CommandFault::StreamNumber | CommandFault::StreamWav(_) => 2,
+            CommandFault::ChartOfStdin | CommandFault::OutputIsInput => 2,
             CommandFault::Config(ConfigFault::Unread) => 5,
             CommandFault::Capture(CaptureInputFault::Unread) => 5,
             CommandFault::Capture(_) => 1,

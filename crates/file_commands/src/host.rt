@@ -1,8 +1,10 @@
 //! The host of the commands: its standard streams, and its files by their paths.
 ghost use Rattle.std.specs.Prelude.{IfOk, []};
+ghost use Rattle.pcap_file.specs.RecordFile.{Holds as RecordHolds};
 ghost use Rattle.wav_file.specs.File.{Holds};
 
 use crate::fault::CommandFault;
+use pcap_file::{RecordFault, RecordFile};
 use std::alloc::Global;
 use std::io::{Read, Write};
 use studio_run::ReadFault;
@@ -24,8 +26,11 @@ pub trait Host {
     /// A file that is read: a capture.
     type Source: Read + Drop;
 
-    /// A file that is written: a WAV file, a chart or a record.
-    type Target: Overwrite + Send + Drop;
+    /// A file that is written: a WAV file or a chart.
+    type Target: Overwrite + Drop;
+
+    /// The file of a live run's record.
+    type Record: RecordFile + Send + Drop;
 
     /// Opens the file at a path for reading, from its start. Returns `ReadFault::Memory` if an allocation fails, and
     /// `ReadFault::Device` if the file cannot be opened.
@@ -38,6 +43,17 @@ pub trait Host {
     /// Creates an empty file at a path, or empties the one that is there. Returns `FileFault::NotCreated` if it cannot.
     fn create(&self, path: &str) -> Result<Self::Target, FileFault>
         ensures empty { IfOk result (λ file. Holds (Self.Target.Write.contents file) []) };
+
+    /// Returns true if there is anything at a path, a link too.
+    fn has(&self, path: &str) -> bool;
+
+    /// Creates the empty file of a record at a path at which nothing is. Returns `Exists` if something is there, which
+    /// stays as it is, and `NotCreated` if the file cannot be created for another reason.
+    fn create_record(&self, path: &str) -> Result<Self::Record, RecordFault>
+        ensures empty { IfOk result (λ file. RecordHolds (Self.Record.Write.contents file) []) };
+
+    /// Returns true if two paths lead to one file, also by links.
+    fn is_same_file(&self, one: &str, other: &str) -> bool;
 }
 
 // `play_to_wav` and `list_to_wav` call `create` only once the trace is known to have no fault, so a run that fails
@@ -55,6 +71,29 @@ impl<H: Host> CreateFile for NamedFile<'_, H> {
     fn create(&self) -> Result<H::Target, FileFault> {
         self.host.create(self.path)
     }
+}
+
+/// The path of the file that standard input is.
+pub(crate) const STDIN_PATH: &str = "/dev/stdin";
+
+/// Refuses to write a file that a command also reads. `word` says what the file is.
+pub(crate) fn refuse_inputs<H: Host>(
+    host: &H,
+    word: &str,
+    output: Option<&str>,
+    inputs: &[&str],
+    faults: &mut H::Stderr,
+) -> Result<(), CommandFault> {
+    let Some(output) = output else {
+        return Ok(());
+    };
+    for input in inputs {
+        if host.is_same_file(output, *input) {
+            begin_fault_line(word, output, faults);
+            return Err(CommandFault::OutputIsInput);
+        }
+    }
+    Ok(())
 }
 
 /// Writes what a file is and its path to `faults`, as the beginning of the line of a fault. If it cannot be written it

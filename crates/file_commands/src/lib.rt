@@ -6,6 +6,7 @@
 //! `run_quick_start` is the run without words.
 //!
 //! The caller passes a `Host`, which opens and creates files by path: no command opens a file itself.
+//! No command writes a file that it also reads, by any of the file's paths.
 //! `read_config` and `parse_studio` read a configuration.
 #![tactic(auto)]
 
@@ -15,6 +16,7 @@ mod fault;
 mod host;
 mod import_command;
 mod replay_command;
+mod replay_input;
 mod replay_outputs;
 mod streams_command;
 mod trace_commands;

@@ -2,18 +2,21 @@
 ghost use Rattle.std.specs.Prelude.{[]};
 
 use crate::config::studio_of;
-use crate::fault::CommandFault;
-use crate::host::{Host, open_capture};
+use crate::fault::{CaptureInputFault, CommandFault};
+use crate::host::{Host, STDIN_PATH, open_capture, refuse_inputs};
 use crate::import_command::routes_to;
+use crate::replay_input::{PeekedInput, opening_in, paths_in, read_front, studio_for};
 use crate::replay_outputs::{ReplayOutputs, create_wav, finish_wav, write_chart};
 use command_line::ReplayArgs;
+use pcap_file::CaptureFault;
 use pcap_flows::{FlowTable, Routes};
-use pcap_replay::{ReplayObserver, record_opening, replay, replay_record, scan_flows};
+use pcap_replay::{ReplayObserver, WavObserver, replay, replay_record, scan_flows};
 use reception_chart::{Extent, StudioTracker};
 use std::alloc::Global;
 use std::io;
-use std::io::Write;
+use std::io::{Read, Write};
 use studio_config::StudioSpec;
+use wav_file::Overwrite;
 
 /// The kind of a capture, which is known before it is replayed.
 #[derive(Drop)]
@@ -34,20 +37,101 @@ struct ReplaySource {
 /// Writes the report of a capture, by the configuration at a path. Before the fault of a WAV file or a chart its path
 /// is written to `faults`.
 ///
-/// The capture is opened several times, so that it need not fit in memory: for its start up to the first packet, which
-/// says if it is the record of a live run; for its flows, if it is not a record; for the report; and for the chart, if
-/// one is asked for.
+/// A capture in a file is opened several times, so that it need not fit in memory: for its start up to the first
+/// packet, which says if it is the record of a live run and of which configuration; for its flows, if it is not a
+/// record; for the report; and for the chart, if one is asked for. The capture `-` is a record on `input`, which is
+/// read once.
 pub fn run_replay<H: Host>(
     host: &H,
     alloc: Global,
     config: &str,
     args: ReplayArgs<'_>,
+    input: &mut H::Stdin,
     output: &mut H::Stdout,
     faults: &mut H::Stderr,
 ) -> Result<(), CommandFault> {
+    let is_stdin = args.file == "-";
+    if is_stdin && args.chart.is_some() {
+        return Err(CommandFault::ChartOfStdin);
+    }
+    let capture = if is_stdin { STDIN_PATH } else { args.file };
+    refuse_inputs(host, "wav", args.wav, &[config, capture], faults)?;
+    refuse_inputs(host, "chart", args.chart, &[config, capture], faults)?;
     let studio = studio_of(host, alloc, config)?;
+    if is_stdin {
+        return replay_input(host, alloc, studio, args, input, output, faults);
+    }
     let source = source_of(host, alloc, studio, args.file)?;
     source.replay(host, alloc, args, output, faults)
+}
+
+/// Writes the report of the record on standard input, and then the WAV file that is asked for.
+fn replay_input<H: Host>(
+    host: &H,
+    alloc: Global,
+    studio: StudioSpec,
+    args: ReplayArgs<'_>,
+    input: &mut H::Stdin,
+    output: &mut H::Stdout,
+    faults: &mut H::Stderr,
+) -> Result<(), CommandFault> {
+    let front = read_front(alloc, input)?;
+    let Some(opening) = opening_in(alloc, &mut front.as_slice())? else {
+        return Err(CommandFault::Capture(CaptureInputFault::NoRecord));
+    };
+    let paths = paths_in(alloc, &mut front.as_slice())?;
+    let studio = studio_for(alloc, studio, opening, paths.as_slice())?;
+    let wav = create_wav(host, args.wav, studio.output(), faults)?;
+    let mut outputs = ReplayOutputs::<H::Target, Extent> { wav, streams: None };
+    let mut record = PeekedInput::new(front.as_slice(), input);
+    let played = play_record(alloc, &studio, &mut record, output, &mut outputs);
+    let ReplayOutputs { wav, streams: _ } = outputs;
+    finish_replay(wav, played, args.wav, faults)
+}
+
+/// Writes the report of a record, and reports each event and each datagram to an observer. Returns the fault of the
+/// record's last block, if it is cut.
+fn play_record<R: Read, W: Write, L: ReplayObserver>(
+    alloc: Global,
+    studio: &StudioSpec,
+    input: &mut R,
+    output: &mut W,
+    observer: &mut L,
+) -> Result<Option<CaptureFault>, CommandFault>
+    requires fresh { L.heard observer.old observer.old [] [] }
+{
+    Ok(replay_record(alloc, studio, input, output, observer)?)
+}
+
+/// Completes the mix's WAV file after a report, and returns the first fault: of the report, of the file, or of a last
+/// block that is cut, behind which the report is whole.
+fn finish_replay<F: Overwrite + Drop, E: Write>(
+    wav: Option<WavObserver<F>>,
+    played: Result<Option<CaptureFault>, CommandFault>,
+    path: Option<&str>,
+    faults: &mut E,
+) -> Result<(), CommandFault> {
+    let (played, cut) = without_cut(played);
+    finish_wav(wav, played, path, faults)?;
+    cut_result(cut)
+}
+
+/// Returns the result of a report, and the fault of a record's last block behind it, if that is cut.
+fn without_cut(
+    played: Result<Option<CaptureFault>, CommandFault>,
+) -> (Result<(), CommandFault>, Option<CaptureFault>) {
+    match played {
+        Ok(cut) => (Ok(()), cut),
+        Err(fault) => (Err(fault), None),
+    }
+}
+
+/// Returns the fault of a record's last block as that of the command, if it is cut.
+fn cut_result(cut: Option<CaptureFault>) -> Result<(), CommandFault> {
+    match cut {
+        Some(fault) => Err(CommandFault::Capture(CaptureInputFault::Octet(fault))),
+        None => Ok(()),
+    }
 }
 
 /// Returns the kind of the capture at a path, and the studio for it.
@@ -57,29 +141,19 @@ fn source_of<H: Host>(
     studio: StudioSpec,
     path: &str,
 ) -> Result<ReplaySource, CommandFault> {
-    match opening_at(host, alloc, path)? {
-        Some(opening) => Ok(ReplaySource {
-            studio: opened_at(alloc, studio, opening)?,
-            kind: CaptureKind::Record,
-        }),
+    match opening_in(alloc, &mut open_capture(host, path)?)? {
+        Some(opening) => {
+            let paths = paths_in(alloc, &mut open_capture(host, path)?)?;
+            Ok(ReplaySource {
+                studio: studio_for(alloc, studio, opening, paths.as_slice())?,
+                kind: CaptureKind::Record,
+            })
+        }
         None => Ok(ReplaySource {
             kind: CaptureKind::Flows(routes_at(host, alloc, path)?),
             studio,
         }),
     }
-}
-
-/// Returns the studio for a record, which opens at the time at which the recorded run opened.
-fn opened_at(alloc: Global, studio: StudioSpec, opening: u64) -> Result<StudioSpec, CommandFault> {
-    // A time of 2^63 or more becomes one that `shifted` refuses: it is past 2^60.
-    let open_at = i64::try_from(opening).unwrap_or(i64::MAX);
-    Ok(studio.shifted(alloc, open_at)?)
-}
-
-/// Returns the opening time of a live run, in sampling instants, if the capture at a path is the record of one.
-fn opening_at<H: Host>(host: &H, alloc: Global, path: &str) -> Result<Option<u64>, CommandFault> {
-    let mut input = open_capture(host, path)?;
-    Ok(record_opening(alloc, &mut input)?)
 }
 
 /// Returns the routes of the flows of the capture at a path.
@@ -112,16 +186,16 @@ impl ReplaySource {
         let mut outputs = ReplayOutputs { wav, streams };
         let played = self.play(host, alloc, args.file, output, &mut outputs);
         let ReplayOutputs { wav, streams } = outputs;
+        let (played, cut) = without_cut(played);
         finish_wav(wav, played, args.wav, faults)?;
-        match (args.chart, streams) {
-            (Some(chart), Some(streams)) => {
-                self.draw(host, alloc, args.file, &streams, chart, faults)
-            }
-            _ => Ok(()),
+        if let (Some(chart), Some(streams)) = (args.chart, streams) {
+            self.draw(host, alloc, args.file, &streams, chart, faults)?;
         }
+        cut_result(cut)
     }
 
-    /// Writes the report of the capture at a path, and reports each event and each datagram to an observer.
+    /// Writes the report of the capture at a path, and reports each event and each datagram to an observer. Returns the
+    /// fault of a record's last block, if it is cut.
     fn play<H: Host, W: Write, L: ReplayObserver>(
         &self,
         host: &H,
@@ -129,12 +203,12 @@ impl ReplaySource {
         path: &str,
         output: &mut W,
         observer: &mut L,
-    ) -> Result<(), CommandFault>
+    ) -> Result<Option<CaptureFault>, CommandFault>
         requires fresh { L.heard observer.old observer.old [] [] }
     {
         let mut input = open_capture(host, path)?;
-        let played = match &self.kind {
-            CaptureKind::Record => replay_record(alloc, &self.studio, &mut input, output, observer),
+        match &self.kind {
+            CaptureKind::Record => play_record(alloc, &self.studio, &mut input, output, observer),
             CaptureKind::Flows(routes) => {
                 replay(
                     alloc,
@@ -143,10 +217,10 @@ impl ReplaySource {
                     &mut input,
                     output,
                     observer,
-                )
+                )?;
+                Ok(None)
             }
-        };
-        Ok(played?)
+        }
     }
 
     /// Plays the capture at a path again, and draws what its streams received to the file of a chart.

@@ -2,7 +2,7 @@
 use crate::config::{quick_start_studio, studio_of};
 use crate::config_summary::write_summary;
 use crate::fault::{CommandFault, output_result};
-use crate::host::{Host, NamedFile, begin_fault_line};
+use crate::host::{Host, NamedFile, STDIN_PATH, begin_fault_line, refuse_inputs};
 use command_line::StreamWavArgs;
 use reception_chart::chart;
 use std::alloc::Global;
@@ -92,6 +92,7 @@ pub fn run_play_to_wav<H: Host>(
     output: &mut H::Stdout,
     faults: &mut H::Stderr,
 ) -> Result<(), CommandFault> {
+    refuse_inputs(host, "wav", Some(path), &[config, STDIN_PATH], faults)?;
     let studio = studio_of(host, alloc, config)?;
     let file = NamedFile { host, path };
     match play_to_wav(alloc, &studio, input, output, &file) {
@@ -116,8 +117,9 @@ pub fn run_marks_to_wav<H: Host>(
     let Ok(stream) = args.stream.parse::<u8>() else {
         return Err(CommandFault::StreamNumber);
     };
-    let studio = studio_of(host, alloc, config)?;
     let path = args.file;
+    refuse_inputs(host, "wav", Some(path), &[config, STDIN_PATH], faults)?;
+    let studio = studio_of(host, alloc, config)?;
     let file = NamedFile { host, path };
     match list_to_wav(alloc, &studio, stream, input, output, &file) {
         Ok(_file) => Ok(()),

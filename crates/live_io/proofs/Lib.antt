@@ -5,3 +5,4 @@ pub mod NameLemmas
 pub mod PortLemmas
 pub mod PutLemmas
 pub mod PassLemmas
+pub mod WrittenLemmas

@@ -25,7 +25,7 @@ module _ (old fresh : List ℕ) (h t b : ℕ) (hl : h ≤ length old) (tl : t �
       let d = first in
       omega (arith, a, c, d, tl)
 
-  front : take (h + t) now ≡ take h old ++ take t fresh
+  pub front : take (h + t) now ≡ take h old ++ take t fresh
   front =
       let rest = post_of h (length old - h) old in
       ap (λ n. take (n + t) now) (sym first)
@@ -33,7 +33,7 @@ module _ (old fresh : List ℕ) (h t b : ℕ) (hl : h ≤ length old) (tl : t �
       ∙ ap (λ l. take h old ++ l) (take-append-le t fresh rest tl))
 
   -- the octets behind the blocks are moved to the front
-  kept : take (h + t - b) (copy_within now b (h + t) 0) ≡ drop b (take (h + t) now)
+  pub kept : take (h + t - b) (copy_within now b (h + t) 0) ≡ drop b (take (h + t) now)
   kept =
       let n = h + t - b in
       let sum : b + n ≡ h + t = omega (arith, bl) in

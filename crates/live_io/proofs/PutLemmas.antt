@@ -3,7 +3,7 @@ use Rattle.std.proofs.Common.{◌≡◌, inl, inr, ◌<◌, ◌≤◌, ◌+◌, 
 use Rattle.std.proofs.lemmas.List.{append-nil, drop_all}
 use Rattle.rtrb.specs.Ring.{sent}
 use Rattle.rtp_stream.specs.declared.stream_spec.Stream.{Stream}
-use Rattle.live_io.specs.RecordBlocks.{Sends, path_blocks, row_blocks}
+use Rattle.live_io.specs.RecordBlocks.{Sends, path_blocks, stream_blocks}
 use Rattle.live_io.specs.declared.record.block_producer.BlockProducer.{BlockProducer}
 
 -- the paths of the streams so far were described, and these are left
@@ -31,13 +31,13 @@ describes_none streams end = record { done = []; rest = refl; sends = sends_none
 
 -- those of one stream more
 pub describes_more : (streams : List Stream) (n : ℕ) (stream : Stream) (old mid new : BlockProducer) → n < length streams → stream ≡ get_or streams n stream
-    → Describes streams n old mid → Sends mid (row_blocks n stream.paths) new → (mid.ended ≡ true → new.ended ≡ true) → Describes streams (n + 1) old new
+    → Describes streams n old mid → Sends mid (stream_blocks n stream) new → (mid.ended ≡ true → new.ended ≡ true) → Describes streams (n + 1) old new
 describes_more streams n stream old mid new within is d more stays = rw add-one (record {
-  done = d.done ++ row_blocks n stream.paths;
+  done = d.done ++ stream_blocks n stream;
   rest = d.rest ∙ (ap (λ ss. d.done ++ path_blocks n ss) (drop-cons streams n stream within)
-      ∙ (ap (λ (s : Stream). d.done ++ (row_blocks n s.paths ++ path_blocks (suc n) (drop (suc n) streams))) (sym is)
-      ∙ sym (append_assoc d.done (row_blocks n stream.paths) (path_blocks (suc n) (drop (suc n) streams)))));
-  sends = sends_more old mid new d.done (row_blocks n stream.paths) d.sends more stays;
+      ∙ (ap (λ (s : Stream). d.done ++ (stream_blocks n s ++ path_blocks (suc n) (drop (suc n) streams))) (sym is)
+      ∙ sym (append_assoc d.done (stream_blocks n stream) (path_blocks (suc n) (drop (suc n) streams)))));
+  sends = sends_more old mid new d.done (stream_blocks n stream) d.sends more stays;
   ended = λ e. stays (d.ended e);
 })
 

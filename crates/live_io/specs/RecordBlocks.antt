@@ -1,10 +1,14 @@
 -- What a record's ring was sent.
-use Rattle.std.specs.Prelude.{◌≡◌, ◌⊎◌, ◌<◌, ℕ, zero, suc, ◌+◌, List, [], ◌∷◌, ◌++◌, length, ℤ, pos, ◌+ℤ◌, Some, true, false}
+use Rattle.std.specs.Prelude.{◌≡◌, ◌⊎◌, ◌<◌, ℕ, zero, suc, ◌+◌, List, [], ◌∷◌, ◌++◌, length, ℤ, pos, ◌+ℤ◌, Some, None, true, false}
 use Rattle.std.specs.Net.Addr.{ipv4_octets}
 use Rattle.rtrb.specs.Ring.{known_free, sent}
 use Rattle.pcap_file.specs.RecordedDatagram.{ArrivalView}
 use Rattle.pcap_file.specs.Blocks.{closing_block, datagram_block, interface_block, section_block}
 use Rattle.pcap_file.specs.Times.{nanoseconds_in_64}
+use Rattle.pcap_file.specs.RecordedStream.{description_of}
+use Rattle.pcap_file.specs.declared.encode.recorded_stream.RecordedStream.{RecordedStream}
+use Rattle.rtp_wire.specs.declared.encoding.Enc.{Enc}
+use Rattle.rtp_wire.specs.declared.encoding.Enc.TheVariants.{L16, L24}
 use Rattle.rtp_stream.specs.declared.stream_spec.Stream.{Stream}
 use Rattle.studio_config.specs.Studio.{Studio}
 use Rattle.live_io.specs.declared.record.block_producer.BlockProducer.{BlockProducer}
@@ -31,25 +35,49 @@ pub record IsPacket (open_at time : ℤ) (origin : DatagramOrigin) (octets : Lis
   pub source : (view.source ≡ ipv4_octets origin.source.ip) × (view.source_port ≡ origin.source.port)
   pub destination : (view.destination ≡ ipv4_octets origin.destination.ip) × (view.destination_port ≡ origin.destination.port)
 
--- its packet was sent, or nothing
+-- a time that the format doesn't hold: 64 bits don't have its nanoseconds after the opening
+abbrev pub IsPast : ℤ → ℤ → Type 0
+IsPast open_at time = (instants : ℕ) → time ≡ (open_at +ℤ pos instants) → nanoseconds_in_64 instants ≡ None
+
+-- its packet was put; or nothing was sent, since the record had ended, or the datagram is too long or its time doesn't fit
 abbrev pub PutsPacket : ℤ → ℤ → DatagramOrigin → List ℕ → BlockProducer → BlockProducer → Type 0
 PutsPacket open_at time origin octets old new =
-    ((view : ArrivalView) × IsPacket open_at time origin octets view × (new.ended ≡ false) × (sent new.ring ≡ sent old.ring ++ datagram_block view)) ⊎ Ends old new
+    ((view : ArrivalView) × IsPacket open_at time origin octets view × Puts old (datagram_block view) new)
+    ⊎ (Ends old new × ((old.ended ≡ true) ⊎ ((2048 < length octets) ⊎ IsPast open_at time)))
 
--- a close at a time was sent, or nothing
+-- a close at a time was put, or nothing was sent, since the time doesn't fit
 abbrev pub PutsClose : ℤ → ℤ → BlockProducer → BlockProducer → Type 0
 PutsClose open_at time old new =
-    ((nanoseconds : ℕ) × IsSince open_at time nanoseconds × (new.ended ≡ false) × (sent new.ring ≡ sent old.ring ++ closing_block nanoseconds)) ⊎ Ends old new
+    ((nanoseconds : ℕ) × IsSince open_at time nanoseconds × Puts old (closing_block nanoseconds) new)
+    ⊎ (Ends old new × IsPast open_at time)
+
+-- the configuration of a stream as a record has it
+abbrev pub bits_of : Enc → ℕ
+bits_of L16 = 16
+bits_of L24 = 24
+
+abbrev pub recorded_of : Stream → RecordedStream
+recorded_of stream = record {
+  bits = bits_of stream.enc;
+  channels = stream.channels;
+  frames = stream.frames;
+  pt = stream.pt;
+  paths = stream.paths;
+}
 
 -- the descriptions of a stream's first so many paths, a to d
-abbrev pub row_blocks : ℕ → ℕ → List ℕ
-row_blocks stream zero = []
-row_blocks stream (suc count) = row_blocks stream count ++ interface_block stream (97 + count)
+abbrev pub row_blocks : ℕ → List ℕ → ℕ → List ℕ
+row_blocks number description zero = []
+row_blocks number description (suc count) = row_blocks number description count ++ interface_block number (97 + count) description
+
+-- those of all its paths, with the description of its configuration
+abbrev pub stream_blocks : ℕ → Stream → List ℕ
+stream_blocks number stream = row_blocks number (description_of (recorded_of stream)) stream.paths
 
 -- those of the paths of streams, whose numbers count up from this one
 abbrev pub path_blocks : ℕ → List Stream → List ℕ
 path_blocks number [] = []
-path_blocks number (stream ∷ streams) = row_blocks number stream.paths ++ path_blocks (suc number) streams
+path_blocks number (stream ∷ streams) = stream_blocks number stream ++ path_blocks (suc number) streams
 
 -- octets were sent, or not all of them, and nothing will be any more
 abbrev pub Sends : BlockProducer → List ℕ → BlockProducer → Type 0

@@ -1,18 +1,41 @@
 -- What of a record went to its file.
-use Rattle.std.specs.Prelude.{◌≡◌, ◌⊎◌, ◌≤◌, ℕ, List, [], ◌++◌, length, take, Option}
-use Rattle.std.specs.Io.KnownBytes.{Appends}
+use Rattle.std.specs.Prelude.{◌≡◌, ◌⊎◌, ◌≤◌, ℕ, List, [], ◌++◌, length, take, Option, Some, true, false}
+use Rattle.std.specs.List.{All}
+use Rattle.pcap_file.specs.WholeBlocks.{AreWhole, BeginsNone, IsBlock, datagram_count, joined}
 use Rattle.rtrb.specs.Ring.{known_items, received}
+use Rattle.live_io.specs.declared.record.writer.FailedWrite.{FailedWrite}
+use Rattle.live_io.specs.declared.record.writer.FileResult.{FileResult}
 use Rattle.live_io.specs.declared.record.writer.RecordWriter.{RecordWriter}
 
-module _ {D : Type 0} where
-  -- of all that came through the ring these octets went on, and the rest is held
-  abbrev pub HasPassed : RecordWriter D → List ℕ → Type 0
-  HasPassed writer done = received writer.ring ≡ done ++ take writer.held writer.octets.items
+-- what came through the ring are these blocks, which a file whose octets are known holds and which are counted, and a
+-- rest that is held, with which no whole block begins
+pub record HasWritten (contents : Option (List ℕ)) (writer : RecordWriter) : Type 0 where
+  pub blocks : List (List ℕ)
+  pub every : All IsBlock blocks
+  pub came : received writer.ring ≡ joined blocks ++ take writer.held writer.octets.items
+  pub none : BeginsNone (take writer.held writer.octets.items)
+  pub holds : contents ≡ Some (joined blocks)
+  pub len : writer.len ≡ length (joined blocks)
+  pub datagrams : writer.datagrams ≡ datagram_count blocks
 
-  -- the ring was found empty, or what is held leaves no room
-  abbrev pub SeesNone : RecordWriter D → RecordWriter D → Type 0
-  SeesNone old new = (known_items new.ring ≡ []) ⊎ (length old.octets.items ≤ old.held)
+-- what came through the ring begins with these blocks, of which so many hold a datagram, and no whole block is behind them unless a
+-- write failed; a file whose octets are known holds them and nothing else, unless it could not be cut behind them
+pub record IsRecorded (contents : Option (List ℕ)) (writer : RecordWriter) (result : FileResult) : Type 0 where
+  pub blocks : List (List ℕ)
+  pub every : All IsBlock blocks
+  pub rest : List ℕ
+  pub came : received writer.ring ≡ joined blocks ++ rest
+  pub all : result.failed ≡ false → BeginsNone rest
+  pub datagrams : result.datagrams ≡ datagram_count blocks
+  pub holds : result.is_whole ≡ true → contents ≡ Some (joined blocks)
 
-  -- more went on, to the file
-  abbrev pub Passes : (D → Option (List ℕ)) → RecordWriter D → RecordWriter D → Type 0
-  Passes contents old new = (done : List ℕ) → HasPassed old done → (more : List ℕ) × HasPassed new (done ++ more) × Appends (contents old.file) (contents new.file) more
+-- a write of whole blocks to a file of so many octets failed: these of them are left in it, if it was cut
+pub record FailsBehind (contents contents_then : Option (List ℕ)) (len : ℕ) (octets : List ℕ) (failed : FailedWrite) : Type 0 where
+  pub count : ℕ
+  pub kept : AreWhole (take count octets) failed.kept
+  pub cut : failed.is_cut ≡ true → (held : List ℕ) → contents ≡ Some held → len ≡ length held
+      → contents_then ≡ Some (held ++ take failed.kept.len octets)
+
+-- the ring was found empty, or what is held leaves no room
+abbrev pub SeesNone : RecordWriter → RecordWriter → Type 0
+SeesNone old new = (known_items new.ring ≡ []) ⊎ (length old.octets.items ≤ old.held)

@@ -11,7 +11,8 @@
 //!    two sending sockets.
 //! 4. A `RecordChannel` has two ends of a ring. The thread of the run passes each datagram to its
 //!    `RecordObserver`, which pushes whole blocks and never waits. `write_record`, in another thread,
-//!    writes them to the file. If the file is too slow and the ring is full, the record ends there.
+//!    writes them to the file. If the file is too slow and the ring is full, or a write fails, the
+//!    record ends there, with a whole block. `RecordResult::state` tells other threads how it stands.
 #![tactic(auto)]
 
 mod clock;
@@ -26,7 +27,7 @@ pub use clock::{RunPeriod, SystemClock};
 pub use options::LiveOptions;
 pub use record::observer::{DatagramOrigin, RecordObserver};
 pub use record::writer::{FileResult, RecordWriter, write_record};
-pub use record::{RecordChannel, RecordResult};
+pub use record::{RecordChannel, RecordResult, RecordState};
 pub use sockets::addresses::{PathAddress, addresses_of};
 pub use sockets::backoff::FaultBackoff;
 pub use sockets::feed::{FeedFlags, UdpFeed, udp_feeds};

@@ -1,12 +1,14 @@
 //! The record of a run, with its two ends, and its result. `observer` is the end in the run's thread, and `writer` that
 //! in a thread of its own. `block_producer` puts the observer's blocks into the ring between them.
+ghost use Rattle.std.specs.Prelude.{[], Some, IfOk};
+ghost use Rattle.live_io.specs.RecordWriter.{HasWritten};
 
 use crate::record::observer::RecordObserver;
 use crate::record::writer::RecordWriter;
+use pcap_file::RecordEnd;
 use rtrb::RingBuffer;
 use std::alloc::{AllocError, Global};
-use std::io::Write;
-use std::sync::atomic::{AtomicBool, AtomicU64, Ordering};
+use std::sync::atomic::{AtomicBool, AtomicU32, AtomicU64, Ordering};
 use studio_config::StudioSpec;
 
 pub(crate) mod block_producer;
@@ -19,38 +21,58 @@ const RING_OCTETS: usize = 8 << 20;
 
 /// The two ends of a record, over one ring.
 #[derive(Drop)]
-pub struct RecordChannel<D> {
+pub struct RecordChannel<'a> {
     /// The end that makes blocks of the datagrams of a run.
-    pub observer: RecordObserver,
+    pub observer: RecordObserver<'a>,
     /// The end that writes these blocks to the file.
-    pub writer: RecordWriter<D>,
+    pub writer: RecordWriter<'a>,
 }
 
-impl<D: Write + Drop> RecordChannel<D> {
+impl<'a> RecordChannel<'a> {
     /// Returns the two ends of the record of a run of this studio, whose section header and interfaces are in the ring.
-    /// Returns `AllocError` if an allocation fails.
+    /// Both set their part of `recorded`. Returns `AllocError` if an allocation fails.
     pub fn new(
         alloc: Global,
         studio: &StudioSpec,
-        file: D,
-    ) -> Result<RecordChannel<D>, AllocError> {
+        recorded: &'a RecordResult,
+    ) -> Result<RecordChannel<'a>, AllocError>
+        ensures empty { IfOk result (λ channel. HasWritten (Some []) channel.writer) }
+    {
         let (producer, consumer) = RingBuffer::new(alloc, RING_OCTETS)?;
-        let writer = RecordWriter::new(alloc, consumer, file)?;
+        let writer = RecordWriter::new(alloc, consumer, recorded)?;
         Ok(RecordChannel {
-            observer: RecordObserver::new(producer, studio),
+            observer: RecordObserver::new(producer, studio, recorded),
             writer,
         })
     }
 }
 
-/// The numbers of datagrams that a run took and that its record has. All are known once the run is over.
-// Atomics, since the run sets them through a shared reference.
+/// The state of a record while its run goes on.
+#[derive(Clone, Copy, Debug, PartialEq, Eq)]
+pub enum RecordState {
+    /// The run has no record.
+    None,
+    /// The record goes on. The file holds so many datagrams.
+    Writing(u64),
+    /// The record ended before its run, for this reason. The file holds so many datagrams.
+    Ended(u64, RecordEnd),
+}
+
+/// The numbers of datagrams that a run took and that its record has, and the record's end if it ended before its run.
+/// Other threads may read them while the run goes on.
+// Atomics, since the threads of the run set them through a shared reference.
 #[derive(Drop)]
 pub struct RecordResult {
     received: AtomicU64,
     written: AtomicU64,
-    failed: AtomicBool,
+    /// True once the file of the record was created.
+    begun: AtomicBool,
+    /// The reason for which the record ended before its run: its place in `END_REASONS` plus 1, or 0 if it did not.
+    ended: AtomicU32,
 }
+
+/// The reasons for which a record ends, in the order of their numbers.
+const END_REASONS: [RecordEnd; 3] = [RecordEnd::Write, RecordEnd::Slow, RecordEnd::Unfit];
 
 impl RecordResult {
     /// Returns a result in which nothing is set yet.
@@ -58,8 +80,14 @@ impl RecordResult {
         RecordResult {
             received: AtomicU64::new(0),
             written: AtomicU64::new(0),
-            failed: AtomicBool::new(false),
+            begun: AtomicBool::new(false),
+            ended: AtomicU32::new(0),
         }
+    }
+
+    /// Sets the record to be going on.
+    pub fn begin(&self) {
+        self.begun.store(true, Ordering::SeqCst);
     }
 
     /// Sets the number of datagrams that were taken.
@@ -67,10 +95,21 @@ impl RecordResult {
         self.received.store(count, Ordering::SeqCst);
     }
 
-    /// Sets the number of datagrams that were written, and `failed` to true if a write failed after them.
-    pub fn set_written(&self, count: u64, failed: bool) {
+    /// Sets the number of datagrams that were written.
+    pub fn set_written(&self, count: u64) {
         self.written.store(count, Ordering::SeqCst);
-        self.failed.store(failed, Ordering::SeqCst);
+    }
+
+    /// Sets the reason for which the record ends before its run. The first one stays.
+    pub fn set_end(&self, end: RecordEnd) {
+        let number = match end {
+            RecordEnd::Write => 1,
+            RecordEnd::Slow => 2,
+            RecordEnd::Unfit => 3,
+        };
+        let _ = self
+            .ended
+            .compare_exchange(0, number, Ordering::SeqCst, Ordering::SeqCst);
     }
 
     /// Returns the number of datagrams that were taken.
@@ -83,8 +122,18 @@ impl RecordResult {
         self.written.load(Ordering::SeqCst)
     }
 
-    /// Returns true if a write failed.
-    pub fn has_failed(&self) -> bool {
-        self.failed.load(Ordering::SeqCst)
+    /// Returns the reason for which the record ended before its run, if it did.
+    pub fn end(&self) -> Option<RecordEnd> {
+        let place = self.ended.load(Ordering::SeqCst).checked_sub(1)?;
+        END_REASONS.get(place as usize).copied()
+    }
+
+    /// Returns the state of the record.
+    pub fn state(&self) -> RecordState {
+        match self.end() {
+            Some(end) => RecordState::Ended(self.written(), end),
+            None if self.begun.load(Ordering::SeqCst) => RecordState::Writing(self.written()),
+            None => RecordState::None,
+        }
     }
 }

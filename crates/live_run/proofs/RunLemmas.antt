@@ -5,12 +5,14 @@ use Rattle.studio_config.specs.Studio.{Studio}
 use Rattle.live_run.specs.RunText.{BreaksOffRun, FailsRun}
 use Rattle.live_run.specs.RunResult.{IsEarly}
 use Rattle.live_run.specs.declared.fault.LiveFault.{LiveFault}
-use Rattle.live_run.specs.declared.fault.LiveFault.TheVariants.{Memory, Socket, Page, Thread, Unsettled, Write}
+use Rattle.live_run.specs.declared.fault.LiveFault.TheVariants.{Memory, Socket, Page, Thread, RecordExists, Record, Unsettled, Write}
 
 early_writes_nothing : (one : Bool) (studio : Studio) (written : Option (List ℕ)) (fault : LiveFault) → IsEarly fault → FailsRun one studio written written fault
 early_writes_nothing one studio written Memory early = refl
 early_writes_nothing one studio written Socket early = refl
 early_writes_nothing one studio written Page early = refl
+early_writes_nothing one studio written RecordExists early = refl
+early_writes_nothing one studio written Record early = refl
 early_writes_nothing one studio written Thread early = refl
 early_writes_nothing one studio written Unsettled early = absurd early
 early_writes_nothing one studio written Write early = absurd early

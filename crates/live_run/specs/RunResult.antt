@@ -7,7 +7,7 @@ use Rattle.studio_rings.specs.Runs.{IsSettledRun}
 use Rattle.engine_run.specs.Runs.{IsSettledRun as IsSettledAlone}
 use Rattle.studio_io.specs.declared.report.WorkReport.{WorkReport}
 use Rattle.live_run.specs.declared.fault.LiveFault.{LiveFault}
-use Rattle.live_run.specs.declared.fault.LiveFault.TheVariants.{Memory, Socket, Page, Thread, Unsettled, Write}
+use Rattle.live_run.specs.declared.fault.LiveFault.TheVariants.{Memory, Socket, Page, Thread, RecordExists, Record, Unsettled, Write}
 
 -- there is a feed for each path, which gives these answers
 abbrev pub HasFeeds : Studio → List (List (List Answer)) → Type 0
@@ -29,5 +29,7 @@ IsEarly Memory = Unit {0}
 IsEarly Socket = Unit {0}
 IsEarly Page = Unit {0}
 IsEarly Thread = Unit {0}
+IsEarly RecordExists = Unit {0}
+IsEarly Record = Unit {0}
 IsEarly Unsettled = ⊥
 IsEarly Write = ⊥

@@ -4,6 +4,7 @@ ghost use Rattle.live_run.specs.RunResult.{IsEarly};
 ghost use Rattle.live_run.specs.declared.fault.LiveFault.TheVariants.{Write};
 
 use live_status::PageFault;
+use pcap_file::RecordFault;
 use std::alloc::{AllocError, AllocFailed};
 use std::io;
 use std::io::ErrorKind;
@@ -27,6 +28,12 @@ pub enum LiveFault {
     /// A thread could not be started: a worker, the supervisor, the page's or the record's.
     #[error("device: thread")]
     Thread,
+    /// There is a file at the record's path, or something else. It was not touched.
+    #[error("device: record exists")]
+    RecordExists,
+    /// The record's file could not be created.
+    #[error("device: record")]
+    Record,
     /// The report was written, but it is not settled: something was left over.
     #[error("live: not settled")]
     Unsettled,
@@ -69,6 +76,17 @@ impl From<PageFault> for LiveFault {
         match fault {
             PageFault::Memory => LiveFault::Memory,
             PageFault::Page => LiveFault::Page,
+        }
+    }
+}
+
+impl From<RecordFault> for LiveFault {
+    ghost from_gives = { λ _ to. IsEarly to };
+
+    fn from(fault: RecordFault) -> LiveFault {
+        match fault {
+            RecordFault::Exists => LiveFault::RecordExists,
+            RecordFault::NotCreated => LiveFault::Record,
         }
     }
 }

@@ -7,14 +7,14 @@ use crate::context::RunContext;
 use crate::fault::LiveFault;
 use crate::inputs::LiveInputs;
 use crate::scoped_thread::with_scoped_thread;
-use crate::shown_health::ShownHealth;
-use crate::single_thread::{RecordOutput, run_in_one_thread};
+use crate::single_thread::{OpenRecord, RecordOutput, run_in_one_thread};
 use crate::status::{OpenStatus, open_status};
 use crate::supervisor::stop_flags::StopFlags;
 use crate::workers::run_in_workers;
 use live_io::{LiveOptions, RecordChannel, RecordResult, RunPeriod, Sockets, open_sockets};
 use live_status::{Meter, PageThread, StatusInputs};
-use std::alloc::{AllocError, Global};
+use pcap_file::{CreateRecord, RecordFile};
+use std::alloc::Global;
 use std::io::Write;
 use std::net::Net;
 use std::random::RandomSource;
@@ -44,7 +44,7 @@ struct SharedState {
 pub(crate) fn launch_run<
     R: Threads + Wait + Sync + Net + Clock + RandomSource,
     E: Write + Send + Drop,
-    D: Write + Send + Drop,
+    P: CreateRecord,
 >(
     rt: &R,
     alloc: Global,
@@ -52,7 +52,7 @@ pub(crate) fn launch_run<
     inputs: LiveInputs<'_>,
     options: &LiveOptions,
     faults: E,
-    file: Option<D>,
+    record: Option<&P>,
 ) -> Result<WorkReport, LiveFault>
     ensures run { IfOk result (IsRunOf options.now.one_thread studio.now) }
     ensures early { IfErr result IsEarly }
@@ -62,15 +62,15 @@ pub(crate) fn launch_run<
         flags: StopFlags::new(),
         meter: Meter::new(studio.output().enc(), studio.output().channels()),
     };
-    bind_and_run(rt, alloc, studio, inputs, options, &state, faults, file)
+    bind_and_run(rt, alloc, studio, inputs, options, &state, faults, record)
 }
 
-/// Opens the record, the sockets and the outputs of the status of a run, and runs it.
+/// Opens the sockets and the outputs of the status of a run, creates its record, and runs it.
 fn bind_and_run<
     'a,
     R: Threads + Wait + Sync + Net + Clock + RandomSource,
     E: Write + Send + Drop,
-    D: Write + Send + Drop,
+    P: CreateRecord,
 >(
     rt: &'a R,
     alloc: Global,
@@ -79,12 +79,13 @@ fn bind_and_run<
     options: &LiveOptions,
     state: &'a SharedState,
     faults: E,
-    file: Option<D>,
+    record: Option<&P>,
 ) -> Result<WorkReport, LiveFault>
     ensures run { IfOk result (IsRunOf options.now.one_thread studio.now) }
     ensures early { IfErr result IsEarly }
 {
-    let recording = recording_of(alloc, studio, inputs.recorded, file)?;
+    // Before the first socket, which would else get the descriptor of a standard stream that is closed.
+    open_missing_fds();
     let sockets = open_sockets(rt, alloc, studio, inputs.sockets)?;
     let shown = StatusInputs {
         names: inputs.names,
@@ -92,6 +93,8 @@ fn bind_and_run<
     };
     let status = open_status(rt, alloc, studio, &sockets, options, shown, faults)?;
     let OpenStatus { serving, showing } = status;
+    // Last, so that a start that fails, as one whose sockets are taken, leaves no file behind and touches none.
+    let recording = recording_of(alloc, studio, inputs.recorded, record)?;
     let parts = PreparedRun {
         one_thread: options.one_thread,
         sockets,
@@ -116,18 +119,29 @@ fn bind_and_run<
     }
 }
 
-/// Returns the record of a run, if there is a file for it, with the place for its result.
-fn recording_of<'a, D: Write + Drop>(
+/// Creates the record of a run, if one is wanted, with the place for its result. Takes its memory before it creates the
+/// file.
+fn recording_of<'a, P: CreateRecord>(
     alloc: Global,
     studio: &StudioSpec,
     recorded: &'a RecordResult,
-    file: Option<D>,
-) -> Result<RecordOutput<'a, D>, AllocError> {
-    let record = match file {
-        Some(file) => Some(RecordChannel::new(alloc, studio, file)?),
-        None => None,
+    record: Option<&P>,
+) -> Result<RecordOutput<'a, P::File>, LiveFault>
+    ensures early { IfErr result IsEarly }
+{
+    let Some(record) = record else {
+        return Ok(RecordOutput {
+            record: None,
+            recorded,
+        });
     };
-    Ok(RecordOutput { record, recorded })
+    let channel = RecordChannel::new(alloc, studio, recorded)?;
+    let file = record.create()?;
+    recorded.begin();
+    Ok(RecordOutput {
+        record: Some(OpenRecord { channel, file }),
+        recorded,
+    })
 }
 
 /// Runs a studio, with the page's server in another thread, which ends with the run.
@@ -135,7 +149,7 @@ fn run_with_page<
     'a,
     R: Threads + Wait + Sync + Clock,
     E: Write + Send + Drop,
-    D: Write + Send + Drop,
+    D: RecordFile + Send + Drop,
 >(
     rt: &'a R,
     alloc: Global,
@@ -164,7 +178,7 @@ fn run_prepared<
     'a,
     R: Threads + Wait + Sync + Clock,
     E: Write + Send + Drop,
-    D: Write + Send + Drop,
+    D: RecordFile + Send + Drop,
 >(
     rt: &'a R,
     alloc: Global,

@@ -7,6 +7,7 @@ use crate::inputs::LiveInputs;
 use crate::launch::launch_run;
 use crate::report::write_report;
 use live_io::LiveOptions;
+use pcap_file::CreateRecord;
 use std::alloc::Global;
 use std::io::Write;
 use std::net::Net;
@@ -28,8 +29,9 @@ use studio_run::TextBuffer;
 /// of the streams are wanted, they are written to `faults`, which has to be standard error: a line that would block
 /// there is dropped.
 ///
-/// A run in one thread writes a record of the datagrams that it took to the file `record`, if there is one, and sets
-/// the record's result. If the file is too slow, the record ends.
+/// A run in one thread writes a record of the datagrams that it took to the file that `record` creates, if there is
+/// one, and sets the record's result. The file is created once all sockets are bound. If it is too slow or a write to
+/// it fails, the record ends with a whole block, and the run goes on.
 ///
 /// Returns `LiveFault::Unsettled` if the run was not settled; its report is written all the same. Every other error but
 /// `LiveFault::Write` comes before anything is written to `output`.
@@ -37,7 +39,7 @@ pub fn run_studio_live<
     R: Threads + Wait + Sync + Net + Clock + RandomSource,
     W: Write,
     E: Write + Send + Drop,
-    D: Write + Send + Drop,
+    P: CreateRecord,
 >(
     rt: &R,
     alloc: Global,
@@ -46,7 +48,7 @@ pub fn run_studio_live<
     options: &LiveOptions,
     output: &mut W,
     faults: E,
-    record: Option<D>,
+    record: Option<&P>,
 ) -> Result<(), LiveFault>
     ensures ok { OnOk result
         (WritesRun options.now.one_thread studio.now true (W.contents output.old) (W.contents output.new)) }

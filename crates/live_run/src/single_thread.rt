@@ -17,6 +17,7 @@ use live_io::{
     FeedFlags, Receiver, RecordChannel, RecordObserver, RecordResult, RecordWriter, Sockets,
     write_record,
 };
+use pcap_file::RecordFile;
 use std::alloc::Global;
 use std::io::Write;
 use std::sync::Wait;
@@ -29,11 +30,18 @@ mod engine_io;
 mod observer;
 mod socket_wait;
 
+/// A record whose file was created: the two ends of the record, and the file.
+#[derive(Drop)]
+pub(crate) struct OpenRecord<'a, D> {
+    pub(crate) channel: RecordChannel<'a>,
+    pub(crate) file: D,
+}
+
 /// The record of a run, if there is one, and the place for its result.
 #[derive(Drop)]
 pub(crate) struct RecordOutput<'a, D> {
-    /// The two ends of the record, if there is one.
-    pub(crate) record: Option<RecordChannel<D>>,
+    /// The record, if there is one.
+    pub(crate) record: Option<OpenRecord<'a, D>>,
     /// The result, which the run sets.
     pub(crate) recorded: &'a RecordResult,
 }
@@ -44,7 +52,7 @@ pub(crate) fn run_in_one_thread<
     'a,
     R: Threads + Wait + Sync + Clock,
     E: Write + Send + Drop,
-    D: Write + Send + Drop,
+    D: RecordFile + Send + Drop,
 >(
     rt: &'a R,
     alloc: Global,
@@ -90,7 +98,7 @@ pub(crate) fn run_in_one_thread<
         recorded,
     };
     match writer {
-        Some(writer) => run_recorded(rt, alloc, studio, run, writer),
+        Some((writer, file)) => run_recorded(rt, alloc, studio, run, writer, file),
         None => run.run(rt, alloc, studio),
     }
 }
@@ -102,12 +110,15 @@ fn keep_sources(receivers: &mut [Receiver<'_>]) {
     }
 }
 
-/// Returns the two ends of a record, if there is one.
-fn ends_of<D: Drop>(
-    record: Option<RecordChannel<D>>,
-) -> (Option<RecordObserver>, Option<RecordWriter<D>>) {
+/// Returns the end of a record in the run's thread, and the writer of its file with that file, if there is a record.
+fn ends_of<'a, D: Drop>(
+    record: Option<OpenRecord<'a, D>>,
+) -> (Option<RecordObserver<'a>>, Option<(RecordWriter<'a>, D)>) {
     match record {
-        Some(RecordChannel { observer, writer }) => (Some(observer), Some(writer)),
+        Some(OpenRecord { channel, file }) => {
+            let RecordChannel { observer, writer } = channel;
+            (Some(observer), Some((writer, file)))
+        }
         None => (None, None),
     }
 }
@@ -163,24 +174,28 @@ fn run_recorded<
     'a,
     R: Threads + Wait + Sync + Clock,
     E: Write + Send + Drop,
-    D: Write + Send + Drop,
+    D: RecordFile + Send + Drop,
 >(
     rt: &'a R,
     alloc: Global,
     studio: &StudioSpec,
     run: SupervisedRun<'a, R, E>,
-    writer: RecordWriter<D>,
+    writer: RecordWriter<'a>,
+    file: D,
 ) -> Result<WorkReport, LiveFault>
     requires feeds { map (λ own. length own.items) run.io.feeds.items
         ≡ map (λ stream. stream.paths) studio.now.streams }
     ensures run { IfOk result (IsRunOf true studio.now) }
     ensures early { IfErr result IsEarly }
 {
-    let recorded = run.recorded;
     // The writer ends once the observer's end of the ring was dropped, as it is at the end of the run.
-    let (written, ran) = with_scoped_thread(
+    // The writer itself sets the record's result.
+    let (_written, ran) = with_scoped_thread(
         rt,
-        move || write_record(rt, writer),
+        move || {
+            let (mut writer, mut file) = (writer, file);
+            write_record(rt, &mut writer, &mut file)
+        },
         move || -> Result<WorkReport, LiveFault>
             requires sync { IsSync R.row }
             requires feeds { map (λ own. length own.items) run.io.feeds.items
@@ -189,6 +204,5 @@ fn run_recorded<
             ensures early { IfErr result IsEarly }
         { run.run(rt, alloc, studio) },
     )?;
-    recorded.set_written(written.datagrams, written.failed);
     ran
 }

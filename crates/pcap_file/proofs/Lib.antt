@@ -21,3 +21,4 @@ mod ClosingLemmas
 mod FrameLemmas
 mod DatagramLemmas
 mod WrittenRecordLemmas
+mod WholeBlocksLemmas

@@ -15,7 +15,7 @@ use Rattle.pcap_file.specs.Capture.{Item, packets_of, packets_past, with_packet}
 use Rattle.pcap_file.specs.Entries.{Entry, entries_at, entries_in, entries_of, entries_past}
 use Rattle.pcap_file.specs.BlockParser.{IsEnough, is_cut_as, is_cut_in, items_at}
 use Rattle.pcap_file.specs.ReadBuffer.{Reads}
-use Rattle.pcap_file.specs.Reader.{HasEntries, HasOpened, HasReturned, IsFaultBehind, IsFilled, packets_among}
+use Rattle.pcap_file.specs.Reader.{HasEntries, HasOpened, HasReturned, IsCutBehind, IsFaultBehind, IsFilled, IsNext, packets_among}
 use Rattle.pcap_file.proofs.ReaderEntryLemmas.{among_more}
 
 -- a fact about a value that is there
@@ -209,3 +209,22 @@ ok_each (Err e) P Q R S f p q r = tt
 pub err_both : {X E : Type 0} (r : Result X E) (P : E → Type 0) (Q : Type 0) (R : E → Type 0) → ((e : E) → P e → Q → R e) → IfErr r P → OnErr r Q → IfErr r R
 err_both (Ok x) P Q R f p q = tt
 err_both (Err e) P Q R f p q = f e p q
+
+-- the file ends within what comes next
+pub told_cut : (file : List ℕ) (entries : List Entry) (left : Option (List ℕ)) (parts : BlockParser) (held : List ℕ) (ended : Bool) (front : List ℕ)
+    → front ≡ take 983040 held → IsNext parts held ended → is_cut_in parts front ≡ true → HasReturned file entries left parts held ended → IsCutBehind file entries
+told_cut file entries left parts held ended front is next cut told =
+    let short : (ended ≡ true) × (length held < 983040) = elim next.filled [
+      | inl whole ↦ absurd (let f : false ≡ true = sym whole ∙ ap (is_cut_in parts) (sym is) ∙ cut in cc)
+      | inr few ↦ few
+    ] in
+    let all : front ≡ held = is ∙ take_all 983040 held (omega (arith, short.1)) in
+    let none : held ++ told.rest ≡ held = ap (λ l. held ++ l) (told.end short.0) ∙ append-nil held in
+    record {
+      parts = parts;
+      left = held;
+      some = next.some;
+      cut = ap (is_cut_in parts) (sym all) ∙ cut;
+      packets = told.packets ∙ ap (λ l. map Ok (packets_among entries) ++ items_at parts l) none;
+      all = told.all ∙ ap (λ l. entries ++ entries_at parts l) none;
+    }

@@ -12,7 +12,7 @@ use Rattle.pcap_file.specs.Capture.{Item, is_pcapng, packets_from, packets_of, p
 use Rattle.pcap_file.specs.Entries.{Mark, Packet, entries_from, entries_of, entries_past}
 use Rattle.pcap_file.specs.RecordedDatagram.{ArrivalView}
 use Rattle.pcap_file.specs.Blocks.{block_octets, closing_block, datagram_block, interface_block, section_block, section_body}
-use Rattle.pcap_file.specs.WrittenRecord.{IsArrival, IsName, Name, closed_record, datagram_blocks, interface_blocks, items_of, open_record, packet_entries, packet_of}
+use Rattle.pcap_file.specs.WrittenRecord.{IsArrival, IsPath, PathView, closed_record, datagram_blocks, interface_blocks, items_of, open_record, packet_entries, packet_of}
 use Rattle.pcap_file.proofs.ClosingLemmas.{tells_closing}
 use Rattle.pcap_file.proofs.DatagramLemmas.{tells_datagram}
 use Rattle.pcap_file.proofs.WriteInterfaceLemmas.{raw, tells_interface}
@@ -48,33 +48,33 @@ of_others : {X : Type 0} (P : X → Type 0) (x : X) (xs : List X) → All P (x �
 of_others P x xs every = λ k d h. every (suc k) d (omega (arith, h))
 
 -- the entries behind the interfaces
-interfaces_packets : (names : List Name) (n : ℕ) (place : ℕ) (rest : List ℕ) (items : List Item) → All IsName names → n + length names ≤ 64
-    → ((place : ℕ) → packets_from (at (raws (n + length names))) place rest ≡ items)
-    → packets_from (at (raws n)) place (interface_blocks names ++ rest) ≡ items
-interfaces_packets [] n place rest items names few then = ap (λ k. packets_from (at (raws k)) place rest) (omega arith) ∙ then place
-interfaces_packets (name ∷ names) n place rest items every few then =
-    let is : IsName name = of_first IsName name names every in
-    let all : All IsName names = of_others IsName name names every in
-    let block : List ℕ = interface_block name.0 name.1 in
+interfaces_packets : (paths : List PathView) (n : ℕ) (place : ℕ) (rest : List ℕ) (items : List Item) → All IsPath paths → n + length paths ≤ 64
+    → ((place : ℕ) → packets_from (at (raws (n + length paths))) place rest ≡ items)
+    → packets_from (at (raws n)) place (interface_blocks paths ++ rest) ≡ items
+interfaces_packets [] n place rest items paths few then = ap (λ k. packets_from (at (raws k)) place rest) (omega arith) ∙ then place
+interfaces_packets (path ∷ paths) n place rest items every few then =
+    let is : IsPath path = of_first IsPath path paths every in
+    let all : All IsPath paths = of_others IsPath path paths every in
+    let block : List ℕ = interface_block path.stream path.letter path.description in
     let size = count_raws n in
-    ap (packets_from (at (raws n)) place) (append_assoc block (interface_blocks names) rest)
-    ∙ told_packet Little (raws n) (raws n ++ raw ∷ []) block (interface_blocks names ++ rest) None None place (tells_interface (raws n) name.0 name.1 is (omega (arith, size, few)))
-    ∙ ap (λ l. packets_from (at l) (place + length block) (interface_blocks names ++ rest)) (more_raws n)
-    ∙ interfaces_packets names (suc n) (place + length block) rest items all (omega (arith, few))
+    ap (packets_from (at (raws n)) place) (append_assoc block (interface_blocks paths) rest)
+    ∙ told_packet Little (raws n) (raws n ++ raw ∷ []) block (interface_blocks paths ++ rest) None None place (tells_interface (raws n) path is (omega (arith, size, few)))
+    ∙ ap (λ l. packets_from (at l) (place + length block) (interface_blocks paths ++ rest)) (more_raws n)
+    ∙ interfaces_packets paths (suc n) (place + length block) rest items all (omega (arith, few))
     (λ p. ap (λ k. packets_from (at (raws k)) p rest) (omega arith) ∙ then p)
 
-interfaces_entries : (names : List Name) (n : ℕ) (rest : List ℕ) → All IsName names → n + length names ≤ 64
-    → entries_from (at (raws n)) (interface_blocks names ++ rest) ≡ entries_from (at (raws (n + length names))) rest
-interfaces_entries [] n rest names few = ap (λ k. entries_from (at (raws k)) rest) (omega arith)
-interfaces_entries (name ∷ names) n rest every few =
-    let is : IsName name = of_first IsName name names every in
-    let all : All IsName names = of_others IsName name names every in
-    let block : List ℕ = interface_block name.0 name.1 in
+interfaces_entries : (paths : List PathView) (n : ℕ) (rest : List ℕ) → All IsPath paths → n + length paths ≤ 64
+    → entries_from (at (raws n)) (interface_blocks paths ++ rest) ≡ entries_from (at (raws (n + length paths))) rest
+interfaces_entries [] n rest paths few = ap (λ k. entries_from (at (raws k)) rest) (omega arith)
+interfaces_entries (path ∷ paths) n rest every few =
+    let is : IsPath path = of_first IsPath path paths every in
+    let all : All IsPath paths = of_others IsPath path paths every in
+    let block : List ℕ = interface_block path.stream path.letter path.description in
     let size = count_raws n in
-    ap (entries_from (at (raws n))) (append_assoc block (interface_blocks names) rest)
-    ∙ told_entries Little (raws n) (raws n ++ raw ∷ []) block (interface_blocks names ++ rest) None None (tells_interface (raws n) name.0 name.1 is (omega (arith, size, few)))
-    ∙ ap (λ l. entries_from (at l) (interface_blocks names ++ rest)) (more_raws n)
-    ∙ interfaces_entries names (suc n) rest all (omega (arith, few))
+    ap (entries_from (at (raws n))) (append_assoc block (interface_blocks paths) rest)
+    ∙ told_entries Little (raws n) (raws n ++ raw ∷ []) block (interface_blocks paths ++ rest) None None (tells_interface (raws n) path is (omega (arith, size, few)))
+    ∙ ap (λ l. entries_from (at l) (interface_blocks paths ++ rest)) (more_raws n)
+    ∙ interfaces_entries paths (suc n) rest all (omega (arith, few))
     ∙ ap (λ k. entries_from (at (raws k)) rest) (omega arith)
 
 -- and behind the datagrams
@@ -134,27 +134,27 @@ opened_entries n rest small = entries_ours n rest small ∙ told_entries Big [] 
 in_turn : (s i d rest : List ℕ) → s ++ i ++ d ++ rest ≡ s ++ (i ++ (d ++ rest))
 in_turn s i d rest = append_assoc (s ++ i) d rest ∙ append_assoc s i (d ++ rest)
 
-record_packets : (n : ℕ) (names : List Name) (arrivals : List ArrivalView) (rest : List ℕ) (items : List Item) → n < 2 ^ 63 → All IsName names → length names ≤ 64
-    → All (IsArrival (length names)) arrivals → ((place : ℕ) → packets_from (at (raws (length names))) place rest ≡ items)
-    → packets_of (open_record n names arrivals ++ rest) ≡ items_of arrivals ++ items
+record_packets : (n : ℕ) (paths : List PathView) (arrivals : List ArrivalView) (rest : List ℕ) (items : List Item) → n < 2 ^ 63 → All IsPath paths → length paths ≤ 64
+    → All (IsArrival (length paths)) arrivals → ((place : ℕ) → packets_from (at (raws (length paths))) place rest ≡ items)
+    → packets_of (open_record n paths arrivals ++ rest) ≡ items_of arrivals ++ items
 unfolding raws
-record_packets n names arrivals rest items small named few all then =
-    ap packets_of (in_turn (section_block n) (interface_blocks names) (datagram_blocks arrivals) rest)
-    ∙ opened_packets n (interface_blocks names ++ (datagram_blocks arrivals ++ rest)) (items_of arrivals ++ items) small
-    (λ place. interfaces_packets names 0 place (datagram_blocks arrivals ++ rest) (items_of arrivals ++ items) named (omega (arith, few))
-    (λ p. ap (λ k. packets_from (at (raws k)) p (datagram_blocks arrivals ++ rest)) (omega arith) ∙ datagrams_packets arrivals (length names) p rest items all few then))
+record_packets n paths arrivals rest items small named few all then =
+    ap packets_of (in_turn (section_block n) (interface_blocks paths) (datagram_blocks arrivals) rest)
+    ∙ opened_packets n (interface_blocks paths ++ (datagram_blocks arrivals ++ rest)) (items_of arrivals ++ items) small
+    (λ place. interfaces_packets paths 0 place (datagram_blocks arrivals ++ rest) (items_of arrivals ++ items) named (omega (arith, few))
+    (λ p. ap (λ k. packets_from (at (raws k)) p (datagram_blocks arrivals ++ rest)) (omega arith) ∙ datagrams_packets arrivals (length paths) p rest items all few then))
 
-record_entries : (n : ℕ) (names : List Name) (arrivals : List ArrivalView) (rest : List ℕ) → n < 2 ^ 63 → All IsName names → length names ≤ 64
-    → All (IsArrival (length names)) arrivals
-    → entries_of (open_record n names arrivals ++ rest) ≡ Mark (Opened n) ∷ (packet_entries arrivals ++ entries_from (at (raws (length names))) rest)
+record_entries : (n : ℕ) (paths : List PathView) (arrivals : List ArrivalView) (rest : List ℕ) → n < 2 ^ 63 → All IsPath paths → length paths ≤ 64
+    → All (IsArrival (length paths)) arrivals
+    → entries_of (open_record n paths arrivals ++ rest) ≡ Mark (Opened n) ∷ (packet_entries arrivals ++ entries_from (at (raws (length paths))) rest)
 unfolding raws
-record_entries n names arrivals rest small named few all =
-    ap entries_of (in_turn (section_block n) (interface_blocks names) (datagram_blocks arrivals) rest)
-    ∙ opened_entries n (interface_blocks names ++ (datagram_blocks arrivals ++ rest)) small
+record_entries n paths arrivals rest small named few all =
+    ap entries_of (in_turn (section_block n) (interface_blocks paths) (datagram_blocks arrivals) rest)
+    ∙ opened_entries n (interface_blocks paths ++ (datagram_blocks arrivals ++ rest)) small
     ∙ ap (λ l. Mark (Opened n) ∷ l)
-    (interfaces_entries names 0 (datagram_blocks arrivals ++ rest) named (omega (arith, few))
+    (interfaces_entries paths 0 (datagram_blocks arrivals ++ rest) named (omega (arith, few))
     ∙ ap (λ k. entries_from (at (raws k)) (datagram_blocks arrivals ++ rest)) (omega arith)
-    ∙ datagrams_entries arrivals (length names) rest all few)
+    ∙ datagrams_entries arrivals (length paths) rest all few)
 
 nothing_left : (interfaces : List Interface) (place : ℕ) → packets_from (at interfaces) place [] ≡ []
 unfolding packets_past
@@ -165,18 +165,18 @@ unfolding entries_past
 no_entry_left interfaces = refl
 
 -- one that isn't closed
-pub open_packets : (n : ℕ) (names : List Name) (arrivals : List ArrivalView) → n < 2 ^ 63 → All IsName names → length names ≤ 64 → All (IsArrival (length names)) arrivals
-    → packets_of (open_record n names arrivals) ≡ items_of arrivals
-open_packets n names arrivals small named few all =
-    ap packets_of (sym (append-nil (open_record n names arrivals)))
-    ∙ record_packets n names arrivals [] [] small named few all (λ place. nothing_left (raws (length names)) place) ∙ append-nil (items_of arrivals)
+pub open_packets : (n : ℕ) (paths : List PathView) (arrivals : List ArrivalView) → n < 2 ^ 63 → All IsPath paths → length paths ≤ 64 → All (IsArrival (length paths)) arrivals
+    → packets_of (open_record n paths arrivals) ≡ items_of arrivals
+open_packets n paths arrivals small named few all =
+    ap packets_of (sym (append-nil (open_record n paths arrivals)))
+    ∙ record_packets n paths arrivals [] [] small named few all (λ place. nothing_left (raws (length paths)) place) ∙ append-nil (items_of arrivals)
 
-pub open_entries : (n : ℕ) (names : List Name) (arrivals : List ArrivalView) → n < 2 ^ 63 → All IsName names → length names ≤ 64 → All (IsArrival (length names)) arrivals
-    → entries_of (open_record n names arrivals) ≡ Mark (Opened n) ∷ packet_entries arrivals
-open_entries n names arrivals small named few all =
-    ap entries_of (sym (append-nil (open_record n names arrivals)))
-    ∙ record_entries n names arrivals [] small named few all
-    ∙ ap (λ l. Mark (Opened n) ∷ l) (ap (λ l. packet_entries arrivals ++ l) (no_entry_left (raws (length names))) ∙ append-nil (packet_entries arrivals))
+pub open_entries : (n : ℕ) (paths : List PathView) (arrivals : List ArrivalView) → n < 2 ^ 63 → All IsPath paths → length paths ≤ 64 → All (IsArrival (length paths)) arrivals
+    → entries_of (open_record n paths arrivals) ≡ Mark (Opened n) ∷ packet_entries arrivals
+open_entries n paths arrivals small named few all =
+    ap entries_of (sym (append-nil (open_record n paths arrivals)))
+    ∙ record_entries n paths arrivals [] small named few all
+    ∙ ap (λ l. Mark (Opened n) ∷ l) (ap (λ l. packet_entries arrivals ++ l) (no_entry_left (raws (length paths))) ∙ append-nil (packet_entries arrivals))
 
 -- and one that is
 closing_packets : (interfaces : List Interface) (time place : ℕ) → time < 2 ^ 64 → slice_get interfaces 0 ≡ Some raw → packets_from (at interfaces) place (closing_block time) ≡ []
@@ -191,15 +191,15 @@ closing_entries interfaces time fits first =
     ∙ told_entries Little interfaces interfaces (closing_block time) [] None (Some (Closed time)) (tells_closing interfaces time fits first)
     ∙ ap (λ l. Mark (Closed time) ∷ l) (no_entry_left interfaces)
 
-pub closed_packets : (n : ℕ) (names : List Name) (arrivals : List ArrivalView) (time : ℕ) → n < 2 ^ 63 → All IsName names → 1 ≤ length names → length names ≤ 64
-    → All (IsArrival (length names)) arrivals → time < 2 ^ 64 → packets_of (closed_record n names arrivals time) ≡ items_of arrivals
-closed_packets n names arrivals time small named some few all fits =
-    record_packets n names arrivals (closing_block time) [] small named few all
-    (λ place. closing_packets (raws (length names)) time place fits (raw_at (length names) 0 (omega (arith, some))))
+pub closed_packets : (n : ℕ) (paths : List PathView) (arrivals : List ArrivalView) (time : ℕ) → n < 2 ^ 63 → All IsPath paths → 1 ≤ length paths → length paths ≤ 64
+    → All (IsArrival (length paths)) arrivals → time < 2 ^ 64 → packets_of (closed_record n paths arrivals time) ≡ items_of arrivals
+closed_packets n paths arrivals time small named some few all fits =
+    record_packets n paths arrivals (closing_block time) [] small named few all
+    (λ place. closing_packets (raws (length paths)) time place fits (raw_at (length paths) 0 (omega (arith, some))))
     ∙ append-nil (items_of arrivals)
 
-pub closed_entries : (n : ℕ) (names : List Name) (arrivals : List ArrivalView) (time : ℕ) → n < 2 ^ 63 → All IsName names → 1 ≤ length names → length names ≤ 64
-    → All (IsArrival (length names)) arrivals → time < 2 ^ 64 → entries_of (closed_record n names arrivals time) ≡ Mark (Opened n) ∷ (packet_entries arrivals ++ Mark (Closed time) ∷ [])
-closed_entries n names arrivals time small named some few all fits =
-    record_entries n names arrivals (closing_block time) small named few all
-    ∙ ap (λ l. Mark (Opened n) ∷ (packet_entries arrivals ++ l)) (closing_entries (raws (length names)) time fits (raw_at (length names) 0 (omega (arith, some))))
+pub closed_entries : (n : ℕ) (paths : List PathView) (arrivals : List ArrivalView) (time : ℕ) → n < 2 ^ 63 → All IsPath paths → 1 ≤ length paths → length paths ≤ 64
+    → All (IsArrival (length paths)) arrivals → time < 2 ^ 64 → entries_of (closed_record n paths arrivals time) ≡ Mark (Opened n) ∷ (packet_entries arrivals ++ Mark (Closed time) ∷ [])
+closed_entries n paths arrivals time small named some few all fits =
+    record_entries n paths arrivals (closing_block time) small named few all
+    ∙ ap (λ l. Mark (Opened n) ∷ (packet_entries arrivals ++ l)) (closing_entries (raws (length paths)) time fits (raw_at (length paths) 0 (omega (arith, some))))

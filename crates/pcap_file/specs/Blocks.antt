@@ -34,14 +34,15 @@ section_block open_at = block_octets 0x0a0d0d0a (section_body open_at)
 abbrev pub interface_text : ℕ → ℕ → List ℕ
 interface_text stream letter = decimal stream ++ 32 ∷ letter ∷ []
 
--- what the description of an interface of IP packets holds: no limit, its name, and that its times are in nanoseconds
-unfoldable pub interface_body : ℕ → ℕ → List ℕ
-interface_body stream letter =
+-- what the description of an interface of IP packets holds: no limit, its name, that its times are in nanoseconds, and a
+-- description, which says what its stream's configuration is
+unfoldable pub interface_body : ℕ → ℕ → List ℕ → List ℕ
+interface_body stream letter description =
     little_bytes 2 101 ++ little_bytes 2 0 ++ little_bytes 4 0
-    ++ option_octets 2 (interface_text stream letter) ++ option_octets 9 (9 ∷ []) ++ options_end
+    ++ option_octets 2 (interface_text stream letter) ++ option_octets 9 (9 ∷ []) ++ option_octets 3 description ++ options_end
 
-unfoldable pub interface_block : ℕ → ℕ → List ℕ
-interface_block stream letter = block_octets 1 (interface_body stream letter)
+unfoldable pub interface_block : ℕ → ℕ → List ℕ → List ℕ
+interface_block stream letter description = block_octets 1 (interface_body stream letter description)
 
 -- a time as two words, the high one first
 abbrev pub time_octets : ℕ → List ℕ

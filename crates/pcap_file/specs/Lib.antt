@@ -5,6 +5,7 @@ pub mod Chain
 pub mod Options
 pub mod Interface
 pub mod Mark
+pub mod InterfaceTexts
 pub mod Packet
 pub mod CaptureBlock
 pub mod Pcap
@@ -18,5 +19,8 @@ pub mod Overwrites
 pub mod RecordedDatagram
 pub mod IpHeader
 pub mod Blocks
+pub mod RecordedStream
 pub mod Times
 pub mod WrittenRecord
+pub mod WholeBlocks
+pub mod RecordFile

@@ -32,6 +32,15 @@ pub record HasEntries (file : List ℕ) (entries : List Entry) : Type 0 where
   pub packets : packets_of file ≡ map Ok (packets_among entries)
   pub all : entries_of file ≡ entries
 
+-- behind these entries the file ends within a record or a block
+pub record IsCutBehind (file : List ℕ) (entries : List Entry) : Type 0 where
+  pub parts : BlockParser
+  pub left : List ℕ
+  pub some : 1 ≤ length left
+  pub cut : is_cut_in parts left ≡ true
+  pub packets : packets_of file ≡ map Ok (packets_among entries) ++ items_at parts left
+  pub all : entries_of file ≡ entries ++ entries_at parts left
+
 -- behind these entries the file has this fault
 pub record IsFaultBehind (file : List ℕ) (entries : List Entry) (fault : CaptureFault) : Type 0 where
   pub packets : packets_of file ≡ map Ok (packets_among entries) ++ Err fault ∷ []

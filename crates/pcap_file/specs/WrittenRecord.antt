@@ -7,18 +7,20 @@ use Rattle.pcap_file.specs.Entries.{Entry, Packet}
 use Rattle.pcap_file.specs.RecordedDatagram.{ArrivalView}
 use Rattle.pcap_file.specs.Blocks.{section_block, interface_block, datagram_block, closing_block}
 
--- a path's stream and letter
-abbrev pub Name : Type 0
-Name = ℕ × ℕ
+-- a path's stream and letter, and the description of its stream's configuration
+pub record PathView : Type 0 where
+  pub stream : ℕ
+  pub letter : ℕ
+  pub description : List ℕ
 
--- the stream's number fits 16 bits
-abbrev pub IsName : Name → Type 0
-IsName name = name.0 < 2 ^ 16
+-- the stream's number fits 16 bits, and the description 64 octets
+abbrev pub IsPath : PathView → Type 0
+IsPath path = (path.stream < 2 ^ 16) × (length path.description ≤ 64)
 
 -- the interfaces of paths, one behind the other
-abbrev pub interface_blocks : List Name → List ℕ
+abbrev pub interface_blocks : List PathView → List ℕ
 interface_blocks [] = []
-interface_blocks (name ∷ names) = interface_block name.0 name.1 ++ interface_blocks names
+interface_blocks (path ∷ paths) = interface_block path.stream path.letter path.description ++ interface_blocks paths
 
 -- the datagrams that came
 abbrev pub datagram_blocks : List ArrivalView → List ℕ
@@ -26,11 +28,11 @@ datagram_blocks [] = []
 datagram_blocks (arrival ∷ arrivals) = datagram_block arrival ++ datagram_blocks arrivals
 
 -- a record that isn't closed, and one that is
-abbrev pub open_record : ℕ → List Name → List ArrivalView → List ℕ
-open_record open_at names arrivals = section_block open_at ++ interface_blocks names ++ datagram_blocks arrivals
+abbrev pub open_record : ℕ → List PathView → List ArrivalView → List ℕ
+open_record open_at paths arrivals = section_block open_at ++ interface_blocks paths ++ datagram_blocks arrivals
 
-abbrev pub closed_record : ℕ → List Name → List ArrivalView → ℕ → List ℕ
-closed_record open_at names arrivals closed = open_record open_at names arrivals ++ closing_block closed
+abbrev pub closed_record : ℕ → List PathView → List ArrivalView → ℕ → List ℕ
+closed_record open_at paths arrivals closed = open_record open_at paths arrivals ++ closing_block closed
 
 -- a datagram that can be written: on a described interface, of two addresses, with numbers that fit their octets
 pub record IsArrival (count : ℕ) (a : ArrivalView) : Type 0 where

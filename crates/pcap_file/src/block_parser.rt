@@ -22,12 +22,14 @@ ghost use Rattle.std.specs.Prelude.{
 };
 ghost use Rattle.pcap_file.specs.Capture.{HasRead, packets_of, with_packet};
 ghost use Rattle.pcap_file.specs.Packet.{packet_view};
+ghost use Rattle.pcap_file.specs.InterfaceTexts.{texts_as, texts_view};
 ghost use Rattle.pcap_file.specs.Entries.{entries_at, entries_in, entries_of};
 ghost use Rattle.pcap_file.specs.BlockParser.{IsEnough, is_cut_in, items_at, state_at};
 
 use crate::capture::is_pcapng;
 use crate::cursor::Format;
 use crate::decode::Packet;
+use crate::decode::interface_texts::{InterfaceTexts, read_texts};
 use crate::decode::pcap::{FILE_HEADER, is_record_cut, read_header, read_record};
 use crate::decode::pcapng::{Section, is_block_cut};
 use crate::decode::record_mark::RecordMark;
@@ -96,6 +98,16 @@ impl BlockParser {
         match self.format {
             Format::Pcap(pcap) => is_record_cut(&pcap, front),
             Format::Pcapng => is_block_cut(self.section.order, front),
+        }
+    }
+
+    /// Returns the name and the description of an interface, if the whole block with these octets describes one.
+    pub fn interface_texts<'a>(&self, block: &'a [u8]) -> Option<InterfaceTexts<'a>>
+        ensures { option_map texts_view result ≡ texts_as self.now.format self.now.section.order block.now }
+    {
+        match self.format {
+            Format::Pcap(_) => None,
+            Format::Pcapng => read_texts(self.section.order, block),
         }
     }
 

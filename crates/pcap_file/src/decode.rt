@@ -9,6 +9,7 @@ use crate::decode::link::{LinkType, ip_octets};
 
 pub(crate) mod endian;
 pub(crate) mod interface;
+pub(crate) mod interface_texts;
 pub(crate) mod ipv4;
 mod link;
 pub(crate) mod options;

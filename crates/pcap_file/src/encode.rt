@@ -1,4 +1,5 @@
-//! The blocks of a record. The submodules hold a block's body, a recorded datagram, and its IPv4 and UDP headers.
+//! The blocks of a record. The submodules hold a block's body, a recorded datagram, its IPv4 and UDP headers, and the
+//! description of a stream.
 ghost use Rattle.std.specs.Prelude.{◌≡◌, ◌+◌, ◌*◌, ◌%◌, ◌≤◌, ◌++◌, length, drop};
 ghost use Rattle.pcap_file.specs.RecordedDatagram.{arrival_view};
 ghost use Rattle.pcap_file.specs.Blocks.{
@@ -18,6 +19,7 @@ use crate::encode::datagram::RecordedDatagram;
 pub(crate) mod body;
 pub(crate) mod datagram;
 pub(crate) mod ip_header;
+pub(crate) mod recorded_stream;
 
 /// The greatest length of a block, in octets.
 // 12 octets of the block itself, 20 of a packet's fields, 28 of the IPv4 and UDP headers, and 2,048 of a datagram.
@@ -36,17 +38,19 @@ pub fn write_section_header(open_at: u64, out: &mut [u8]) -> usize
 }
 
 /// Writes the description of a path's interface to the start of `out`, and returns its length in octets. The
-/// interface's name is the stream's number and the path's letter.
+/// interface's name is the stream's number and the path's letter. Its description, of at most 64 octets, says what the
+/// stream's configuration is.
 #[tactic(auto, unfolding(crate::specs::Blocks::interface_block, crate::specs::Blocks::padded))]
-pub fn write_interface(stream: u16, letter: u8, out: &mut [u8]) -> usize
-    requires { 2108 ≤ length out.old }
-    ensures written { out.new ≡ interface_block stream letter ++ drop result out.old }
-    ensures len { result ≡ length (interface_block stream letter) }
+pub fn write_interface(stream: u16, letter: u8, description: &[u8], out: &mut [u8]) -> usize
+    requires few { length description.now ≤ 64 }
+    requires room { 2108 ≤ length out.old }
+    ensures written { out.new ≡ interface_block stream letter description.now ++ drop result out.old }
+    ensures len { result ≡ length (interface_block stream letter description.now) }
     ensures short { result ≤ 2108 }
 {
     write_block(
         INTERFACE,
-        interface_body(stream, letter).as_slice(),
+        interface_body(stream, letter, description).as_slice(),
         &[],
         out,
     )

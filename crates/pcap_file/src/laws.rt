@@ -1,15 +1,18 @@
 //! Laws of writing and reading records. These functions compute nothing: their clauses are the laws.
-ghost use Rattle.std.specs.Prelude.{◌≡◌, ◌<◌, ◌≤◌, ◌^◌, ◌∷◌, ◌++◌, [], ℕ, List, length};
+ghost use Rattle.std.specs.Prelude.{◌≡◌, ◌<◌, ◌≤◌, ◌^◌, ◌∷◌, ◌++◌, [], ℕ, List, length, Some};
 ghost use Rattle.std.specs.List.{All};
+ghost use Rattle.pcap_file.specs.Blocks.{interface_block, interface_text};
 ghost use Rattle.pcap_file.specs.Capture.{packets_of};
+ghost use Rattle.pcap_file.specs.InterfaceTexts.{texts_in};
+ghost use Rattle.pcap_file.specs.declared.decode.endian.Endian.TheVariants.{Little};
 ghost use Rattle.pcap_file.specs.Entries.{Mark, entries_of};
 ghost use Rattle.pcap_file.specs.declared.decode.record_mark.RecordMark.TheVariants.{Closed, Opened};
 ghost use Rattle.pcap_file.specs.RecordedDatagram.{ArrivalView};
 ghost use Rattle.pcap_file.specs.IpHeader.{HasAddresses, carried, header_octets, words_sum};
 ghost use Rattle.pcap_file.specs.WrittenRecord.{
   IsArrival,
-  IsName,
-  Name,
+  IsPath,
+  PathView,
   closed_record,
   items_of,
   open_record,
@@ -28,24 +31,31 @@ pub fn checksums_are_right()
         → carried (carried (words_sum (header_octets a))) ≡ 65535 }
 {}
 
+/// The name of a path and the description of its stream's configuration are read back as they were written.
+pub fn paths_are_read_back()
+    ensures { (path : PathView) → IsPath path
+        → texts_in Little (interface_block path.stream path.letter path.description)
+        ≡ Some (record { name = interface_text path.stream path.letter; description = path.description }) }
+{}
+
 /// A record is read back as it was written: its opening, its datagrams, and its close if there is one. Its blocks, in
 /// this order, are the section header, up to 64 interfaces, the datagrams on these, and the statistics.
 pub fn records_are_read_back()
-    ensures open_packets { (open_at : ℕ) (names : List Name) (arrivals : List ArrivalView)
-        → open_at < 2 ^ 63 → All IsName names → length names ≤ 64
-        → All (IsArrival (length names)) arrivals
-        → packets_of (open_record open_at names arrivals) ≡ items_of arrivals }
-    ensures open_entries { (open_at : ℕ) (names : List Name) (arrivals : List ArrivalView)
-        → open_at < 2 ^ 63 → All IsName names → length names ≤ 64
-        → All (IsArrival (length names)) arrivals
-        → entries_of (open_record open_at names arrivals) ≡ Mark (Opened open_at) ∷ packet_entries arrivals }
-    ensures closed_packets { (open_at : ℕ) (names : List Name) (arrivals : List ArrivalView) (closed : ℕ)
-        → open_at < 2 ^ 63 → All IsName names → 1 ≤ length names → length names ≤ 64
-        → All (IsArrival (length names)) arrivals → closed < 2 ^ 64
-        → packets_of (closed_record open_at names arrivals closed) ≡ items_of arrivals }
-    ensures closed_entries { (open_at : ℕ) (names : List Name) (arrivals : List ArrivalView) (closed : ℕ)
-        → open_at < 2 ^ 63 → All IsName names → 1 ≤ length names → length names ≤ 64
-        → All (IsArrival (length names)) arrivals → closed < 2 ^ 64
-        → entries_of (closed_record open_at names arrivals closed)
+    ensures open_packets { (open_at : ℕ) (paths : List PathView) (arrivals : List ArrivalView)
+        → open_at < 2 ^ 63 → All IsPath paths → length paths ≤ 64
+        → All (IsArrival (length paths)) arrivals
+        → packets_of (open_record open_at paths arrivals) ≡ items_of arrivals }
+    ensures open_entries { (open_at : ℕ) (paths : List PathView) (arrivals : List ArrivalView)
+        → open_at < 2 ^ 63 → All IsPath paths → length paths ≤ 64
+        → All (IsArrival (length paths)) arrivals
+        → entries_of (open_record open_at paths arrivals) ≡ Mark (Opened open_at) ∷ packet_entries arrivals }
+    ensures closed_packets { (open_at : ℕ) (paths : List PathView) (arrivals : List ArrivalView) (closed : ℕ)
+        → open_at < 2 ^ 63 → All IsPath paths → 1 ≤ length paths → length paths ≤ 64
+        → All (IsArrival (length paths)) arrivals → closed < 2 ^ 64
+        → packets_of (closed_record open_at paths arrivals closed) ≡ items_of arrivals }
+    ensures closed_entries { (open_at : ℕ) (paths : List PathView) (arrivals : List ArrivalView) (closed : ℕ)
+        → open_at < 2 ^ 63 → All IsPath paths → 1 ≤ length paths → length paths ≤ 64
+        → All (IsArrival (length paths)) arrivals → closed < 2 ^ 64
+        → entries_of (closed_record open_at paths arrivals closed)
         ≡ Mark (Opened open_at) ∷ (packet_entries arrivals ++ Mark (Closed closed) ∷ []) }
 {}

@@ -10,11 +10,13 @@
 //!   reads until the next block is whole, `next_block` returns it, and `ReadBuffer::consume` passes
 //!   over it. The first fault ends the file.
 //! - **Writing a record**: `write_section_header` writes the time at which the studio was opened.
-//!   `write_interface` then describes a path, stream by stream and path by path. `write_packet`
+//!   `write_interface` then describes a path and its stream's configuration (`RecordedStream`), stream
+//!   by stream and path by path; `BlockParser::interface_texts` reads both back. `write_packet`
 //!   writes a datagram that arrived, as an IPv4 packet, and `write_statistics` the time of the close.
 //!   Each writes one block to the front of the caller's slice, which has `MAX_BLOCK_LEN` octets, and
 //!   returns its length. Times are in nanoseconds since the opening (`nanoseconds_after`).
-//!   `whole_blocks` finds how much of what was written so far ends with a whole block.
+//!   `whole_blocks` finds how much of what was written so far ends with a whole block. A `RecordFile` is
+//!   where the blocks go, and can be cut behind the last of them; `CreateRecord` creates one.
 //!
 //! Only `open_reader` allocates. What a file holds is defined as `packets_of` and, with the marks of
 //! a record, `entries_of`, by draft-ietf-opsawg-pcap, draft-ietf-opsawg-pcapng and tcpdump's registry
@@ -31,19 +33,25 @@ mod fault;
 mod laws;
 mod reader;
 mod record_blocks;
+mod record_file;
 
 pub use block_parser::{BlockParser, CaptureBlock};
 pub use capture::open;
 pub use cursor::Capture;
 pub use decode::Packet;
+pub use decode::interface_texts::InterfaceTexts;
 pub use decode::ipv4::{UdpBody, UdpDatagram, UdpPacket};
 pub use decode::record_mark::RecordMark;
 pub use encode::datagram::{MAX_DATAGRAM_LEN, RecordedDatagram, nanoseconds_after};
+pub use encode::recorded_stream::{Description, RecordedStream};
 pub use encode::{
     MAX_BLOCK_LEN, write_interface, write_packet, write_section_header, write_statistics,
 };
 pub use fault::{CaptureFault, CaptureFaultKind, ReaderFault};
-pub use laws::{checksums_are_right, instants_come_back, records_are_read_back};
+pub use laws::{
+    checksums_are_right, instants_come_back, paths_are_read_back, records_are_read_back,
+};
 pub use reader::buffer::ReadBuffer;
-pub use reader::{has_block, next_block, open_reader};
+pub use reader::{cut_fault, has_block, has_whole_block, interface_texts, next_block, open_reader};
 pub use record_blocks::{WholeBlocks, whole_blocks};
+pub use record_file::{CreateRecord, RecordEnd, RecordFault, RecordFile};

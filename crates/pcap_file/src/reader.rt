@@ -2,6 +2,7 @@
 //! holds its buffer.
 ghost use Rattle.std.specs.Prelude.{
   ◌≡◌,
+  ◌⊎◌,
   ℕ,
   ◌≤◌,
   ◌<◌,
@@ -18,13 +19,16 @@ ghost use Rattle.std.specs.Prelude.{
   IfErr,
   OnOk,
   IfSome,
+  Some,
 };
 ghost use Rattle.pcap_file.specs.Entries.{Entry};
 ghost use Rattle.pcap_file.specs.ReadBuffer.{octets_of, Reads};
+ghost use Rattle.pcap_file.specs.InterfaceTexts.{texts_as, texts_view};
 ghost use Rattle.pcap_file.specs.Reader.{
   HasEntries,
   HasOpened,
   HasReturned,
+  IsCutBehind,
   IsFaultBehind,
   IsFilled,
   IsLong,
@@ -35,8 +39,9 @@ ghost use Rattle.pcap_file.specs.Reader.{
 ghost use Rattle.pcap_file.specs.declared.fault.ReaderFault.TheVariants.{ReadFailed};
 
 use crate::block_parser::{BlockParser, CaptureBlock};
+use crate::decode::interface_texts::InterfaceTexts;
 use crate::decode::pcap::FILE_HEADER;
-use crate::fault::{CaptureFault, ReaderFault};
+use crate::fault::{CaptureFault, CaptureFaultKind, ReaderFault};
 use crate::reader::buffer::ReadBuffer;
 use std::alloc::Global;
 use std::io::Read;
@@ -116,6 +121,56 @@ pub fn has_block<R: Read>(
         return Err(ReaderFault::TooLong(parts.place()));
     }
     Ok(true)
+}
+
+/// Reads as `has_block` does, but returns false too if the file ends within the next record or block, which
+/// `cut_fault` then returns.
+pub fn has_whole_block<R: Read>(
+    parts: &BlockParser,
+    window: &mut ReadBuffer,
+    reader: &mut R,
+) -> Result<bool, ReaderFault>
+    ensures returned { OnOk result ((file : List ℕ) (entries : List Entry)
+        → HasReturned file entries (R.remaining reader.old) parts.now (octets_of window.old) window.old.ended
+        → HasReturned file entries (R.remaining reader.new) parts.now (octets_of window.new) window.new.ended) }
+    ensures next { IfOk result (λ some. some ≡ true → IsNext parts.now (octets_of window.new) window.new.ended) }
+    ensures end { IfOk result (λ some. some ≡ false → (file : List ℕ) (entries : List Entry)
+        → HasReturned file entries (R.remaining reader.old) parts.now (octets_of window.old) window.old.ended
+        → HasEntries file entries ⊎ IsCutBehind file entries) }
+    ensures fault { IfErr result (λ fault. IsLong fault) }
+{
+    if !has_block(parts, window, reader)? {
+        return Ok(false);
+    }
+    if parts.is_cut(window.front()) {
+        return Ok(false);
+    }
+    Ok(true)
+}
+
+/// Returns the fault of the record or block that the file's end cuts, after `has_whole_block` returned false; `None` if
+/// the file ends with a whole one.
+pub fn cut_fault(parts: &BlockParser, window: &ReadBuffer) -> Option<CaptureFault> {
+    match window.front() {
+        [] => None,
+        _ => Some(CaptureFault {
+            place: parts.place(),
+            kind: CaptureFaultKind::Truncated,
+        }),
+    }
+}
+
+/// Returns the name and the description of an interface, if the block of `len` octets that `next_block` returned
+/// describes one.
+pub fn interface_texts<'a>(
+    parts: &BlockParser,
+    window: &'a ReadBuffer,
+    len: usize,
+) -> Option<InterfaceTexts<'a>>
+    ensures { IfSome result (λ texts. Some (texts_view texts)
+        ≡ texts_as parts.now.format parts.now.section.order (take len (take 983040 (octets_of window.now)))) }
+{
+    parts.interface_texts(window.front().get(..len)?)
 }
 
 /// Reads until the next record or block is whole, or the file ends.

@@ -1,7 +1,14 @@
 //! The whole blocks at the start of a record's octets, whose last block may still be on its way.
-ghost use Rattle.std.specs.Prelude.{◌≡◌, ◌≤◌, length, IfSome};
+ghost use Rattle.std.specs.Prelude.{◌≡◌, ◌≤◌, length, take, drop, None, IfSome};
+ghost use Rattle.pcap_file.specs.Octets.{number_at};
+ghost use Rattle.pcap_file.specs.WholeBlocks.{AreWhole, BeginsNone, IsBlock};
+ghost use Rattle.pcap_file.specs.declared.decode.endian.Endian.TheVariants.{Little};
 
 use crate::block_type::ENHANCED_PACKET;
+use crate::decode::endian::Endian;
+
+/// The least length of a block in octets: its type, and its length before and behind its body.
+const MIN_BLOCK_LEN: usize = 12;
 
 /// The extent of the whole blocks in a prefix of some octets.
 #[derive(Clone, Copy, Debug, PartialEq, Eq)]
@@ -12,8 +19,10 @@ pub struct WholeBlocks {
     pub datagrams: u64,
 }
 
-/// Returns the extent of the whole blocks in a prefix of some octets, which begin with a block of a record.
+/// Returns the extent of the whole blocks in a prefix of some octets, which begin with a block of a record. Behind them
+/// no whole block begins.
 pub fn whole_blocks(octets: &[u8]) -> WholeBlocks
+    ensures whole { AreWhole octets.now result }
     ensures within { result.len ≤ length octets.now }
 {
     let mut blocks = WholeBlocks {
@@ -23,7 +32,7 @@ pub fn whole_blocks(octets: &[u8]) -> WholeBlocks
     while let Some((kind, len)) = block_at(&octets[blocks.len..]) {
         blocks.len += len;
         if kind == ENHANCED_PACKET {
-            blocks.datagrams = blocks.datagrams.saturating_add(1);
+            blocks.datagrams += 1;
         }
     }
     blocks
@@ -31,22 +40,18 @@ pub fn whole_blocks(octets: &[u8]) -> WholeBlocks
 
 /// Returns the type and the length in octets of the block at the start of some octets, or `None` if it is not whole.
 fn block_at(octets: &[u8]) -> Option<(u32, usize)>
+    ensures none { result ≡ None → BeginsNone octets.now }
     ensures within { IfSome result (λ block. (12 ≤ block.1) × (block.1 ≤ length octets.now)) }
+    ensures block { IfSome result (λ block. IsBlock (take block.1 octets.now)) }
+    ensures kind { IfSome result (λ block. block.0 ≡ number_at Little 4 0 (take block.1 octets.now)) }
 {
-    let kind = word_at(octets, 0)?;
-    let len = word_at(octets, 4)? as usize;
-    // 12 octets are the shortest block: the type and the two lengths. A block of 0 octets would never end the loop.
-    if len < 12 || len > octets.len() {
+    if octets.len() < MIN_BLOCK_LEN {
         return None;
     }
-    Some((kind, len))
-}
-
-/// Returns the 32-bit word at a place, least significant octet first, or `None` if the octets end before.
-fn word_at(octets: &[u8], place: usize) -> Option<u32> {
-    let word = octets.get(place..place.saturating_add(4))?;
-    let [a, b, c, d] = *word else {
+    let len = Endian::Little.read_u32(octets, 4) as usize;
+    // A block of 0 octets would never end the loop.
+    if len < MIN_BLOCK_LEN || len > octets.len() {
         return None;
-    };
-    Some(u32::from_le_bytes([a, b, c, d]))
+    }
+    Some((Endian::Little.read_u32(octets, 0), len))
 }

@@ -1,5 +1,5 @@
 -- What was written of a report so far.
-use Rattle.std.proofs.Common.{◌≡◌, ◌<◌, ℕ, Bool, List, [], ◌∷◌, ◌++◌, length, map, take, Option, None, option_map, IfSome, Ok, refl, sym, ap, subst, ◌∙◌, append-nil}
+use Rattle.std.proofs.Common.{◌≡◌, inl, inr, ◌<◌, ℕ, Bool, List, [], ◌∷◌, ◌++◌, length, map, take, Option, None, option_map, IfSome, Ok, refl, sym, ap, subst, ◌∙◌, append-nil}
 use Rattle.std.specs.Prelude.{⊤}
 use Rattle.std.specs.Io.KnownBytes.{Appends}
 use Rattle.std.proofs.Math.Seq.{take-length}
@@ -11,7 +11,7 @@ use Rattle.pcap_file.specs.Packet.{PacketView, packet_view}
 use Rattle.pcap_file.specs.BlockParser.{items_at}
 use Rattle.pcap_file.specs.declared.fault.ReaderFault.{ReaderFault}
 use Rattle.pcap_file.specs.declared.fault.ReaderFault.TheVariants as reader
-use Rattle.pcap_file.specs.Reader.{HasEntries, HasReturned, IsLong, packets_among, packets_in, part_entries}
+use Rattle.pcap_file.specs.Reader.{HasEntries, HasReturned, IsCutBehind, IsLong, packets_among, packets_in, part_entries}
 use Rattle.pcap_file.proofs.ReaderEntryLemmas.{among_more}
 use Rattle.pcap_flows.specs.declared.import.clock.CaptureClock.{CaptureClock}
 use Rattle.pcap_flows.specs.Clock.{clock_with}
@@ -27,9 +27,9 @@ use Rattle.pcap_replay.specs.declared.fault.ReplayFault.{ReplayFault}
 use Rattle.pcap_replay.specs.declared.fault.ReplayFault.TheVariants.{Memory, Capture, Run as RunOf, TooManyEvents, Write}
 use Rattle.pcap_replay.specs.declared.state.ReplayState.{ReplayState}
 use Rattle.pcap_replay.specs.Lines.{BreaksLines, Hearing}
-use Rattle.pcap_replay.specs.Replay.{BeginsWith, BreaksAt, HasBegun, HasComeToClose, HasGoneOver, HasHeardFirst, HasReplayed, HasTaken, IsReason, IsReplaying, IsRun, IsOwn, Stops, StopsAt, StopsFile}
+use Rattle.pcap_replay.specs.Replay.{BeginsWith, BreaksAt, EndsAt, HasBegun, HasComeToClose, HasGoneOver, HasHeardFirst, HasReplayed, HasTaken, IsReason, IsReplaying, IsRun, IsOwn, Stops, StopsAt, StopsFile}
 use Rattle.pcap_replay.specs.Events.{AreFirst, clock_after, clock_of, closed_events, events_of, events_told, events_with, read_at}
-use Rattle.pcap_replay.specs.Routing.{PlanView, clock_before, clock_past, closing_of, opening_of, target_of}
+use Rattle.pcap_replay.specs.Routing.{PlanView, Flows, Interfaces, clock_before, clock_past, closing_of, opening_of, target_of}
 use Rattle.pcap_replay.specs.Record.{closing_in, closing_with}
 use Rattle.pcap_replay.proofs.CaseLemmas.{some_maps}
 use Rattle.pcap_replay.proofs.EventLemmas.{clock_more, events_more, first_longer, first_read, first_same}
@@ -121,6 +121,19 @@ begins_whole file entries whole = record {
   all = whole.all ∙ sym (append-nil entries);
 }
 
+pub begins_cut : (file : List ℕ) (entries : List Entry) → IsCutBehind file entries → BeginsWith file entries
+begins_cut file entries is = record {
+  items = items_at is.parts is.left;
+  packets = is.packets;
+  later = entries_at is.parts is.left;
+  all = is.all;
+}
+
+pub begins_ended : (plan : PlanView) (file : List ℕ) (entries : List Entry) → EndsAt plan file entries → BeginsWith file entries
+begins_ended (Flows routes) file entries whole = begins_whole file entries whole
+begins_ended (Interfaces streams open_at) file entries (inl whole) = begins_whole file entries whole
+begins_ended (Interfaces streams open_at) file entries (inr cut) = begins_cut file entries cut
+
 pub own_reason : (file : List ℕ) (entries : List Entry) (fault : ReplayFault) → IsOwn fault → IsReason file entries fault
 own_reason file entries Memory kind = tt
 own_reason file entries (Capture fault) kind = absurd kind
@@ -207,7 +220,7 @@ stops_at_close studio plan told closing from first a b c H K old new fault same 
     let events = events_of studio plan packets in
     record {
       entries = gone.entries;
-      told = some_maps first _ _ (λ file whole. (begins_whole file gone.entries whole, own_reason file gone.entries fault kind)) gone.told;
+      told = some_maps first _ _ (λ file whole. (begins_ended plan file gone.entries whole, own_reason file gone.entries fault kind)) gone.told;
       stops = subst (λ o. Stops studio (closed_events studio plan packets o) a new c K fault) (closing_same plan gone.entries told closing closes gone.closes)
           (subst (λ n. Stops studio (read_at studio.open_at n events (clock_of plan packets).reading (clock_with (clock_of plan packets) closing).reading) a new c K fault) same
           (subst (λ k. Stops studio (read_at studio.open_at from events k.reading (clock_with k closing).reading) a new c K fault) gone.taken.clock (reads events gone.taken.replayed)));

@@ -7,7 +7,7 @@ use Rattle.pcap_file.specs.Packet.{PacketView}
 use Rattle.pcap_file.specs.Capture.{Item, packets_of}
 use Rattle.pcap_file.specs.declared.fault.ReaderFault.{ReaderFault}
 use Rattle.pcap_file.specs.declared.fault.ReaderFault.TheVariants as reader
-use Rattle.pcap_file.specs.Reader.{HasEntries, HasReturned, packets_among}
+use Rattle.pcap_file.specs.Reader.{HasEntries, HasReturned, IsCutBehind, packets_among}
 use Rattle.studio_config.specs.Studio.{Studio}
 use Rattle.studio_mix.specs.Blocks.{AreFirstBlocks}
 use Rattle.studio_session.specs.Event.{TraceEvent}
@@ -24,7 +24,7 @@ use Rattle.pcap_replay.specs.declared.fault.ReplayFault.TheVariants.{Memory, Cap
 use Rattle.pcap_replay.specs.declared.state.ReplayState.{ReplayState}
 use Rattle.pcap_replay.specs.Lines.{Hearing}
 use Rattle.pcap_replay.specs.Events.{AreFirst, clock_of, events_of, events_told, file_events}
-use Rattle.pcap_replay.specs.Routing.{PlanView}
+use Rattle.pcap_replay.specs.Routing.{PlanView, Flows, Interfaces}
 use Rattle.pcap_replay.specs.Record.{closing_in}
 
 -- the engine took these events, the lines of the datagrams that it returned were written or are held, and an observer received both
@@ -91,17 +91,22 @@ pub record IsReplaying (studio : Studio) (plan : PlanView) (first : Option (List
   pub taken : HasTaken studio plan (packets_among entries) written run written_then heard
   pub closes : closing ≡ closing_in entries
 
--- those of a whole file were, which has no fault
+-- a file ends behind these entries: it has no fault, or, of a record, its last block is cut
+abbrev pub EndsAt : PlanView → List ℕ → List Entry → Type 0
+EndsAt (Flows routes) file entries = HasEntries file entries
+EndsAt (Interfaces streams open_at) file entries = HasEntries file entries ⊎ IsCutBehind file entries
+
+-- those of a whole file were
 pub record HasGoneOver (studio : Studio) (plan : PlanView) (first : Option (List ℕ)) (written : Option (List ℕ)) (run : ReplayState) (written_then : Option (List ℕ)) (heard : Hearing) (closing : Option ℕ) : Type 0 where
   pub entries : List Entry
-  pub told : IfSome first (λ file. HasEntries file entries)
+  pub told : IfSome first (λ file. EndsAt plan file entries)
   pub taken : HasTaken studio plan (packets_among entries) written run written_then heard
   pub closes : closing ≡ closing_in entries
 
 -- and a reading at the time of the close, if its marks have one
 pub record HasComeToClose (studio : Studio) (plan : PlanView) (first : Option (List ℕ)) (written : Option (List ℕ)) (run : ReplayState) (written_then : Option (List ℕ)) (heard : Hearing) : Type 0 where
   pub entries : List Entry
-  pub told : IfSome first (λ file. HasEntries file entries)
+  pub told : IfSome first (λ file. EndsAt plan file entries)
   pub replayed : HasReplayed studio (events_told studio plan entries) written run written_then heard
 
 -- a file's fault is the one behind its packets
@@ -130,10 +135,10 @@ pub record HasHeardAll (studio : Studio) (events : List TraceEvent) (heard : Hea
   pub given : AreDatagrams studio events datagrams
   pub told : heard events datagrams
 
--- the report of a file's events was written, and an observer received them; the file has no fault
+-- the report of a file's events was written, and an observer received them; the file ends behind them
 pub record WritesReplay (studio : Studio) (plan : PlanView) (left : Option (List ℕ)) (written written_then : Option (List ℕ)) (heard : Hearing) : Type 0 where
   pub entries : List Entry
-  pub told : IfSome left (λ file. HasEntries file entries)
+  pub told : IfSome left (λ file. EndsAt plan file entries)
   pub writes : WritesEvents studio IsReport (file_events studio plan entries) written written_then
   pub hears : HasHeardAll studio (file_events studio plan entries) heard
 

@@ -53,7 +53,7 @@ use crate::routing::{Routing, StreamPath};
 use crate::state::ReplayState;
 use path_merge::{Path, clock_fault};
 use pcap_file::{
-    BlockParser, CaptureBlock, Packet, ReadBuffer, ReaderFault, RecordMark, has_block, next_block,
+    BlockParser, CaptureBlock, Packet, ReadBuffer, ReaderFault, RecordMark, next_block,
 };
 use pcap_flows::datagram_octets;
 use std::io::{Read, Write};
@@ -90,7 +90,7 @@ impl ReplayState {
         let mut closing = None;
         // The label names the loop in its proof.
         'parts: for _ in 0..u64::MAX {
-            if !has_block(parts, window, reader)? {
+            if !plan.has_next(parts, window, reader)? {
                 return Ok(closing);
             }
             // The block borrows the window, so only its length and its mark come back before `consume`.

@@ -5,8 +5,9 @@
 //!
 //! 1. `record_opening` returns when the studio was opened if the file is the record of a live run,
 //!    from what comes before its first packet.
-//! 2. For a record, `replay_record` reads the file, with the studio of that run, up to the close that
-//!    the record contains.
+//! 2. For a record, `recorded_paths` returns the paths that it describes, and `recording_fault` how they
+//!    differ from a studio's. `replay_record` then reads the file, with the studio of that run, up to
+//!    the close that the record contains. A last block that is cut ends the record before it.
 //! 3. For any other capture, `scan_flows` finds the flows, from which `pcap_flows` makes routes.
 //!    `replay` then writes the report of the same events as in the trace that `pcap_flows` would
 //!    write.
@@ -24,6 +25,7 @@ mod observer;
 mod output;
 mod player;
 mod record_times;
+mod recording;
 mod routing;
 mod state;
 mod wav_observer;
@@ -34,4 +36,5 @@ pub use laws::{a_record_says_its_run, a_replay_takes_its_import};
 pub use observer::ReplayObserver;
 pub use player::{replay, replay_record};
 pub use record_times::record_opening;
+pub use recording::{RecordedPath, RecordingFault, recorded_paths, recording_fault};
 pub use wav_observer::WavObserver;

@@ -27,7 +27,7 @@ use crate::observer::ReplayObserver;
 use crate::output::write_drained;
 use crate::routing::Routing;
 use crate::state::ReplayState;
-use pcap_file::{BlockParser, ReadBuffer, open_reader};
+use pcap_file::{BlockParser, CaptureFault, ReadBuffer, cut_fault, open_reader};
 use pcap_flows::Route;
 use std::alloc::{AllocError, Global};
 use std::io::{Read, Write};
@@ -54,26 +54,26 @@ pub fn replay<R: Read, W: Write, L: ReplayObserver>(
         (λ fault. BreaksOffReplay spec.now (Flows routes.now) (R.remaining reader.old) (W.contents writer.old)
         (W.contents writer.new) (L.heard observer.old observer.new) fault) }
 {
-    replay_routed(
-        alloc,
-        spec,
-        &Routing::Flows(routes),
-        reader,
-        writer,
-        observer,
-    )
+    let plan = Routing::Flows(routes);
+    match replay_routed(alloc, spec, &plan, reader, writer, observer) {
+        // Only a record has no fault if its last block is cut.
+        Ok(_) => Ok(()),
+        Err(fault) => Err(fault),
+    }
 }
 
 /// Reads the record of a run of this studio once, and writes its report as `replay` does. Interfaces are numbered
 /// through the paths of all streams, and times are nanoseconds from the studio's opening on. The studio is closed
 /// behind all packets, at the time of the first mark of a close; if there is none, at the last packet's reading.
+///
+/// A last block that the file's end cuts ends the record before it: its fault is returned behind the whole report.
 pub fn replay_record<R: Read, W: Write, L: ReplayObserver>(
     alloc: Global,
     spec: &StudioSpec,
     reader: &mut R,
     writer: &mut W,
     observer: &mut L,
-) -> Result<(), ReplayFault>
+) -> Result<Option<CaptureFault>, ReplayFault>
     requires fresh { L.heard observer.old observer.old [] [] }
     ensures ok { OnOk result
         (WritesReplay spec.now (places_of spec.now) (R.remaining reader.old) (W.contents writer.old)
@@ -96,7 +96,7 @@ fn instants_of(time: i64) -> u64
     time.max(0) as u64
 }
 
-/// Writes the report of a capture by a routing.
+/// Writes the report of a capture by a routing. Returns the fault of a record's last block, if the file's end cuts it.
 fn replay_routed<R: Read, W: Write, L: ReplayObserver>(
     alloc: Global,
     spec: &StudioSpec,
@@ -104,7 +104,7 @@ fn replay_routed<R: Read, W: Write, L: ReplayObserver>(
     reader: &mut R,
     writer: &mut W,
     observer: &mut L,
-) -> Result<(), ReplayFault>
+) -> Result<Option<CaptureFault>, ReplayFault>
     requires fresh { L.heard observer.old observer.old [] [] }
     ensures ok { OnOk result
         (WritesReplay spec.now (plan_view plan.now) (R.remaining reader.old) (W.contents writer.old)
@@ -119,7 +119,7 @@ fn replay_routed<R: Read, W: Write, L: ReplayObserver>(
     match run.go_to_close(plan, &mut parts, &mut window, reader, writer, observer) {
         Ok(()) => {
             run.close(spec, writer, observer)?;
-            Ok(())
+            Ok(cut_fault(&parts, &window))
         }
         Err(fault) => Err(run.break_off(fault, writer)),
     }

@@ -1,12 +1,17 @@
 //! The routing of a capture's datagrams to paths, with the origin of its clock readings.
-ghost use Rattle.std.specs.Prelude.{◌≡◌, Some};
+ghost use Rattle.std.specs.Prelude.{◌≡◌, ℕ, List, Some, true, false, IfOk, IfErr, OnOk};
+ghost use Rattle.pcap_file.specs.Entries.{Entry};
+ghost use Rattle.pcap_file.specs.ReadBuffer.{octets_of};
+ghost use Rattle.pcap_file.specs.Reader.{HasReturned, IsLong, IsNext};
+ghost use Rattle.pcap_replay.specs.Replay.{EndsAt};
 ghost use Rattle.pcap_replay.specs.Routing as spec;
 ghost use Rattle.pcap_file.specs.Packet.{packet_view};
 ghost use Rattle.pcap_replay.specs.Routing.{clock_before, closing_of, opening_of, plan_view, target_of};
 
 use path_merge::StreamSpec;
-use pcap_file::Packet;
+use pcap_file::{BlockParser, Packet, ReadBuffer, ReaderFault, has_block, has_whole_block};
 use pcap_flows::{CaptureClock, Route, route_in};
+use std::io::Read;
 
 /// The rule by which packets get paths and times.
 #[derive(Clone, Copy)]
@@ -57,6 +62,30 @@ impl Routing<'_> {
         match self {
             Routing::Flows(_) => None,
             Routing::Interfaces { .. } => marked,
+        }
+    }
+
+    /// Reads until the next record or block is whole, or the file ends. Returns true if one comes. A record ends before
+    /// a block that the file's end cuts; in any other capture that is a fault, which `next_block` returns.
+    pub(crate) fn has_next<R: Read>(
+        &self,
+        parts: &BlockParser,
+        window: &mut ReadBuffer,
+        reader: &mut R,
+    ) -> Result<bool, ReaderFault>
+        ensures returned { OnOk result ((file : List ℕ) (entries : List Entry)
+            → HasReturned file entries (R.remaining reader.old) parts.now (octets_of window.old) window.old.ended
+            → HasReturned file entries (R.remaining reader.new) parts.now (octets_of window.new) window.new.ended) }
+        ensures next { IfOk result
+            (λ some. some ≡ true → IsNext parts.now (octets_of window.new) window.new.ended) }
+        ensures end { IfOk result (λ some. some ≡ false → (file : List ℕ) (entries : List Entry)
+            → HasReturned file entries (R.remaining reader.old) parts.now (octets_of window.old) window.old.ended
+            → EndsAt (plan_view self.now) file entries) }
+        ensures fault { IfErr result (λ fault. IsLong fault) }
+    {
+        match self {
+            Routing::Flows(_) => has_block(parts, window, reader),
+            Routing::Interfaces { .. } => has_whole_block(parts, window, reader),
         }
     }
 

@@ -2,6 +2,7 @@
 use file_commands::CommandFault;
 use live_io::InheritedSocketFault;
 use live_run::LiveFault;
+use pcap_file::RecordEnd;
 use std::alloc::{AllocError, AllocFailed};
 use std::io::Write;
 use studio_config::SpecError;
@@ -28,15 +29,9 @@ pub(crate) enum ProgramFault {
     /// Sockets that the program inherited are refused, or an allocation for them failed.
     #[error("{0}")]
     Inherited(#[from] InheritedSocketFault),
-    /// The file of a live run's record could not be created.
-    #[error("device: record")]
-    Record,
-    /// A live run's report was written, but a write to its record failed.
-    #[error("device: record write")]
-    RecordWrite,
-    /// A live run's report was written, but a path ended before the run did, since its socket failed again and again.
-    #[error("live: path ended")]
-    PathEnded,
+    /// A live run's report was written, but its record ended before the run, for this reason.
+    #[error("device: record {0}")]
+    RecordEnded(RecordEnd),
 }
 
 impl ProgramFault {
@@ -49,7 +44,7 @@ impl ProgramFault {
             ProgramFault::Live(LiveFault::Memory) => 4,
             ProgramFault::Inherited(InheritedSocketFault::Memory) => 4,
             ProgramFault::Live(_) | ProgramFault::Inherited(_) | ProgramFault::Clock => 5,
-            ProgramFault::Record | ProgramFault::RecordWrite | ProgramFault::PathEnded => 5,
+            ProgramFault::RecordEnded(_) => 5,
         }
     }
 

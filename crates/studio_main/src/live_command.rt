@@ -7,6 +7,7 @@ use live_io::{
     UnexpectedSources, tai_now,
 };
 use live_run::{LiveFault, LiveInputs, StreamName, run_studio_live};
+use pcap_file::{CreateRecord, RecordFault};
 use rtp_stream::Path;
 use std::alloc::Global;
 use std::io::Write;
@@ -63,8 +64,8 @@ fn run_live_config<
 ) -> Result<(), ProgramFault> {
     let opened = open_studio(rt, alloc, parse_studio(alloc, config)?, args.tai_offset)?;
     let loaded = load_inputs(rt, alloc, &opened.studio, config, args.listen_fds)?;
-    // Before the run binds a socket: a run whose record cannot be created receives nothing.
-    let record = create_record(host, args.record)?;
+    // The run creates the record once its sockets are bound. A file that is there already is refused before that.
+    let record = record_at(host, args.record)?;
     run_loaded::<R, H>(rt, alloc, &opened, &loaded, record, args, output, faults)
 }
 
@@ -74,7 +75,7 @@ fn run_loaded<R: Threads + Wait + Sync + Net + Clock + RandomSource + Env + Allo
     alloc: Global,
     opened: &OpenedStudio,
     loaded: &LoadedInputs,
-    record: Option<H::Target>,
+    record: Option<RecordPath<'_, H>>,
     args: LiveArgs<'_>,
     output: &mut H::Stdout,
     faults: &mut H::Stderr,
@@ -101,7 +102,7 @@ fn run_loaded<R: Threads + Wait + Sync + Net + Clock + RandomSource + Env + Allo
         &args.options,
         output,
         faults,
-        record,
+        record.as_ref(),
     );
     finish(ran, studio, inputs, args, output)
 }
@@ -164,22 +165,35 @@ fn finish<W: Write>(
         write_after_report(studio, inputs, args, output)?;
     }
     ran?;
-    if inputs.recorded.has_failed() {
-        return Err(ProgramFault::RecordWrite);
+    match inputs.recorded.end() {
+        Some(end) => Err(ProgramFault::RecordEnded(end)),
+        None => Ok(()),
     }
-    if inputs.sockets.health.has_ended_path() {
-        return Err(ProgramFault::PathEnded);
-    }
-    Ok(())
 }
 
-/// Creates the file of a record, if one is asked for.
-fn create_record<H: Host>(host: &H, path: Option<&str>) -> Result<Option<H::Target>, ProgramFault> {
+/// A path of the host's files, at which a run creates its record.
+#[derive(Clone, Copy)]
+struct RecordPath<'a, H> {
+    host: &'a H,
+    path: &'a str,
+}
+
+impl<H: Host> CreateRecord for RecordPath<'_, H> {
+    type File = H::Record;
+
+    fn create(&self) -> Result<H::Record, RecordFault> {
+        self.host.create_record(self.path)
+    }
+}
+
+/// Returns the place of a record, if one is asked for. Returns a fault if something is there.
+fn record_at<'a, H: Host>(
+    host: &'a H,
+    path: Option<&'a str>,
+) -> Result<Option<RecordPath<'a, H>>, ProgramFault> {
     match path {
-        Some(path) => match host.create(path) {
-            Ok(file) => Ok(Some(file)),
-            Err(_) => Err(ProgramFault::Record),
-        },
+        Some(path) if host.has(path) => Err(ProgramFault::Live(LiveFault::RecordExists)),
+        Some(path) => Ok(Some(RecordPath { host, path })),
         None => Ok(None),
     }
 }

@@ -16,12 +16,14 @@ use crate::fault::ProgramFault;
 use crate::program::run;
 use crate::std_fds::open_missing_fds;
 use file_commands::{CommandFault, Host};
+use pcap_file::{RecordEnd, RecordFault, RecordFile};
 use std::alloc::Global;
 use std::env::Args;
-use std::io::{ErrorKind, Stderr, Stdin, Stdout};
+use std::io::{ErrorKind, Seek, SeekFrom, Stderr, Stdin, Stdout, Write};
+use std::os::unix::fs::MetadataExt;
 use std::process::ExitCode;
 use std::rt::Env;
-use std::{env, fs};
+use std::{env, fs, io};
 use studio_run::{ReadFault, read_octets};
 use wav_file::{FileFault, SeekFile};
 
@@ -42,6 +44,8 @@ impl Host for SystemHost<'_> {
 
     type Target = SeekFile<fs::File>;
 
+    type Record = SystemRecord;
+
     fn open(&self, path: &str) -> Result<fs::File, ReadFault> {
         match fs::open(self.rt, path) {
             Ok(file) => Ok(file),
@@ -61,6 +65,62 @@ impl Host for SystemHost<'_> {
             Ok(file) => Ok(SeekFile::new(file)),
             Err(_) => Err(FileFault::NotCreated),
         }
+    }
+
+    fn has(&self, path: &str) -> bool {
+        // Not `exists`, which follows a link: a link that leads nowhere is refused by `create_record` too.
+        fs::symlink_metadata(self.rt, path).is_ok()
+    }
+
+    fn create_record(&self, path: &str) -> Result<SystemRecord, RecordFault> {
+        match fs::File::create_new(self.rt, path) {
+            Ok(file) => Ok(SystemRecord {
+                file,
+                faults: self.rt.stderr(),
+            }),
+            Err(fault) if fault.kind() == ErrorKind::AlreadyExists => Err(RecordFault::Exists),
+            Err(_) => Err(RecordFault::NotCreated),
+        }
+    }
+
+    fn is_same_file(&self, one: &str, other: &str) -> bool {
+        match (fs::metadata(self.rt, one), fs::metadata(self.rt, other)) {
+            (Ok(one), Ok(other)) => one.dev() == other.dev() && one.ino() == other.ino(),
+            _ => false,
+        }
+    }
+}
+
+/// The file of a record, which reports its end on standard error.
+#[derive(Drop)]
+struct SystemRecord {
+    file: fs::File,
+    faults: Stderr,
+}
+
+impl Write for SystemRecord {
+    fn write(&mut self, buf: &[u8]) -> io::Result<usize> {
+        self.file.write(buf)
+    }
+
+    fn flush(&mut self) -> io::Result<()> {
+        self.file.flush()
+    }
+}
+
+impl RecordFile for SystemRecord {
+    fn cut(&mut self, len: u64) -> io::Result<()> {
+        self.file.set_len(len)?;
+        self.file.seek(SeekFrom::Start(len))?;
+        Ok(())
+    }
+
+    fn report(&mut self, end: RecordEnd, datagrams: u64) {
+        // A line that cannot be written is lost, as a fault's line is.
+        let _ = writeln!(
+            self.faults,
+            "device: record {end}, after {datagrams} datagrams"
+        );
     }
 }
 

@@ -101,6 +101,8 @@ fn run_file_command<H: Host>(
         FileCommand::Check(path) => run_check(host, alloc, path, output),
         FileCommand::Streams(path) => run_streams(host, alloc, path, output),
         FileCommand::Import(path, args) => run_import(host, alloc, path, &args, output, faults),
-        FileCommand::Replay(config, args) => run_replay(host, alloc, config, args, output, faults),
+        FileCommand::Replay(config, args) => {
+            run_replay(host, alloc, config, args, input, output, faults)
+        }
     }
 }

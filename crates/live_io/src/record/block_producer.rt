@@ -43,12 +43,13 @@ impl BlockProducer {
         self.put(len)
     }
 
-    /// Puts the description of a path's interface.
-    pub(crate) fn put_interface(&mut self, stream: u16, letter: u8)
-        ensures puts { Puts self.old (interface_block stream letter) self.new }
+    /// Puts the description of a path's interface, and of its stream's configuration.
+    pub(crate) fn put_interface(&mut self, stream: u16, letter: u8, description: &[u8])
+        requires few { length description.now ≤ 64 }
+        ensures puts { Puts self.old (interface_block stream letter description.now) self.new }
         ensures ended { self.old.ended ≡ true → self.new.ended ≡ true }
     {
-        let len = write_interface(stream, letter, &mut self.block);
+        let len = write_interface(stream, letter, description, &mut self.block);
         self.put(len)
     }
 

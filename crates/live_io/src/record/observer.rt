@@ -1,21 +1,26 @@
 //! The observer of a run, which makes a record of the datagrams that the run takes.
-ghost use Rattle.std.specs.Prelude.{◌≡◌, ◌≤◌, ◌<◌, ℕ, [], length, IfSome, pos, true};
+ghost use Rattle.std.specs.Prelude.{◌≡◌, ◌⊎◌, ◌≤◌, ◌<◌, ℕ, [], length, IfSome, None, pos, true};
 ghost use Rattle.rtrb.specs.Ring.{sent};
 ghost use Rattle.pcap_file.specs.RecordedDatagram.{arrival_view};
 ghost use Rattle.live_io.specs.RecordBlocks.{
   IsPacket,
+  IsPast,
   IsSince,
   Opens,
   PutsClose,
   PutsPacket,
   Sends,
   path_blocks,
+  recorded_of,
   row_blocks,
+  stream_blocks,
 };
 
+use crate::record::RecordResult;
 use crate::record::block_producer::BlockProducer;
-use pcap_file::{MAX_DATAGRAM_LEN, RecordedDatagram, nanoseconds_after};
+use pcap_file::{MAX_DATAGRAM_LEN, RecordEnd, RecordedDatagram, RecordedStream, nanoseconds_after};
 use rtp_stream::StreamSpec;
+use rtp_wire::Enc;
 use rtrb::Producer;
 use std::net::SocketAddrV4;
 use studio_config::StudioSpec;
@@ -37,15 +42,17 @@ pub struct DatagramOrigin {
 /// The observer that makes the blocks of a record, and counts the datagrams. The record ends before the first block
 /// that cannot be written: if the ring is full, the datagram is too long, or its time does not fit 64 bits.
 #[derive(Drop)]
-pub struct RecordObserver {
+pub struct RecordObserver<'a> {
     end: BlockProducer,
+    /// The result of the record, which is told the record's end.
+    recorded: &'a RecordResult,
     /// The studio's opening time, in sampling instants.
     open_at: i64,
     /// The number of datagrams that arrived, also those after the record's end.
     received: u64,
 }
 
-impl RecordObserver {
+impl<'r> RecordObserver<'r> {
     /// Returns the number of datagrams that arrived, also those after the record's end.
     pub fn received(&self) -> u64 {
         self.received
@@ -53,7 +60,11 @@ impl RecordObserver {
 
     /// Returns the observer of a run of this studio, and puts the start of the record into the ring: the studio's
     /// opening time and its paths.
-    pub(crate) fn new(ring: Producer<u8>, studio: &StudioSpec) -> RecordObserver
+    pub(crate) fn new(
+        ring: Producer<u8>,
+        studio: &StudioSpec,
+        recorded: &'r RecordResult,
+    ) -> RecordObserver<'r>
         requires fresh { sent ring ≡ [] }
         ensures opens { Opens studio.now result.end }
         ensures open_at { result.open_at ≡ studio.now.open_at }
@@ -64,6 +75,7 @@ impl RecordObserver {
         put_streams(&mut end, studio.streams());
         RecordObserver {
             end,
+            recorded,
             open_at,
             received: 0,
         }
@@ -80,8 +92,14 @@ impl RecordObserver {
             return;
         }
         match self.arrival(time, octets, origin) {
-            Some(arrival) => self.end.put_datagram(&arrival),
-            None => self.end.ended = true,
+            Some(arrival) => {
+                self.end.put_datagram(&arrival);
+                self.report_if_slow();
+            }
+            None => {
+                self.end.ended = true;
+                self.recorded.set_end(RecordEnd::Unfit);
+            }
         }
     }
 
@@ -91,8 +109,21 @@ impl RecordObserver {
         ensures ended { self.old.end.ended ≡ true → self.new.end.ended ≡ true }
     {
         match self.nanoseconds(time) {
-            Some(nanoseconds) => self.end.put_closing(nanoseconds),
-            None => self.end.ended = true,
+            Some(nanoseconds) => {
+                self.end.put_closing(nanoseconds);
+                self.report_if_slow();
+            }
+            None => {
+                self.end.ended = true;
+                self.recorded.set_end(RecordEnd::Unfit);
+            }
+        }
+    }
+
+    /// Sets the record's end if the ring had no room for a block.
+    fn report_if_slow(&self) {
+        if self.end.ended {
+            self.recorded.set_end(RecordEnd::Slow);
         }
     }
 
@@ -104,6 +135,7 @@ impl RecordObserver {
         origin: &DatagramOrigin,
     ) -> Option<RecordedDatagram<'a>>
         ensures few { IfSome result (λ arrival. length arrival.octets.now ≤ 2048) }
+        ensures unfit { result ≡ None → (2048 < length octets.now) ⊎ IsPast self.now.open_at time }
         ensures packet { IfSome result
             (λ arrival. IsPacket self.now.open_at time origin.now octets.now (arrival_view arrival)) }
     {
@@ -127,6 +159,7 @@ impl RecordObserver {
     /// hold them.
     fn nanoseconds(&self, time: i64) -> Option<u64>
         ensures since { IfSome result (λ nanoseconds. IsSince self.now.open_at time nanoseconds) }
+        ensures past { result ≡ None → IsPast self.now.open_at time }
     {
         let instants = time.checked_sub(self.open_at)?;
         nanoseconds_after(u64::try_from(instants).ok()?)
@@ -147,19 +180,45 @@ fn put_streams(end: &mut BlockProducer, streams: &[StreamSpec])
     ensures sends { Sends end.old (path_blocks 0 streams.now) end.new }
     ensures ended { end.old.ended ≡ true → end.new.ended ≡ true }
 {
-    // Loops over numbers here and in `put_paths`: their invariants speak of the paths below the number.
+    // Loops over numbers here and in `put_rows`: their invariants speak of the paths below the number.
     for number in 0..streams.len() {
-        put_paths(end, number as u16, streams[number].paths());
+        put_paths(end, number as u16, &streams[number]);
     }
 }
 
+/// Puts the descriptions of a stream's paths.
+fn put_paths(end: &mut BlockProducer, number: u16, stream: &StreamSpec)
+    ensures sends { Sends end.old (stream_blocks number stream.now) end.new }
+    ensures ended { end.old.ended ≡ true → end.new.ended ≡ true }
+{
+    let description = recorded_stream(stream).description();
+    put_rows(end, number, stream.paths(), description.as_slice());
+}
+
 /// Puts the descriptions of a stream's first so many paths.
-fn put_paths(end: &mut BlockProducer, stream: u16, count: u8)
+fn put_rows(end: &mut BlockProducer, stream: u16, count: u8, description: &[u8])
     requires few { count < 5 }
-    ensures sends { Sends end.old (row_blocks stream count) end.new }
+    requires short { length description.now ≤ 64 }
+    ensures sends { Sends end.old (row_blocks stream description.now count) end.new }
     ensures ended { end.old.ended ≡ true → end.new.ended ≡ true }
 {
     for path in 0..count {
-        end.put_interface(stream, FIRST_LETTER + path);
+        end.put_interface(stream, FIRST_LETTER + path, description);
+    }
+}
+
+/// Returns the configuration of a stream as a record has it.
+fn recorded_stream(stream: &StreamSpec) -> RecordedStream
+    ensures { result ≡ recorded_of stream.now }
+{
+    RecordedStream {
+        bits: match stream.enc() {
+            Enc::L16 => 16,
+            Enc::L24 => 24,
+        },
+        channels: stream.channels(),
+        frames: stream.frames(),
+        pt: stream.pt(),
+        paths: stream.paths(),
     }
 }

@@ -1,12 +1,16 @@
 //! The writer of a record, which moves blocks from the ring to the record's file.
-ghost use Rattle.std.specs.Prelude.{◌≡◌, IfOk, OnOk};
-ghost use Rattle.live_io.specs.RecordWriter.{Passes, SeesNone};
+ghost use Rattle.std.specs.Prelude.{◌≡◌, ◌+◌, ◌^◌, ◌≤◌, ◌<◌, ℕ, List, [], Option, Some, length, take};
+ghost use Rattle.std.specs.Prelude.{true, IfSome, IfOk, IfErr, OnOk};
+ghost use Rattle.std.specs.Io.KnownBytes.{Appends};
+ghost use Rattle.rtrb.specs.Ring.{received};
+ghost use Rattle.pcap_file.specs.RecordFile.{IsCut};
+ghost use Rattle.live_io.specs.RecordWriter.{FailsBehind, HasWritten, IsRecorded, SeesNone};
 
-use pcap_file::whole_blocks;
+use crate::record::RecordResult;
+use pcap_file::{RecordEnd, RecordFile, WholeBlocks, whole_blocks};
 use rtrb::Consumer;
 use std::alloc::{AllocError, Global};
-use std::io;
-use std::io::Write;
+use std::io::{ErrorKind, Write};
 use std::sync::Wait;
 use std::thread::Parker;
 use std::time::Duration;
@@ -22,48 +26,68 @@ const PAUSE_MS: u64 = 10;
 /// The result of writing a record's file.
 #[derive(Clone, Copy, Debug, PartialEq, Eq)]
 pub struct FileResult {
-    /// The number of datagrams that were written.
+    /// The number of datagrams in the whole blocks that were written.
     pub datagrams: u64,
     /// True if a write failed. Nothing was written after it.
     pub failed: bool,
+    /// True if the file ends with a whole block: no write failed, or the file was cut behind the last whole block.
+    pub is_whole: bool,
 }
 
-/// The end of a ring from which blocks are taken, and the file to which they go.
+/// The blocks that are left of a write that failed.
+#[derive(Clone, Copy, Debug, PartialEq, Eq)]
+pub(crate) struct FailedWrite {
+    /// The extent of the whole blocks that were written.
+    pub(crate) kept: WholeBlocks,
+    /// True if the file was cut behind them.
+    pub(crate) is_cut: bool,
+}
+
+/// The end of a ring from which blocks are taken, with what is known of the file to which they go.
 #[derive(Drop)]
-pub struct RecordWriter<D> {
+pub struct RecordWriter<'a> {
     ring: Consumer<u8>,
-    file: D,
     /// The buffer for the octets that were taken from the ring.
     octets: Vec<u8>,
     /// The number of octets in the buffer that are left over: a prefix of a block that is not whole yet.
     held: usize,
+    /// The number of octets in the file.
+    len: u64,
     /// The number of datagrams that were written.
     datagrams: u64,
+    /// The result of the record, which is told the datagrams so far.
+    recorded: &'a RecordResult,
 }
 
-impl<D: Write + Drop> RecordWriter<D> {
-    /// Returns the writer from a ring to a file. Returns `AllocError` if an allocation fails.
+impl<'a> RecordWriter<'a> {
+    /// Returns the writer from a ring to an empty file. Returns `AllocError` if an allocation fails.
     pub(crate) fn new(
         alloc: Global,
         ring: Consumer<u8>,
-        file: D,
-    ) -> Result<RecordWriter<D>, AllocError> {
+        recorded: &'a RecordResult,
+    ) -> Result<RecordWriter<'a>, AllocError>
+        ensures fresh { IfOk result (λ writer. received ring ≡ [] → HasWritten (Some []) writer) }
+    {
         let mut octets = Vec::with_capacity(alloc, BUFFER_OCTETS)?;
         octets.resize(BUFFER_OCTETS, 0)?;
         Ok(RecordWriter {
             ring,
-            file,
             octets,
             held: 0,
+            len: 0,
             datagrams: 0,
+            recorded,
         })
     }
 
-    /// Writes the blocks that are whole by now, and returns the number of octets that were taken from the ring. Returns
-    /// the error of a write that failed.
-    fn write_some(&mut self) -> io::Result<usize>
-        ensures passes { OnOk result (Passes D.contents self.old self.new) }
+    /// Writes the blocks that are whole by now, and returns the number of octets that were taken from the ring. After a
+    /// failed write it returns the result of the whole file.
+    fn write_some<D: RecordFile>(&mut self, file: &mut D) -> Result<usize, FileResult>
+        ensures written { OnOk result (HasWritten (D.Write.contents file.old) self.old
+            → HasWritten (D.Write.contents file.new) self.new) }
         ensures empty { IfOk result (λ taken. taken ≡ 0 → SeesNone self.old self.new) }
+        ensures failed { IfErr result (λ ended. HasWritten (D.Write.contents file.old) self.old
+            → IsRecorded (D.Write.contents file.new) self.new ended) }
     {
         // Only whole blocks are written, so the file ends with a whole one unless a write fails.
         let octets = self.octets.as_mut_slice();
@@ -71,36 +95,151 @@ impl<D: Write + Drop> RecordWriter<D> {
         let taken = self.ring.pop_partial_slice(&mut octets[held..]);
         let end = held + taken;
         let blocks = whole_blocks(&octets[..end]);
-        self.file.write_all(&octets[..blocks.len])?;
+        let Some(len) = end_of(self.len, blocks.len) else {
+            return Err(FileResult {
+                datagrams: self.datagrams,
+                failed: true,
+                is_whole: true,
+            });
+        };
+        if let Err(failed) = append_blocks(file, self.len, &octets[..blocks.len]) {
+            return Err(FileResult {
+                datagrams: self.datagrams.saturating_add(failed.kept.datagrams),
+                failed: true,
+                is_whole: failed.is_cut,
+            });
+        }
         octets.copy_within(blocks.len..end, 0);
         self.held = end - blocks.len;
+        self.len = len;
         self.datagrams = self.datagrams.saturating_add(blocks.datagrams);
         Ok(taken)
     }
 
-    /// Returns the result of writing the file.
-    fn written(&self, failed: bool) -> FileResult {
+    /// Returns the result of a file to which all was written that is whole.
+    fn written(&self) -> FileResult
+        ensures { (contents : Option (List ℕ)) → HasWritten contents self.now → IsRecorded contents self.now result }
+    {
         FileResult {
             datagrams: self.datagrams,
-            failed,
+            failed: false,
+            is_whole: true,
         }
     }
 }
 
-/// Writes the blocks that come through the ring, until its other end was dropped and it is empty, or a write fails. It
-/// blocks the calling thread until then.
-pub fn write_record<R: Wait, D: Write + Drop>(rt: &R, writer: RecordWriter<D>) -> FileResult {
-    let mut writer = writer;
+/// Writes whole blocks to the end of a file of `len` octets. If a write fails, it cuts the file behind the last whole
+/// block that was written.
+fn append_blocks<D: RecordFile>(file: &mut D, len: u64, octets: &[u8]) -> Result<(), FailedWrite>
+    ensures ok { OnOk result (Appends (D.Write.contents file.old) (D.Write.contents file.new) octets.now) }
+    ensures failed { IfErr result
+        (FailsBehind (D.Write.contents file.old) (D.Write.contents file.new) len octets.now) }
+{
+    let done = write_front(file, octets);
+    if done == octets.len() {
+        return Ok(());
+    }
+    let kept = whole_blocks(&octets[..done]);
+    let is_cut = match end_of(len, kept.len) {
+        Some(end) => cut_to(file, end),
+        None => false,
+    };
+    Err(FailedWrite { kept, is_cut })
+}
+
+/// Returns the length of a file to which so many octets are added, if 64 bits hold it.
+fn end_of(len: u64, more: usize) -> Option<u64>
+    ensures sum { IfSome result (λ end. end ≡ len + more) }
+    ensures small { IfSome result (λ end. end < 2 ^ 64) }
+{
+    len.checked_add(more as u64)
+}
+
+/// Cuts a file to its first octets, and returns true if it could be cut.
+fn cut_to<D: RecordFile>(file: &mut D, len: u64) -> bool
+    ensures { result ≡ true → IsCut (D.Write.contents file.old) (D.Write.contents file.new) len }
+{
+    match file.cut(len) {
+        Ok(()) => true,
+        Err(_) => false,
+    }
+}
+
+/// Writes octets, and returns the number of those that were written: all of them, or those before a write that failed.
+fn write_front<W: Write>(file: &mut W, octets: &[u8]) -> usize
+    ensures written { Appends (W.contents file.old) (W.contents file.new) (take result octets.now) }
+    ensures within { result ≤ length octets.now }
+{
+    let mut done = 0;
+    // The label names the loop in its proof.
+    'writes: for _ in 0..u64::MAX {
+        if done == octets.len() {
+            return done;
+        }
+        match file.write(&octets[done..]) {
+            Ok(0) => return done,
+            Ok(count) => done += count,
+            // A signal came before anything was written.
+            Err(fault) if fault.kind() == ErrorKind::Interrupted => {}
+            Err(_) => return done,
+        }
+    }
+    done
+}
+
+/// Writes the blocks that come through the ring to an empty file, until the ring's other end was dropped and it is
+/// empty, or a write fails. It blocks the calling thread until then. If the record ends before its run, it reports that
+/// to the file at that moment.
+pub fn write_record<R: Wait, D: RecordFile>(
+    rt: &R,
+    writer: &mut RecordWriter<'_>,
+    file: &mut D,
+) -> FileResult
+    ensures { HasWritten (D.Write.contents file.old) writer.old
+        → IsRecorded (D.Write.contents file.new) writer.new result }
+{
+    let recorded = writer.recorded;
     let parker = Parker::new();
-    for _ in rt.forever() {
+    let mut reported = false;
+    'turns: for _ in rt.forever() {
         // Asked before the ring is read: once it is true nothing more is put, so a ring that is empty then is the end.
         let is_last = writer.ring.is_abandoned();
-        match writer.write_some() {
-            Ok(0) if is_last => return writer.written(false),
-            Ok(0) => parker.park_timeout(rt, Duration::from_millis(PAUSE_MS)),
-            Ok(_) => {}
-            Err(_) => return writer.written(true),
+        match writer.write_some(file) {
+            Ok(0) => {
+                recorded.set_written(writer.datagrams);
+                // Only now, when all blocks before the record's end are in the file.
+                reported = report_end(recorded, reported, writer.datagrams, file);
+                if is_last {
+                    return writer.written();
+                }
+                parker.park_timeout(rt, Duration::from_millis(PAUSE_MS));
+            }
+            Ok(_) => recorded.set_written(writer.datagrams),
+            Err(ended) => {
+                recorded.set_written(ended.datagrams);
+                recorded.set_end(RecordEnd::Write);
+                report_end(recorded, reported, ended.datagrams, file);
+                return ended;
+            }
         }
     }
     unreachable!()
+}
+
+/// Reports the record's end to its file, if it ended and that was not reported. Returns true if it is reported now.
+fn report_end<D: RecordFile>(
+    recorded: &RecordResult,
+    reported: bool,
+    datagrams: u64,
+    file: &mut D,
+) -> bool
+    ensures { D.Write.contents file.new ≡ D.Write.contents file.old }
+{
+    match recorded.end() {
+        Some(end) if !reported => {
+            file.report(end, datagrams);
+            true
+        }
+        _ => reported,
+    }
 }

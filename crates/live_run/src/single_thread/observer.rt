@@ -17,8 +17,8 @@ use studio_session::ArriveOutcome;
 /// The observer of a run in one thread, with its record and its status, each if it is wanted.
 #[derive(Drop)]
 pub(crate) struct LiveObserver<'v, E> {
-    record: Option<RecordObserver>,
-    status: Option<EngineStatus<'v, E, ShownHealth<'v>>>,
+    record: Option<RecordObserver<'v>>,
+    status: Option<EngineStatus<'v, E>>,
 }
 
 impl<'v, E: Write + Drop> LiveObserver<'v, E> {
@@ -27,7 +27,7 @@ impl<'v, E: Write + Drop> LiveObserver<'v, E> {
     pub(crate) fn new(
         alloc: Global,
         studio: &StudioSpec,
-        record: Option<RecordObserver>,
+        record: Option<RecordObserver<'v>>,
         outputs: StatusOutputs<'v, E>,
         health: ShownHealth<'v>,
     ) -> Result<LiveObserver<'v, E>, AllocError> {

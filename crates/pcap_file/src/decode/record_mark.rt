@@ -42,7 +42,7 @@ pub(crate) fn read_opening(order: Endian, block: &[u8]) -> Option<RecordMark>
 }
 
 /// Returns the text of an option, or an empty text if there is no such option before the options' end.
-fn text_at(order: Endian, code: u16, options: &[u8]) -> &[u8]
+pub(crate) fn text_at(order: Endian, code: u16, options: &[u8]) -> &[u8]
     ensures { result.now ≡ spec.text_at order code options.now }
 {
     match option_at(order, code, options) {
@@ -84,7 +84,7 @@ fn number_in(text: &[u8]) -> Option<u64>
 }
 
 /// Returns the number below 2^63 that a text spells: decimal digits, with no leading zero but in `0` itself.
-fn decimal_number(text: &[u8]) -> Option<u64>
+pub(crate) fn decimal_number(text: &[u8]) -> Option<u64>
     ensures spelled { IfSome result (λ n. text.now ≡ decimal n) }
     ensures small { IfSome result (λ n. n < 2 ^ 63) }
     ensures found { (n : ℕ) → n < 2 ^ 63 → text.now ≡ decimal n → result ≡ Some n }

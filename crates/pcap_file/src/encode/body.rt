@@ -13,12 +13,13 @@ use arrayvec::ArrayVec;
 use itoa::Buffer;
 
 /// The octets of a block's body, without a datagram's.
-// A section header has the longest: 16 octets of fields, a comment of up to 32, 12 of the application, 4 of the end.
-pub(crate) type BlockBody = ArrayVec<u8, 64>;
+// An interface has the longest: 8 octets of fields, a name of up to 12, 8 of the resolution, a description of up to 68,
+// 4 of the end.
+pub(crate) type BlockBody = ArrayVec<u8, 128>;
 
 /// Appends octets.
 pub(crate) fn push(head: &mut BlockBody, octets: &[u8])
-    requires { array_vec_len head.old + length octets.now ≤ 64 }
+    requires { array_vec_len head.old + length octets.now ≤ 128 }
     ensures items { head.new.items ≡ head.old.items ++ octets.now }
     ensures length { array_vec_len head.new ≡ array_vec_len head.old + length octets.now }
 {
@@ -32,7 +33,7 @@ pub(crate) fn push(head: &mut BlockBody, octets: &[u8])
 #[tactic(auto, unfolding(crate::specs::Blocks::option_octets, crate::specs::Blocks::padded))]
 pub(crate) fn push_option(head: &mut BlockBody, code: u16, value: &[u8])
     requires few { length value.now ≤ 64 }
-    requires room { array_vec_len head.old + (4 + length value.now + 3 * length value.now % 4) ≤ 64 }
+    requires room { array_vec_len head.old + (4 + length value.now + 3 * length value.now % 4) ≤ 128 }
     ensures items { head.new.items ≡ head.old.items ++ option_octets code value.now }
     ensures length { array_vec_len head.new
         ≡ array_vec_len head.old + (4 + length value.now + 3 * length value.now % 4) }
@@ -65,7 +66,7 @@ pub(crate) fn section_body(open_at: u64) -> BlockBody
 
 /// Appends the comment with the time of the opening.
 fn push_opening(head: &mut BlockBody, open_at: u64)
-    requires { array_vec_len head.old + 32 ≤ 64 }
+    requires { array_vec_len head.old + 32 ≤ 128 }
     ensures items { head.new.items ≡ head.old.items ++ option_octets 1 (opening_text open_at) }
     ensures length { array_vec_len head.new ≤ array_vec_len head.old + 32 }
 {
@@ -77,8 +78,10 @@ fn push_opening(head: &mut BlockBody, open_at: u64)
 
 /// Returns the body of an interface's description.
 #[tactic(auto, unfolding(crate::specs::Blocks::interface_body))]
-pub(crate) fn interface_body(stream: u16, letter: u8) -> BlockBody
-    ensures { result.items ≡ spec.interface_body stream letter }
+pub(crate) fn interface_body(stream: u16, letter: u8, description: &[u8]) -> BlockBody
+    requires { length description.now ≤ 64 }
+    ensures items { result.items ≡ spec.interface_body stream letter description.now }
+    ensures length { array_vec_len result ≤ 128 }
 {
     let mut head = BlockBody::new();
     push(&mut head, &RAW.to_le_bytes());
@@ -88,13 +91,14 @@ pub(crate) fn interface_body(stream: u16, letter: u8) -> BlockBody
     push_name(&mut head, stream, letter);
     // The option `if_tsresol`: times are in nanoseconds.
     push_option(&mut head, 9, &[9]);
+    push_option(&mut head, 3, description);
     push(&mut head, &0_u32.to_le_bytes());
     head
 }
 
 /// Appends an interface's name.
 fn push_name(head: &mut BlockBody, stream: u16, letter: u8)
-    requires { array_vec_len head.old + 12 ≤ 64 }
+    requires { array_vec_len head.old + 12 ≤ 128 }
     ensures items { head.new.items ≡ head.old.items ++ option_octets 2 (interface_text stream letter) }
     ensures length { array_vec_len head.new ≤ array_vec_len head.old + 12 }
 {
@@ -137,7 +141,7 @@ pub(crate) fn closing_body(nanoseconds: u64) -> BlockBody
 
 /// Appends a time, its high word of 32 bits first.
 fn push_time(head: &mut BlockBody, nanoseconds: u64)
-    requires { array_vec_len head.old + 8 ≤ 64 }
+    requires { array_vec_len head.old + 8 ≤ 128 }
     ensures items { head.new.items ≡ head.old.items ++ time_octets nanoseconds }
     ensures length { array_vec_len head.new ≡ array_vec_len head.old + 8 }
 {

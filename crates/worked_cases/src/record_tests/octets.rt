@@ -3,8 +3,9 @@ ghost use Rattle.std.specs.Prelude.{◌≡◌, length};
 
 use super::record::record;
 use pcap_file::{
-    Capture, MAX_BLOCK_LEN, Packet, RecordedDatagram, UdpBody, UdpDatagram, UdpPacket,
-    nanoseconds_after, open, write_interface, write_packet, write_section_header, write_statistics,
+    Capture, MAX_BLOCK_LEN, Packet, RecordedDatagram, RecordedStream, UdpBody, UdpDatagram,
+    UdpPacket, nanoseconds_after, open, write_interface, write_packet, write_section_header,
+    write_statistics,
 };
 use std::net::Ipv4Addr;
 
@@ -36,12 +37,22 @@ fn is_opening(octets: Option<&[u8]>) -> bool {
     is_written(&out, len, octets)
 }
 
-/// Returns true if the interface of a stream's path is written as these octets.
-fn is_interface(stream: u16, letter: u8, octets: Option<&[u8]>) -> bool {
+/// Returns true if the interface of a stream's path with a description is written as these octets.
+fn is_interface(stream: u16, letter: u8, description: &[u8], octets: Option<&[u8]>) -> bool {
+    // `write_interface` needs a description of at most 64 octets.
+    if description.len() > 64 {
+        return false;
+    }
     let mut out = [0x55u8; MAX_BLOCK_LEN];
-    let len = write_interface(stream, letter, &mut out);
+    let len = write_interface(stream, letter, description, &mut out);
     is_written(&out, len, octets)
 }
+
+/// The interface of the second path of stream 12, with the description `mono`.
+const INTERFACE: [u8; 48] = [
+    1, 0, 0, 0, 0x30, 0, 0, 0, 0x65, 0, 0, 0, 0, 0, 0, 0, 2, 0, 4, 0, 0x31, 0x32, 0x20, 0x62, 9, 0,
+    1, 0, 9, 0, 0, 0, 3, 0, 4, 0, 0x6d, 0x6f, 0x6e, 0x6f, 0, 0, 0, 0, 0x30, 0, 0, 0,
+];
 
 /// Each call writes one block to the start of its buffer, and nothing after it.
 #[test]
@@ -49,10 +60,57 @@ fn the_opening_and_interfaces_are_these_octets(rt: HostRuntime) {
     let record = record();
     assert!(rt; is_opening(record.get(..60)), "the opening");
     assert!(rt;
-        is_interface(0, b'a', record.get(60..100)),
-        "the first interface"
+        is_interface(12, b'b', b"mono", Some(INTERFACE.as_slice())),
+        "an interface"
     );
-    assert!(rt; is_interface(12, b'b', record.get(100..140)), "the second");
+}
+
+/// Returns true if a stream has this description, and only this text is read as the stream.
+fn is_described(stream: RecordedStream, text: &[u8]) -> bool {
+    stream.description().as_slice() == text && RecordedStream::of(text) == Some(stream)
+}
+
+/// Texts that describe no stream: a plus sign, a leading zero, another word, an octet more, a number too great.
+const NO_STREAMS: [&[u8]; 6] = [
+    b"",
+    b"encoding L24 channels +2 frames 48 pt 96 paths 2",
+    b"encoding L24 channels 02 frames 48 pt 96 paths 2",
+    b"encoding L24 channels 2 frames 48 type 96 paths 2",
+    b"encoding L24 channels 2 frames 48 pt 96 paths 2 ",
+    b"encoding L24 channels 256 frames 48 pt 96 paths 2",
+];
+
+/// The configuration of a stream is described by a text that is read back.
+#[test]
+fn a_stream_is_described_by_this_text(rt: HostRuntime) {
+    let small = RecordedStream {
+        bits: 16,
+        channels: 1,
+        frames: 6,
+        pt: 0,
+        paths: 1,
+    };
+    let great = RecordedStream {
+        bits: 255,
+        channels: 255,
+        frames: 65535,
+        pt: 255,
+        paths: 255,
+    };
+    assert!(rt;
+        is_described(small, b"encoding L16 channels 1 frames 6 pt 0 paths 1"),
+        "small"
+    );
+    assert!(rt;
+        is_described(
+            great,
+            b"encoding L255 channels 255 frames 65535 pt 255 paths 255"
+        ),
+        "great"
+    );
+    for text in &NO_STREAMS {
+        assert!(rt; RecordedStream::of(text).is_none(), "no stream");
+    }
 }
 
 /// Returns true if the record's datagram is written as these octets.

@@ -4,7 +4,7 @@ use Rattle.pcap_replay.specs.declared.fault.ReplayFault.TheVariants.{Capture, Wr
 use Rattle.pcap_replay.proofs.CaseLemmas.{some_maps, told}
 use Rattle.pcap_replay.proofs.EndLemmas.{ends_behind, unopened}
 use Rattle.pcap_replay.proofs.EventLemmas.{first_same}
-use Rattle.pcap_replay.proofs.ReplayLemmas.{begins_whole, begun_replayed, replaying_none, unheard}
+use Rattle.pcap_replay.proofs.ReplayLemmas.{begins_ended, begun_replayed, replaying_none, unheard}
 use Rattle.pcap_replay.proofs.player.replay_routed.Goals as goal
 
 pub returns-in_err-window-clause-fault : goal.returns-in_err-window-clause-fault
@@ -33,7 +33,7 @@ returns-in_err-close-in-Ok-clause-fault g c =
     let come = c.in-Ok.ensures.ok spec first written c.args.observer.now (replaying_none spec plan first written _ _ _ _ _ _ c.in_ok-window.ensures.returned c.in_ok-run.ensures.clock (begun_replayed spec written _ _ c.in_ok-run.ensures.begun c.requires.fresh)) in
     told _ Write c.from_residual-in_err-close-in-Ok.result c.from_residual-in_err-close-in-Ok.ensures.1 (record {
       entries = come.entries;
-      told = some_maps first _ _ (λ file whole. (begins_whole file come.entries whole, tt)) come.told;
+      told = some_maps first _ _ (λ file whole. (begins_ended plan file come.entries whole, tt)) come.told;
       events = file_events spec plan come.entries;
       first = first_same (file_events spec plan come.entries);
       front = c.in_err-close-in-Ok.ensures.fault (events_told spec plan come.entries) written c.args.observer.now come.replayed;

@@ -1,5 +1,5 @@
 use Rattle.std.proofs.Common.{◌<◌, length, subst, arith}
-use Rattle.live_io.specs.RecordBlocks.{Sends, row_blocks}
+use Rattle.live_io.specs.RecordBlocks.{Sends, stream_blocks}
 use Rattle.live_io.proofs.PutLemmas.{describes_more}
 use Rattle.live_io.proofs.record.observer.put_streams.Goals as goal
 
@@ -11,4 +11,4 @@ loop-number-preserved c =
     let long = c.loop-number.auto.number-end in
     let within : number < length streams = omega (arith, more, long) in
     describes_more streams number c.index-streams-number.result c.args.end.now c.loop-number.end c.put_paths.new.end within c.index-streams-number.is c.loop-number.invariant
-    (subst (λ n. Sends c.loop-number.end (row_blocks number n) c.put_paths.new.end) c.paths.ensures.value c.put_paths.ensures.sends) c.put_paths.ensures.ended
+    c.put_paths.ensures.sends c.put_paths.ensures.ended

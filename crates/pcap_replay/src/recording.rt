@@ -1,0 +1,233 @@
+//! The paths of a record, and their comparison with the configuration of a studio.
+ghost use Rattle.std.specs.Prelude.{◌≤◌, length, IfOk, IfSome};
+ghost use Rattle.pcap_file.specs.ReadBuffer.{octets_of};
+ghost use Rattle.pcap_file.specs.Reader.{IsNext};
+
+use pcap_file::{
+    BlockParser, InterfaceTexts, ReadBuffer, ReaderFault, RecordedStream, has_whole_block,
+    interface_texts, next_block, open_reader,
+};
+use rtp_stream::StreamSpec;
+use rtp_wire::Enc;
+use std::alloc::{AllocError, Global};
+use std::io::Read;
+use thiserror::Error;
+
+/// A path of a record: its name, and the description of its stream's configuration, as its interface has them.
+#[derive(Drop)]
+pub struct RecordedPath {
+    name: Vec<u8>,
+    /// Empty in a record of version 0.3.0 or earlier.
+    description: Vec<u8>,
+}
+
+/// The first difference between the configuration by which a record was made and that of a studio.
+#[derive(Clone, Copy, Debug, PartialEq, Eq, Error)]
+pub enum RecordingFault {
+    /// The encoding of a stream, by its bits: that of the record, and that of the studio.
+    #[error("stream[{0}].encoding is L{1}, not L{2}")]
+    Encoding(usize, u8, u8),
+    /// The value of another key of a stream: that of the record, and that of the studio.
+    #[error("stream[{0}].{1} is {2}, not {3}")]
+    Value(usize, &'static str, u16, u16),
+    /// The number of streams: that of the record, and that of the studio.
+    #[error("it has {0} streams, not {1}")]
+    Streams(usize, usize),
+    /// The name or the description of an interface is not one that a record has at this place.
+    #[error("interface {0} is unknown")]
+    Interface(usize),
+}
+
+impl RecordedPath {
+    /// Returns a copy of the texts of a path's interface. Returns `AllocError` if an allocation fails.
+    fn of(alloc: Global, texts: &InterfaceTexts<'_>) -> Result<RecordedPath, AllocError> {
+        Ok(RecordedPath {
+            name: copy_of(alloc, texts.name)?,
+            description: copy_of(alloc, texts.description)?,
+        })
+    }
+
+    /// Returns true if this is the path with a letter of the stream with a number.
+    fn is_named(&self, number: usize, letter: u8) -> bool {
+        self.stream() == Some(number) && self.name.as_slice().last() == Some(&letter)
+    }
+
+    /// Returns the number of the path's stream, if the name has one.
+    fn stream(&self) -> Option<usize> {
+        let name = self.name.as_slice();
+        // A name is a number, a space and a letter.
+        let space = name.len().checked_sub(2)?;
+        if name.get(space) != Some(&b' ') {
+            return None;
+        }
+        str::from_utf8(name.get(..space)?).ok()?.parse().ok()
+    }
+
+    /// Returns true if this path of a record is that of a stream, by the description of the stream. A record without
+    /// descriptions is compared by its names alone.
+    fn has_description(&self, description: &[u8]) -> bool {
+        self.description.is_empty() || self.description.as_slice() == description
+    }
+}
+
+/// Returns a copy of some octets. Returns `AllocError` if an allocation fails.
+fn copy_of(alloc: Global, octets: &[u8]) -> Result<Vec<u8>, AllocError> {
+    let mut copy = Vec::with_capacity(alloc, octets.len())?;
+    for octet in octets {
+        copy.push(*octet)?;
+    }
+    Ok(copy)
+}
+
+/// Returns the paths that a capture describes before its first packet, its end or its fault. Returns an error if an
+/// allocation or a read fails, the header is wrong, or a record or block is too long.
+pub fn recorded_paths<R: Read>(
+    alloc: Global,
+    reader: &mut R,
+) -> Result<Vec<RecordedPath>, ReaderFault> {
+    let mut paths = Vec::new(alloc);
+    let (mut window, mut parts) = open_reader(alloc, reader)?;
+    for _ in 0..u64::MAX {
+        if !has_whole_block(&parts, &mut window, reader)? {
+            return Ok(paths);
+        }
+        match add_path(alloc, &mut paths, &mut parts, &window)? {
+            Some(len) => window.consume(len),
+            None => return Ok(paths),
+        }
+    }
+    Ok(paths)
+}
+
+/// Adds the path that the next block describes, if it does, and returns the block's length. Returns `None` at a packet
+/// or a fault.
+fn add_path(
+    alloc: Global,
+    paths: &mut Vec<RecordedPath>,
+    parts: &mut BlockParser,
+    window: &ReadBuffer,
+) -> Result<Option<usize>, AllocError>
+    requires { IsNext parts.old (octets_of window.now) window.now.ended }
+    ensures { IfOk result (λ given. IfSome given (λ len. len ≤ length (octets_of window.now))) }
+{
+    // A fault is left to the replay, which returns it behind the report.
+    let Ok(part) = next_block(parts, window) else {
+        return Ok(None);
+    };
+    if part.packet.is_some() {
+        return Ok(None);
+    }
+    if let Some(texts) = interface_texts(parts, window, part.len) {
+        paths.push(RecordedPath::of(alloc, &texts)?)?;
+    }
+    Ok(Some(part.len))
+}
+
+/// Returns the first difference between the configuration by which a record with these paths was made and a studio's
+/// streams, stream by stream; `None` if there is none.
+pub fn recording_fault(paths: &[RecordedPath], streams: &[StreamSpec]) -> Option<RecordingFault> {
+    for (number, stream) in streams.iter().enumerate() {
+        let fault = stream_fault(paths, number, stream);
+        if fault.is_some() {
+            return fault;
+        }
+    }
+    let recorded = paths
+        .iter()
+        .filter(|path| path.name.as_slice().last() == Some(&b'a'))
+        .count();
+    if recorded != streams.len() {
+        return Some(RecordingFault::Streams(recorded, streams.len()));
+    }
+    order_fault(paths, streams)
+}
+
+/// Returns the first difference between a recorded stream and a stream of a studio.
+fn stream_fault(
+    paths: &[RecordedPath],
+    number: usize,
+    stream: &StreamSpec,
+) -> Option<RecordingFault> {
+    let first = paths.iter().find(|path| path.stream() == Some(number))?;
+    let count = paths
+        .iter()
+        .filter(|path| path.stream() == Some(number))
+        .count();
+    let recorded = RecordedStream::of(first.description.as_slice());
+    if let Some(recorded) = recorded {
+        let fault = value_fault(number, &recorded, &recorded_stream(stream));
+        if fault.is_some() {
+            return fault;
+        }
+    }
+    if count != usize::from(stream.paths()) {
+        let count = u16::try_from(count).unwrap_or(u16::MAX);
+        return Some(RecordingFault::Value(number, "paths", count, u16::from(stream.paths())));
+    }
+    None
+}
+
+/// Returns the first value but the number of paths in which a recorded stream differs from a studio's.
+fn value_fault(
+    number: usize,
+    recorded: &RecordedStream,
+    own: &RecordedStream,
+) -> Option<RecordingFault> {
+    if recorded.bits != own.bits {
+        return Some(RecordingFault::Encoding(number, recorded.bits, own.bits));
+    }
+    let values = [
+        (
+            "channels",
+            u16::from(recorded.channels),
+            u16::from(own.channels),
+        ),
+        ("frames", recorded.frames, own.frames),
+        ("pt", u16::from(recorded.pt), u16::from(own.pt)),
+    ];
+    for (key, is, not) in &values {
+        if is != not {
+            return Some(RecordingFault::Value(number, *key, *is, *not));
+        }
+    }
+    None
+}
+
+/// Returns the first interface that is not the path at its place among those of a studio's streams, by its name and by
+/// its description.
+fn order_fault(paths: &[RecordedPath], streams: &[StreamSpec]) -> Option<RecordingFault> {
+    let mut place: usize = 0;
+    for (number, stream) in streams.iter().enumerate() {
+        let description = recorded_stream(stream).description();
+        for path in 0..stream.paths() {
+            let Some(recorded) = paths.get(place) else {
+                return Some(RecordingFault::Interface(place));
+            };
+            let letter = b'a'.saturating_add(path);
+            if !recorded.is_named(number, letter)
+                || !recorded.has_description(description.as_slice())
+            {
+                return Some(RecordingFault::Interface(place));
+            }
+            place = place.saturating_add(1);
+        }
+    }
+    if place < paths.len() {
+        return Some(RecordingFault::Interface(place));
+    }
+    None
+}
+
+/// Returns the configuration of a stream as a record has it.
+fn recorded_stream(stream: &StreamSpec) -> RecordedStream {
+    RecordedStream {
+        bits: match stream.enc() {
+            Enc::L16 => 16,
+            Enc::L24 => 24,
+        },
+        channels: stream.channels(),
+        frames: stream.frames(),
+        pt: stream.pt(),
+        paths: stream.paths(),
+    }
+}
