@@ -257,12 +257,19 @@ def great():
     return parts
 
 
-def live_record(open_at, paths, trace):
-    """The record of a live run of this trace by a studio that was opened at a time, whose streams have so many paths."""
+def described(stream):
+    """The description of a stream's paths in a record, by its table in a configuration."""
+    return "encoding {encoding} channels {channels} frames {frames} pt {pt} paths {paths}".format(**{"paths": 2, **stream})
+
+
+def live_record(open_at, paths, trace, descriptions=()):
+    """The record of a live run of this trace by a studio that was opened at a time, whose streams have so many paths, and these
+    descriptions; without them it is a record of version 0.3.0."""
     options = option(LITTLE, 1, b"open_at %d" % open_at) + option(LITTLE, 4, b"darbexum") + option(LITTLE, 0, b"")
     blocks = [block(LITTLE, 0x0A0D0D0A, struct.pack("<IHHq", 0x1A2B3C4D, 1, 0, -1) + options)]
     for stream, count in enumerate(paths):
-        blocks += [interface(LITTLE, RAW, 9, options=option(LITTLE, 2, b"%d %c" % (stream, 97 + path))) for path in range(count)]
+        text = option(LITTLE, 3, descriptions[stream].encode()) if descriptions else b""
+        blocks += [interface(LITTLE, RAW, 9, options=option(LITTLE, 2, b"%d %c" % (stream, 97 + path)) + text) for path in range(count)]
     nanoseconds = 0
     for word, *more in (line.split() for line in trace.splitlines() if line.strip() and line[0] != "#"):
         if word == "tick":
