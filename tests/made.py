@@ -36,6 +36,7 @@ LINKS = [
 # An interface's resolution and offset, where it has them, a packet's units, and the sampling instants since 1 s.
 TIMES = [
     (None, None, 1_000_000, 0),
+    (6, 0, 1_000_000, 0),
     (9, 1, 20_833, 0),
     (9, 1, 20_834, 1),
     (3, 0, 1_001, 48),
@@ -47,7 +48,6 @@ TIMES = [
     (127, 3, 2**64 - 1, 96000),
     (255, 4, 2**64 - 1, 144000),
     (128, None, 6, 240000),
-    (6, 0, 1_000_000, 0),
     (None, None, 2**32, 206_110_430),
 ]
 
@@ -144,12 +144,12 @@ def simple(order, frame, original=None):
     return block(order, 3, struct.pack(order + "I", original or len(frame)) + frame)
 
 
-def sent(micros, network, number, stamp, source=7, length=18):
+def sent(micros, network, number, stamp, source=7, length=18, kind=96):
     """The record of an RTP packet from 10.0.0.N to 239.1.2.N, both at port 5004, whose payload's octets are 17."""
-    datagram = struct.pack(">BBHII", 128, 96, number, stamp, source) + b"\x11" * length
+    datagram = struct.pack(">BBHII", 128, kind, number % 2**16, stamp % 2**32, source) + b"\x11" * length
     udp = struct.pack(">HHHH", 5004, 5004, len(datagram) + 8, 0) + datagram
     head = struct.pack(">BBHHHBBH", 0x45, 0, len(udp) + 20, 0, 0, 32, 17, 0)
-    return record(head + bytes([10, 0, 0, network, 239, 1, 2, network]) + udp, 1, micros)
+    return record(head + bytes([10, 0, 0, network, 239, 1, 2, network]) + udp, 1 + micros // 10**6, micros % 10**6)
 
 
 def pcap_of(*records):
@@ -162,13 +162,23 @@ def two_paths(skew=1000):
     return pcap_of(*first, *second, sent(2000, 1, 1, 112))
 
 
+def flow(network, count, first=1, stamp=0, step=6, skew=0, **more):
+    """The times and records of packets of a flow, one a millisecond."""
+    return [(1000 * place + skew, sent(1000 * place + skew, network, first + place, stamp + step * place, **more)) for place in range(count)]
+
+
+def merged(*flows):
+    """A capture of flows, in the order of their times."""
+    return pcap_of(*(octets for _, octets in sorted(sum(flows, []), key=lambda row: row[0])))
+
+
 def three_paths(streams):
-    """Streams of three paths, of five packets each: the second comes later than the first, and the third earlier, by 10 and 20
+    """Streams of three paths, of eight packets each: the second comes later than the first, and the third earlier, by 10 and 20
     microseconds more for each stream."""
     records = []
     for stream in range(streams):
         for path, behind in enumerate((0, 10 * (stream + 1), -20 * (stream + 1))):
-            records += [(number > 0, 1000 * number + behind + 5000, 3 * stream + path + 1, number + 1, 6 * number, stream + 1) for number in range(5)]
+            records += [(number > 0, 1000 * number + behind + 5000, 3 * stream + path + 1, number + 1, 6 * number, stream + 1) for number in range(8)]
     return pcap_of(*(sent(*record[1:]) for record in sorted(records, key=lambda record: (record[0], record[1 + (not record[0])]))))
 
 

@@ -1,4 +1,6 @@
 //! The commands of the program and their arguments.
+ghost use Rattle.std.specs.Prelude.{◌≡◌, bytes_eq, codes};
+
 use live_io::LiveOptions;
 
 /// The command that the command line asks for.
@@ -30,7 +32,7 @@ pub enum FileCommand<'a> {
     /// The summary of a configuration, in lines for people.
     Check(&'a str),
     /// The RTP flows of a capture.
-    Streams(&'a str),
+    Streams(StreamsArgs<'a>),
     /// A capture as a trace, or a configuration that fits it.
     Import(&'a str, ImportArgs<'a>),
     /// The report of a capture, by a configuration, whose path comes first.
@@ -47,15 +49,40 @@ pub struct StreamWavArgs<'a> {
     pub file: &'a str,
 }
 
-/// The arguments of `replay`: the capture, and the files that are written in addition to its report.
+/// The arguments of `streams`.
 #[derive(Clone, Copy)]
-pub struct ReplayArgs<'a> {
+pub struct StreamsArgs<'a> {
     /// The capture's path.
     pub file: &'a str,
+    /// True if the flows are listed too that are not shown to be RTP streams.
+    pub all: bool,
+    /// The longest step forward of the capture's time that is no fault, in seconds.
+    pub gap: u64,
+}
+
+/// The arguments of `replay`: the capture, and the files that are written in addition to its report.
+#[derive(Drop)]
+pub struct ReplayArgs<'a> {
+    /// The capture's path, or `-` for standard input.
+    pub file: &'a str,
+    /// The addresses and ports of the flows, as the words that were given. If it is empty, all flows that fit a stream
+    /// are taken.
+    pub addresses: Vec<&'a str>,
+    /// The longest step forward of the capture's time that is no fault, in seconds.
+    pub gap: u64,
     /// The path of the mix's WAV file, if one is asked for.
     pub wav: Option<&'a str>,
     /// The path of the chart, if one is asked for.
     pub chart: Option<&'a str>,
+}
+
+impl ReplayArgs<'_> {
+    /// Returns true if the capture comes from standard input: its path is `-`.
+    pub fn is_stdin(&self) -> bool
+        ensures { result ≡ bytes_eq self.now.file.now (codes "-") }
+    {
+        self.file == "-"
+    }
 }
 
 /// The arguments of `import`.
@@ -68,6 +95,8 @@ pub struct ImportArgs<'a> {
     pub config: bool,
     /// The latency of the configuration's streams in milliseconds. If `None`, it follows from the skew between paths.
     pub latency: Option<u32>,
+    /// The longest step forward of the capture's time that is no fault, in seconds.
+    pub gap: u64,
 }
 
 /// The arguments of `live`.

@@ -15,6 +15,10 @@ const MAX_LATENCY: i64 = 65_536;
 /// The greatest number of seconds from one report of a live run's counts to the next.
 const MAX_SECONDS: i64 = 4_294_967_295;
 
+// More than 2^64 nanoseconds have, so that every step of a capture's time can be allowed.
+/// The greatest number of seconds that a capture's time may step forward.
+const MAX_GAP: i64 = 18_446_744_074;
+
 /// The greatest port.
 const MAX_PORT: i64 = 65_535;
 
@@ -66,19 +70,22 @@ pub(crate) const COMMANDS: &[CommandSpec] = &[
     CommandSpec {
         name: "streams",
         about: "Says what RTP audio a capture holds: counts, what fits each flow, and the skew of paths",
-        args: &[CAPTURE],
+        args: &[
+            CAPTURE,
+            ArgSpec {
+                name: "all",
+                help: "List the flows too that are not shown to be RTP streams",
+                ..FLAG
+            },
+            GAP,
+        ],
     },
     CommandSpec {
         name: "import",
         about: "Writes a capture's RTP datagrams as a trace, for marks and play",
         args: &[
             CAPTURE,
-            ArgSpec {
-                name: "path",
-                help: "Take the flows to this address alone; may be given again. Without it all that fit are taken",
-                kind: ArgKind::Option(ArgAction::Append, &["ADDRESS:PORT"], ValueParser::String),
-                relation: ArgRelation::Free,
-            },
+            PATH,
             ArgSpec {
                 name: "config",
                 help: "Write the configuration that fits the trace in its place",
@@ -90,6 +97,7 @@ pub(crate) const COMMANDS: &[CommandSpec] = &[
                 kind: ArgKind::Option(ArgAction::Set, &["MS"], ValueParser::Signed(1, MAX_LATENCY)),
                 relation: ArgRelation::Free,
             },
+            GAP,
         ],
     },
     CommandSpec {
@@ -97,7 +105,9 @@ pub(crate) const COMMANDS: &[CommandSpec] = &[
         about: "Plays a capture of any length, as play does the trace that import writes of it",
         args: &[
             CONFIG,
-            CAPTURE,
+            RECORD,
+            PATH,
+            GAP,
             MIX,
             ArgSpec {
                 name: "chart",
@@ -191,6 +201,34 @@ const CAPTURE: ArgSpec = ArgSpec {
     name: "FILE",
     help: "The capture, a pcap or pcapng file",
     kind: ArgKind::Path,
+    relation: ArgRelation::Free,
+};
+
+/// The path of a capture, or `-`.
+const RECORD: ArgSpec = ArgSpec {
+    name: "FILE",
+    help: "The capture, a pcap or pcapng file, or - for a live run's record on standard input",
+    kind: ArgKind::Path,
+    relation: ArgRelation::Free,
+};
+
+/// The addresses of the flows that are taken.
+const PATH: ArgSpec = ArgSpec {
+    name: "path",
+    help: "Take the flows to this address alone; may be given again. Without it all that fit are taken",
+    kind: ArgKind::Option(ArgAction::Append, &["ADDRESS:PORT"], ValueParser::String),
+    relation: ArgRelation::Free,
+};
+
+/// The longest step forward of a capture's time.
+const GAP: ArgSpec = ArgSpec {
+    name: "gap",
+    help: "Allow the capture's time to step forward by so many seconds, 60 without it",
+    kind: ArgKind::Option(
+        ArgAction::Set,
+        &["SECONDS"],
+        ValueParser::Signed(1, MAX_GAP),
+    ),
     relation: ArgRelation::Free,
 };
 

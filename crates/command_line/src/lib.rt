@@ -10,5 +10,7 @@ mod clap_args;
 mod commands;
 mod parse;
 
-pub use args::{CliCommand, FileCommand, ImportArgs, LiveArgs, ReplayArgs, StreamWavArgs};
+pub use args::{
+    CliCommand, FileCommand, ImportArgs, LiveArgs, ReplayArgs, StreamWavArgs, StreamsArgs,
+};
 pub use parse::parse_args;

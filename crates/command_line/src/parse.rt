@@ -1,15 +1,42 @@
 //! The command of a command line's words.
-use crate::args::{CliCommand, FileCommand, ImportArgs, LiveArgs, ReplayArgs, StreamWavArgs};
+use crate::args::{
+    CliCommand, FileCommand, ImportArgs, LiveArgs, ReplayArgs, StreamWavArgs, StreamsArgs,
+};
 use crate::clap_args::program_parser;
+use clap::error::ErrorKind;
 use clap::{ArgMatches, Error};
 use live_io::LiveOptions;
-use std::alloc::Global;
+use std::alloc::{AllocError, Global};
+
+// A recorder that stops and starts again within a minute is one capture. A clock that is set steps by years.
+/// The longest step forward of a capture's time that is no fault, in seconds, unless another one is given.
+const GAP: u64 = 60;
 
 /// Returns the command that the words ask for. The program's name is not among the words. Help and the version are
 /// errors too, with their texts, and so is an allocation failure.
 pub fn parse_args<'a>(alloc: Global, words: &'a [String]) -> Result<CliCommand<'a>, Error> {
     let matches = program_parser(alloc)?.try_get_matches_from(words)?;
-    parse_command(alloc, &matches)
+    let command = parse_command(alloc, &matches)?;
+    if draws_stdin(&command) {
+        return Err(chart_of_stdin(alloc)?);
+    }
+    Ok(command)
+}
+
+/// Returns true if a chart of the capture on standard input is asked for.
+fn draws_stdin(command: &CliCommand<'_>) -> bool {
+    match command {
+        CliCommand::File(FileCommand::Replay(_, args)) => args.is_stdin() && args.chart.is_some(),
+        _ => false,
+    }
+}
+
+/// Returns the usage fault of a chart of the capture on standard input.
+// A chart takes two passes over the capture, and clap's conflicts don't depend on values.
+fn chart_of_stdin(alloc: Global) -> Result<Error, AllocError> {
+    let message =
+        "the argument '--chart <FILE>' cannot be used with '-': a chart reads its capture twice";
+    program_parser(alloc)?.error(ErrorKind::ArgumentConflict, message)
 }
 
 /// Returns the command of words that match the parser.
@@ -20,7 +47,9 @@ fn parse_command<'a>(alloc: Global, matches: &ArgMatches<'a>) -> Result<CliComma
     // Most commands differ in the paths that they require: `import` and `streams` take no configuration, and only
     // `replay` takes both.
     let command = match (inner.get_str("CONFIG"), inner.get_str("FILE")) {
-        (Some(config), Some(capture)) => FileCommand::Replay(config, replay_args(capture, inner)),
+        (Some(config), Some(capture)) => {
+            FileCommand::Replay(config, replay_args(alloc, capture, inner)?)
+        }
         (Some(config), None) if name == "live" => {
             return Ok(CliCommand::Live(config, live_args(inner)));
         }
@@ -28,7 +57,7 @@ fn parse_command<'a>(alloc: Global, matches: &ArgMatches<'a>) -> Result<CliComma
         (None, Some(capture)) if name == "import" => {
             FileCommand::Import(capture, import_args(alloc, inner)?)
         }
-        (None, Some(capture)) => FileCommand::Streams(capture),
+        (None, Some(capture)) => FileCommand::Streams(streams_args(capture, inner)),
         // Never: each command requires one of these paths.
         (None, None) => FileCommand::QuickStart,
     };
@@ -68,13 +97,42 @@ fn parse_play<'a>(path: &'a str, matches: &ArgMatches<'a>) -> FileCommand<'a> {
     }
 }
 
-/// Returns the arguments of `replay`, with the path of its capture.
-fn replay_args<'a>(file: &'a str, matches: &ArgMatches<'a>) -> ReplayArgs<'a> {
-    ReplayArgs {
+/// Returns the arguments of `streams`, with the path of its capture.
+fn streams_args<'a>(file: &'a str, matches: &ArgMatches<'a>) -> StreamsArgs<'a> {
+    StreamsArgs {
         file,
+        all: matches.get_flag("all"),
+        gap: gap_in(matches),
+    }
+}
+
+/// Returns the arguments of `replay`, with the path of its capture.
+fn replay_args<'a>(
+    alloc: Global,
+    file: &'a str,
+    matches: &ArgMatches<'a>,
+) -> Result<ReplayArgs<'a>, AllocError> {
+    Ok(ReplayArgs {
+        file,
+        addresses: addresses_in(alloc, matches)?,
+        gap: gap_in(matches),
         wav: matches.get_str("wav"),
         chart: matches.get_str("chart"),
+    })
+}
+
+/// Returns the longest step forward of a capture's time that is no fault, in seconds.
+fn gap_in(matches: &ArgMatches<'_>) -> u64 {
+    matches.get_one::<u64>("gap").unwrap_or(GAP)
+}
+
+/// Returns the words of `--path`.
+fn addresses_in<'a>(alloc: Global, matches: &ArgMatches<'a>) -> Result<Vec<&'a str>, AllocError> {
+    let mut addresses = Vec::new(alloc);
+    if let Some(words) = matches.get_strs("path") {
+        addresses.extend_from_slice(words)?;
     }
+    Ok(addresses)
 }
 
 /// Returns the arguments of `live`. With `--clock tai` and no `--tai-offset`, the offset is the one that the system
@@ -102,14 +160,11 @@ fn live_options(matches: &ArgMatches<'_>) -> LiveOptions {
 }
 
 /// Returns the arguments of `import`.
-fn import_args<'a>(alloc: Global, matches: &ArgMatches<'a>) -> Result<ImportArgs<'a>, Error> {
-    let mut addresses = Vec::new(alloc);
-    if let Some(words) = matches.get_strs("path") {
-        addresses.extend_from_slice(words)?;
-    }
+fn import_args<'a>(alloc: Global, matches: &ArgMatches<'a>) -> Result<ImportArgs<'a>, AllocError> {
     Ok(ImportArgs {
-        addresses,
+        addresses: addresses_in(alloc, matches)?,
         config: matches.get_flag("config"),
         latency: matches.get_one::<u32>("latency"),
+        gap: gap_in(matches),
     })
 }

@@ -75,7 +75,8 @@ pub enum CaptureInputFault {
     /// The capture could not be read.
     #[error("device: capture")]
     Unread,
-    /// The capture has more than 67,108,864 octets, as many as a trace may have. `replay` has no such limit.
+    /// The capture has more than 67,108,864 octets, as many as a trace may have. `streams` and `replay` have no such
+    /// limit.
     #[error("capture: too long")]
     TooLong,
     /// A capture on standard input is not the record of a live run.
@@ -87,6 +88,22 @@ pub enum CaptureInputFault {
     /// The capture's first fault in its format, with the octet at which it is.
     #[error("capture {0}")]
     Octet(CaptureFault),
+    /// The capture's time steps back by more than a second: at the octet behind so many others, by so many seconds.
+    #[error("capture octet {place}: time jumps by -{seconds} s")]
+    TimeBack {
+        /// The number of octets before the record or block.
+        place: usize,
+        /// The step's length in seconds, rounded up.
+        seconds: u64,
+    },
+    /// The capture's time steps forward by more than `--gap`: at the octet behind so many others, by so many seconds.
+    #[error("capture octet {place}: time jumps by {seconds} s; --gap allows it")]
+    TimeAhead {
+        /// The number of octets before the record or block.
+        place: usize,
+        /// The step's length in seconds, rounded up.
+        seconds: u64,
+    },
     /// No trace or no configuration can be made from the capture.
     #[error("capture: {0}")]
     Import(ImportFault),

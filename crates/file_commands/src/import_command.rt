@@ -1,4 +1,5 @@
 //! The command `import`: a capture as a trace, or the configuration that fits it.
+use crate::capture_flows::{addresses_in, check_times};
 use crate::fault::{CaptureInputFault, CommandFault};
 use crate::host::{Host, read_capture};
 use crate::streams_command::own_fault;
@@ -10,7 +11,8 @@ use std::net::SocketAddrV4;
 use studio_run::write_text;
 
 /// Writes the trace of the capture at a path, or the configuration that fits it. If some flows were left out, it writes
-/// their number to `faults`. A fault of the capture itself is returned after that, since the packets before it count.
+/// their number to `faults`. A fault of the capture itself is returned after that, since the packets before it count;
+/// the fault of a time that jumps before anything is written.
 pub fn run_import<H: Host>(
     host: &H,
     alloc: Global,
@@ -21,8 +23,11 @@ pub fn run_import<H: Host>(
 ) -> Result<(), CommandFault> {
     let addresses = addresses_in(alloc, args.addresses.as_slice())?;
     let octets = read_capture(host, alloc, path)?;
+    let table = FlowTable::of(alloc, octets.as_slice())?;
+    check_times(host, alloc, path, &table, args.gap)?;
     import_octets::<H>(
         alloc,
+        &table,
         octets.as_slice(),
         addresses.as_slice(),
         args,
@@ -31,22 +36,22 @@ pub fn run_import<H: Host>(
     )
 }
 
-/// Writes the trace or the configuration of a capture's octets, for the flows to these addresses.
+/// Writes the trace or the configuration of a capture's octets, for the flows of its table to these addresses.
 fn import_octets<H: Host>(
     alloc: Global,
+    table: &FlowTable,
     octets: &[u8],
     addresses: &[SocketAddrV4],
     args: &ImportArgs<'_>,
     output: &mut H::Stdout,
     faults: &mut H::Stderr,
 ) -> Result<(), CommandFault> {
-    let table = FlowTable::of(alloc, octets)?;
-    let left_out = import_flows(alloc, &table, octets, addresses, args, output)?;
+    let left_out = import_flows(alloc, table, octets, addresses, args, output)?;
     if left_out > 0 {
         // If this line cannot be written it is lost, as a fault's line is.
         let _ = writeln!(faults, "capture: flows left out: {left_out}");
     }
-    own_fault(&table)
+    own_fault(table)
 }
 
 /// Writes the trace or the configuration of a capture's flows to these addresses, and returns the number of flows that
@@ -137,16 +142,4 @@ fn fault_of(fault: ImportFault) -> CommandFault {
         ImportFault::Memory => CommandFault::Memory,
         other => CommandFault::Capture(CaptureInputFault::Import(other)),
     }
-}
-
-/// Returns the addresses and ports that words name. Returns `CommandFault::Address` for a word that names none.
-fn addresses_in(alloc: Global, words: &[&str]) -> Result<Vec<SocketAddrV4>, CommandFault> {
-    let mut addresses = Vec::new(alloc);
-    for word in words.iter() {
-        let Ok(address) = word.parse::<SocketAddrV4>() else {
-            return Err(CommandFault::Address);
-        };
-        addresses.push(address)?;
-    }
-    Ok(addresses)
 }

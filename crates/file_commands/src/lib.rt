@@ -10,6 +10,7 @@
 //! `read_config` and `parse_studio` read a configuration.
 #![tactic(auto)]
 
+mod capture_flows;
 mod config;
 mod config_summary;
 mod fault;

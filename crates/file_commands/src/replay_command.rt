@@ -1,16 +1,14 @@
 //! The command `replay`: the report of a capture, with a WAV file and a chart in addition to it.
 ghost use Rattle.std.specs.Prelude.{[]};
 
+use crate::capture_flows::routes_at;
 use crate::config::studio_of;
-use crate::fault::{CaptureInputFault, CommandFault};
-use crate::host::{Host, STDIN_PATH, open_capture, refuse_inputs};
-use crate::import_command::routes_to;
-use crate::replay_input::{PeekedInput, opening_in, paths_in, read_front, studio_for};
+use crate::fault::CommandFault;
+use crate::host::{Host, open_capture};
 use crate::replay_outputs::{ReplayOutputs, create_wav, finish_wav, write_chart};
 use command_line::ReplayArgs;
-use pcap_file::CaptureFault;
-use pcap_flows::{FlowTable, Routes};
-use pcap_replay::{ReplayObserver, WavObserver, replay, replay_record, scan_flows};
+use pcap_flows::Routes;
+use pcap_replay::{ReplayObserver, record_opening, replay, replay_record};
 use reception_chart::{Extent, StudioTracker};
 use std::alloc::Global;
 use std::io;
@@ -58,11 +56,8 @@ pub fn run_replay<H: Host>(
     refuse_inputs(host, "wav", args.wav, &[config, capture], faults)?;
     refuse_inputs(host, "chart", args.chart, &[config, capture], faults)?;
     let studio = studio_of(host, alloc, config)?;
-    if is_stdin {
-        return replay_input(host, alloc, studio, args, input, output, faults);
-    }
-    let source = source_of(host, alloc, studio, args.file)?;
-    source.replay(host, alloc, args, output, faults)
+    let source = source_of(host, alloc, studio, &args)?;
+    source.replay(host, alloc, &args, output, faults)
 }
 
 /// Writes the report of the record on standard input, and then the WAV file that is asked for.
@@ -139,33 +134,37 @@ fn source_of<H: Host>(
     host: &H,
     alloc: Global,
     studio: StudioSpec,
-    path: &str,
+    args: &ReplayArgs<'_>,
 ) -> Result<ReplaySource, CommandFault> {
-    match opening_in(alloc, &mut open_capture(host, path)?)? {
-        Some(opening) => {
-            let paths = paths_in(alloc, &mut open_capture(host, path)?)?;
-            Ok(ReplaySource {
-                studio: studio_for(alloc, studio, opening, paths.as_slice())?,
-                kind: CaptureKind::Record,
-            })
-        }
+    match opening_at(host, alloc, args.file)? {
+        Some(opening) => Ok(ReplaySource {
+            studio: opened_at(alloc, studio, opening)?,
+            kind: CaptureKind::Record,
+        }),
         None => Ok(ReplaySource {
-            kind: CaptureKind::Flows(routes_at(host, alloc, path)?),
+            kind: CaptureKind::Flows(routes_at(
+                host,
+                alloc,
+                args.file,
+                args.addresses.as_slice(),
+                args.gap,
+            )?),
             studio,
         }),
     }
 }
 
-/// Returns the routes of the flows of the capture at a path.
-fn routes_at<H: Host>(host: &H, alloc: Global, path: &str) -> Result<Routes, CommandFault> {
-    let table = table_at(host, alloc, path)?;
-    routes_to(alloc, &table, &[])
+/// Returns the studio for a record, which opens at the time at which the recorded run opened.
+fn opened_at(alloc: Global, studio: StudioSpec, opening: u64) -> Result<StudioSpec, CommandFault> {
+    // A time of 2^63 or more becomes one that `shifted` refuses: it is past 2^60.
+    let open_at = i64::try_from(opening).unwrap_or(i64::MAX);
+    Ok(studio.shifted(alloc, open_at)?)
 }
 
-/// Returns the flows of the capture at a path.
-fn table_at<H: Host>(host: &H, alloc: Global, path: &str) -> Result<FlowTable, CommandFault> {
+/// Returns the opening time of a live run, in sampling instants, if the capture at a path is the record of one.
+fn opening_at<H: Host>(host: &H, alloc: Global, path: &str) -> Result<Option<u64>, CommandFault> {
     let mut input = open_capture(host, path)?;
-    Ok(scan_flows(alloc, &mut input)?)
+    Ok(record_opening(alloc, &mut input)?)
 }
 
 impl ReplaySource {
@@ -174,7 +173,7 @@ impl ReplaySource {
         &self,
         host: &H,
         alloc: Global,
-        args: ReplayArgs<'_>,
+        args: &ReplayArgs<'_>,
         output: &mut H::Stdout,
         faults: &mut H::Stderr,
     ) -> Result<(), CommandFault> {

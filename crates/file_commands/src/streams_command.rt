@@ -1,43 +1,49 @@
 //! The command `streams`: the RTP flows of a capture.
+use crate::capture_flows::{check_times, table_at};
 use crate::fault::{CaptureInputFault, CommandFault};
-use crate::host::{Host, read_capture};
-use pcap_flows::{FlowTable, table_text};
+use crate::host::{Host, open_capture};
+use command_line::StreamsArgs;
+use pcap_flows::{FlowTable, StreamList, table_text};
 use std::alloc::Global;
-use std::io::Write;
 use studio_run::write_text;
 
-/// Writes a line for each RTP flow of the capture at a path, stream by stream. A fault of the capture itself is
-/// returned after the lines of the flows before it are written.
+/// The greatest number of passes over a capture for the skews of its paths: those of 256 flows, 16 at a time.
+const MAX_PASSES: u32 = 16;
+
+/// Writes a line for each path of the RTP streams of a capture, stream by stream, and lines for its other flows. A
+/// fault of the capture itself or of its times is returned after these lines are written.
+///
+/// The capture is opened several times, so that it need not fit in memory: for its flows, and for each 16 skews.
 pub fn run_streams<H: Host>(
     host: &H,
     alloc: Global,
-    path: &str,
+    args: StreamsArgs<'_>,
     output: &mut H::Stdout,
 ) -> Result<(), CommandFault> {
-    let octets = read_capture(host, alloc, path)?;
-    write_streams(alloc, octets.as_slice(), output)
-}
-
-/// Writes the lines of the flows of a capture's octets, and returns the capture's own fault.
-fn write_streams<W: Write>(
-    alloc: Global,
-    octets: &[u8],
-    output: &mut W,
-) -> Result<(), CommandFault> {
-    let table = FlowTable::of(alloc, octets)?;
-    write_table(alloc, &table, octets, output)?;
+    let table = table_at(host, alloc, args.file)?;
+    let list = measured_list(host, alloc, args.file, &table)?;
+    let text = table_text(alloc, &table, &list, args.all)?;
+    write_text(output, text.as_bytes())?;
+    check_times(host, alloc, args.file, &table, args.gap)?;
     own_fault(&table)
 }
 
-/// Writes the lines of a capture's flows.
-fn write_table<W: Write>(
+/// Returns the streams of the capture at a path, with the skews of their paths.
+fn measured_list<H: Host>(
+    host: &H,
     alloc: Global,
+    path: &str,
     table: &FlowTable,
-    octets: &[u8],
-    output: &mut W,
-) -> Result<(), CommandFault> {
-    let text = table_text(alloc, table, octets)?;
-    Ok(write_text(output, text.as_bytes())?)
+) -> Result<StreamList, CommandFault> {
+    let mut list = StreamList::new(alloc, table)?;
+    for _pass in 0..MAX_PASSES {
+        if list.is_measured() {
+            break;
+        }
+        let mut input = open_capture(host, path)?;
+        list.measure(alloc, &mut input)?;
+    }
+    Ok(list)
 }
 
 /// Returns a capture's own fault as an error, if it has one.

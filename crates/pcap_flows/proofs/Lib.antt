@@ -1,2 +1,3 @@
 pub mod FlowTableLemmas
+pub mod StreamLemmas
 pub mod TraceLemmas

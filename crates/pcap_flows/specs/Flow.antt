@@ -1,5 +1,5 @@
 -- A flow's packets, counted.
-use Rattle.std.specs.Prelude.{ℕ, ◌+◌, ◌-◌, ◌%◌, ◌^◌, Bool, false, min, max, Option, Some, None, ◌==◌, not, ◌||◌, if◌then◌else◌}
+use Rattle.std.specs.Prelude.{ℕ, ◌+◌, ◌-◌, ◌%◌, ◌^◌, Bool, true, false, min, max, Option, Some, None, unwrap_or, ◌==◌, not, ◌||◌, if◌then◌else◌}
 use Rattle.pcap_flows.specs.declared.packet.FlowPacket.{FlowPacket}
 use Rattle.pcap_flows.specs.declared.flow.Lengths.{Lengths}
 use Rattle.pcap_flows.specs.declared.flow.Steps.{Steps}
@@ -19,31 +19,34 @@ abbrev pub lengths_with : Lengths → ℕ → Lengths
 lengths_with l len = record { least = min l.least len; greatest = max l.greatest len }
 
 abbrev pub steps_first : ℕ → ℕ → Steps
-steps_first seq ts = record { seq = seq; ts = ts; first = None; varies = false }
+steps_first seq ts = record { seq = seq; ts = ts; first = None; same = 0; varies = false }
 
 -- a step from the packet of one number to that of the next
 abbrev pub step_of : Steps → ℕ → ℕ
 step_of s ts = (2 ^ 32 + ts - s.ts) % 2 ^ 32
 
-abbrev pub first_step : Option ℕ → ℕ → Option ℕ
-first_step None step = Some step
-first_step (Some first) step = Some first
-
-abbrev pub varies_with : Option ℕ → Bool → ℕ → Bool
-varies_with None varies step = varies
-varies_with (Some first) varies step = varies || not (first == step)
+-- a step is the first, or equal to it
+abbrev pub is_same_step : Option ℕ → ℕ → Bool
+is_same_step None step = true
+is_same_step (Some first) step = first == step
 
 unfoldable pub steps_with : Steps → ℕ → ℕ → Steps
 steps_with s seq ts =
     if seq == (s.seq + 1) % 2 ^ 16
-    then record { seq = seq; ts = ts; first = first_step s.first (step_of s ts); varies = varies_with s.first s.varies (step_of s ts) }
-    else record { seq = seq; ts = ts; first = s.first; varies = s.varies }
+    then record {
+      seq = seq;
+      ts = ts;
+      first = Some (unwrap_or s.first (step_of s ts));
+      same = if is_same_step s.first (step_of s ts) then one_more s.same else s.same;
+      varies = s.varies || not (is_same_step s.first (step_of s ts));
+    }
+    else record { seq = seq; ts = ts; first = s.first; same = s.same; varies = s.varies }
 
 -- a flow of one packet
 abbrev pub flow_first : FlowPacket → FlowView
 flow_first s = record {
   packets = 1;
-  numbers = numbers_first s.seq;
+  numbers = numbers_first s.seq s.ts;
   lengths = lengths_first s.len;
   steps = steps_first s.seq s.ts;
 }
@@ -52,7 +55,7 @@ flow_first s = record {
 abbrev pub flow_with : FlowView → FlowPacket → FlowView
 flow_with f s = record {
   packets = one_more f.packets;
-  numbers = numbers_with f.numbers s.seq;
+  numbers = numbers_with f.numbers s.seq s.ts;
   lengths = lengths_with f.lengths s.len;
   steps = steps_with f.steps s.seq s.ts;
 }

@@ -4,7 +4,9 @@ use Rattle.pcap_file.specs.declared.fault.CaptureFault.{CaptureFault}
 use Rattle.pcap_file.specs.Capture.{Item}
 use Rattle.pcap_flows.specs.declared.packet.FlowKey.{FlowKey}
 use Rattle.pcap_flows.specs.declared.packet.FlowPacket.{FlowPacket}
+use Rattle.pcap_flows.specs.declared.capture_times.CaptureTimes.{CaptureTimes}
 use Rattle.pcap_flows.specs.declared.table.FlowTable.{FlowTable}
+use Rattle.pcap_flows.specs.CaptureTimes.{times_begun, times_with}
 use Rattle.pcap_flows.specs.FlowPacket.{flow_packet_of, same_flow}
 use Rattle.pcap_flows.specs.ReceivedNumbers.{one_more}
 use Rattle.pcap_flows.specs.Flow.{FlowView, flow_first, flow_with, flow_view}
@@ -18,13 +20,15 @@ pub record TableView : Type 0 where
   -- packets that are no RTP
   pub not_rtp : ℕ
   pub fault : Option CaptureFault
+  -- the steps of the capture's time
+  pub times : CaptureTimes
 
 abbrev pub no_table : TableView
-no_table = record { keys = []; flows = []; untracked = 0; not_rtp = 0; fault = None }
+no_table = record { keys = []; flows = []; untracked = 0; not_rtp = 0; fault = None; times = times_begun }
 
 -- a flow's first packet
 abbrev pub table_begun : TableView → FlowPacket → TableView
-table_begun t s = record { keys = t.keys ++ s.key ∷ []; flows = t.flows ++ flow_first s ∷ []; untracked = t.untracked; not_rtp = t.not_rtp; fault = t.fault }
+table_begun t s = record { keys = t.keys ++ s.key ∷ []; flows = t.flows ++ flow_first s ∷ []; untracked = t.untracked; not_rtp = t.not_rtp; fault = t.fault; times = t.times }
 
 -- a packet of the flow at a place, or of a new one, of which there are 256 at most
 abbrev pub counted_at : TableView → FlowPacket → Option ℕ → TableView
@@ -34,24 +38,29 @@ counted_at t s (Some place) = record {
   untracked = t.untracked;
   not_rtp = t.not_rtp;
   fault = t.fault;
+  times = t.times;
 }
 counted_at t s None =
     if nat_lt (length t.keys) 256
     then table_begun t s
-    else record { keys = t.keys; flows = t.flows; untracked = one_more t.untracked; not_rtp = t.not_rtp; fault = t.fault }
+    else record { keys = t.keys; flows = t.flows; untracked = one_more t.untracked; not_rtp = t.not_rtp; fault = t.fault; times = t.times }
 
 -- a packet is counted in its flow
 unfoldable pub table_counting : TableView → FlowPacket → TableView
 table_counting t s = counted_at t s (position (same_flow s.key) t.keys)
 
 abbrev pub table_telling : TableView → Option FlowPacket → TableView
-table_telling t None = record { keys = t.keys; flows = t.flows; untracked = t.untracked; not_rtp = one_more t.not_rtp; fault = t.fault }
+table_telling t None = record { keys = t.keys; flows = t.flows; untracked = t.untracked; not_rtp = one_more t.not_rtp; fault = t.fault; times = t.times }
 table_telling t (Some s) = table_counting t s
+
+-- the time of each UDP packet
+abbrev pub table_timed : TableView → Option ℕ → TableView
+table_timed t time = record { keys = t.keys; flows = t.flows; untracked = t.untracked; not_rtp = t.not_rtp; fault = t.fault; times = times_with t.times time }
 
 -- the items of a capture are counted
 unfoldable pub table_with : TableView → Item → TableView
-table_with t (Ok packet) = table_telling t (flow_packet_of packet)
-table_with t (Err fault) = record { keys = t.keys; flows = t.flows; untracked = t.untracked; not_rtp = t.not_rtp; fault = Some fault }
+table_with t (Ok packet) = table_telling (table_timed t packet.time) (flow_packet_of packet)
+table_with t (Err fault) = record { keys = t.keys; flows = t.flows; untracked = t.untracked; not_rtp = t.not_rtp; fault = Some fault; times = t.times }
 
 -- all of it, one after the other
 unfoldable pub table_after : TableView → List Item → TableView
@@ -60,4 +69,4 @@ table_after t (item ∷ items) = table_after (table_with t item) items
 
 -- the view of the value in the code
 abbrev pub table_view : FlowTable → TableView
-table_view t = record { keys = t.keys.items; flows = map flow_view t.flows.items; untracked = t.untracked; not_rtp = t.not_rtp; fault = t.fault }
+table_view t = record { keys = t.keys.items; flows = map flow_view t.flows.items; untracked = t.untracked; not_rtp = t.not_rtp; fault = t.fault; times = t.times }

@@ -5,3 +5,8 @@ pub mod FlowTable
 pub mod Clock
 pub mod TraceLines
 pub mod Trace
+pub mod SamePackets
+pub mod CaptureTimes
+pub mod Streams
+pub mod Routes
+pub mod PacketFormat

@@ -1,5 +1,6 @@
--- Extended sequence numbers (RFC 3550, 6.4.1 and A.1), and which of them a capture has.
-use Rattle.std.specs.Prelude.{ℕ, ◌+◌, ◌-◌, ◌%◌, ◌^◌, List, replicate, set, slice_index, min, max, nat_lt, ◌==◌, if◌then◌else◌}
+-- Extended sequence numbers (RFC 3550, 6.4.1 and A.1), and which of them a capture has, with their timestamps.
+use Rattle.std.specs.Prelude.{ℕ, ◌+◌, ◌-◌, ◌%◌, ◌^◌, Bool, List, replicate, set, slice_index_or, min, max, nat_lt, ◌==◌, ◌&&◌, not, if◌then◌else◌}
+use Rattle.pcap_flows.specs.declared.received_numbers.Received.{Received}
 use Rattle.pcap_flows.specs.declared.received_numbers.ReceivedNumbers.{ReceivedNumbers}
 
 pub record NumbersView : Type 0 where
@@ -7,8 +8,8 @@ pub record NumbersView : Type 0 where
   pub greatest : ℕ
   -- the number of repeated numbers
   pub repeated : ℕ
-  -- the last number with each 16 bits, or 0
-  pub last_seen : List ℕ
+  -- the last packet with each 16 bits; its number is 0 if there was none
+  pub last_seen : List Received
 
 -- one more, as far as 64 bits hold it
 abbrev pub one_more : ℕ → ℕ
@@ -29,30 +30,34 @@ number_near greatest seq =
     then min (greatest + ahead_of greatest seq) (2 ^ 64 - 1)
     else greatest - (65_536 - ahead_of greatest seq)
 
--- no number
-unfoldable pub no_numbers : List ℕ
-no_numbers = replicate 65_536 0
+-- no packet
+abbrev pub no_packet : Received
+no_packet = record { number = 0; ts = 0 }
 
--- a single number
-abbrev pub numbers_first : ℕ → NumbersView
-numbers_first seq = record {
+-- no packet with any 16 bits
+unfoldable pub no_numbers : List Received
+no_numbers = replicate 65_536 no_packet
+
+-- a single packet
+abbrev pub numbers_first : ℕ → ℕ → NumbersView
+numbers_first seq ts = record {
   least = first_number seq;
   greatest = first_number seq;
   repeated = 0;
-  last_seen = set no_numbers seq (first_number seq);
+  last_seen = set no_numbers seq (record { number = first_number seq; ts = ts });
 }
 
--- one number more
-abbrev pub numbers_and : NumbersView → ℕ → ℕ → NumbersView
-numbers_and n seq number = record {
+-- one packet more
+abbrev pub numbers_and : NumbersView → ℕ → ℕ → ℕ → NumbersView
+numbers_and n seq ts number = record {
   least = min n.least number;
   greatest = max n.greatest number;
-  repeated = if slice_index n.last_seen seq == number then one_more n.repeated else n.repeated;
-  last_seen = set n.last_seen seq number;
+  repeated = if (slice_index_or n.last_seen seq no_packet).number == number then one_more n.repeated else n.repeated;
+  last_seen = set n.last_seen seq (record { number = number; ts = ts });
 }
 
-abbrev pub numbers_with : NumbersView → ℕ → NumbersView
-numbers_with n seq = numbers_and n seq (number_near n.greatest seq)
+abbrev pub numbers_with : NumbersView → ℕ → ℕ → NumbersView
+numbers_with n seq ts = numbers_and n seq ts (number_near n.greatest seq)
 
 -- numbers from the least to the greatest
 abbrev pub span_of : NumbersView → ℕ

@@ -26,11 +26,11 @@ pub(crate) struct Flow {
 }
 
 impl Flow {
-    /// A flow with its first packet. Returns `AllocError` if the allocation of 512 KiB fails.
+    /// A flow with its first packet. Returns `AllocError` if the allocation of 1 MiB fails.
     pub(crate) fn new(alloc: Global, first: &FlowPacket) -> Result<Flow, AllocError>
         ensures { IfOk result (λ flow. flow_view flow ≡ flow_first first.now) }
     {
-        let numbers = ReceivedNumbers::new(alloc, first.seq)?;
+        let numbers = ReceivedNumbers::new(alloc, first.seq, first.ts)?;
         Ok(Flow {
             packets: 1,
             numbers,
@@ -44,7 +44,7 @@ impl Flow {
         ensures { flow_view self.new ≡ flow_with (flow_view self.old) next.now }
     {
         self.packets = self.packets.saturating_add(1);
-        self.numbers.add(next.seq);
+        self.numbers.add(next.seq, next.ts);
         self.lengths.add(next.len);
         self.steps.add(next.seq, next.ts);
     }
@@ -124,6 +124,8 @@ pub(crate) struct Steps {
     pub ts: u32,
     /// The first such step, in sampling instants.
     pub first: Option<u32>,
+    /// The number of steps that are the first or equal to it.
+    pub same: u64,
     /// True if another step was different.
     pub varies: bool,
 }
@@ -137,6 +139,7 @@ impl Steps {
             seq,
             ts,
             first: None,
+            same: 0,
             varies: false,
         }
     }
@@ -149,8 +152,11 @@ impl Steps {
         if seq == self.seq.wrapping_add(1) {
             let step = ts.wrapping_sub(self.ts);
             match self.first {
-                None => self.first = Some(step),
-                Some(first) => self.varies = self.varies || first != step,
+                Some(first) if first != step => self.varies = true,
+                _ => {
+                    self.first = Some(step);
+                    self.same = self.same.saturating_add(1);
+                }
             }
         }
         self.seq = seq;

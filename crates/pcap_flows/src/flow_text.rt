@@ -2,30 +2,39 @@
 use crate::flow::{Flow, Lengths, Steps};
 use crate::packet::FlowKey;
 use crate::packet_format::channels_that_fit;
-use crate::skew::{FlowPair, Skew, push_pairs, skews_of};
-use crate::streams::{StreamFlows, group_streams};
+use crate::skew::Skew;
+use crate::stream_list::StreamList;
+use crate::streams::{FlowPath, StreamFlows};
 use crate::table::FlowTable;
+use rtp_stream::Path;
 use rtp_wire::Enc;
 use std::alloc::{AllocError, Global};
 use std::net::Ipv4Addr;
 
-/// The names of a stream's paths.
-const NAMES: [&str; 4] = ["a", "b", "c", "d"];
-
-/// The names of the paths after the first.
-const FURTHER: [&str; 3] = ["b", "c", "d"];
-
 /// The encodings of a stream's samples.
 const ENCODINGS: [Enc; 2] = [Enc::L16, Enc::L24];
 
-/// Returns a line for each flow of a capture's table, stream by stream. A stream of several paths has a line for the
-/// skew of each further path behind these. `octets` is the capture. Returns `AllocError` if an allocation fails.
-pub fn table_text(alloc: Global, table: &FlowTable, octets: &[u8]) -> Result<String, AllocError> {
-    let streams = group_streams(alloc, table)?;
-    let pairs = pairs_of(alloc, table, streams.as_slice())?;
-    let skews = skews_of(alloc, octets, pairs.as_slice())?;
+/// Returns a line for each path of a capture's streams, stream by stream. A stream of several paths has a line for the
+/// skew of each further path behind these. The other flows are counted in a line, or, if `lists_all` is true, have a
+/// line each. Returns `AllocError` if an allocation fails.
+pub fn table_text(
+    alloc: Global,
+    table: &FlowTable,
+    list: &StreamList,
+    lists_all: bool,
+) -> Result<String, AllocError> {
     let mut text = String::new(alloc);
-    push_streams(&mut text, table, streams.as_slice(), skews.as_slice())?;
+    push_streams(
+        &mut text,
+        table,
+        list.streams.as_slice(),
+        list.skews.as_slice(),
+    )?;
+    if lists_all {
+        push_others(&mut text, table, list.paths.as_slice())?;
+    } else {
+        push_other_count(&mut text, table, list.streams.as_slice())?;
+    }
     push_rest(&mut text, table)?;
     Ok(text)
 }
@@ -46,6 +55,53 @@ fn push_streams(
         place = next;
     }
     Ok(())
+}
+
+/// Appends a line for each flow of a stream that is not listed.
+fn push_others(text: &mut String, table: &FlowTable, paths: &[FlowPath]) -> Result<(), AllocError> {
+    for path in paths.iter() {
+        if !StreamFlows::new(paths, path.first).is_shown(table) {
+            push_other(text, table, path.place)?;
+        }
+    }
+    Ok(())
+}
+
+/// Appends the line of the flow at a place, which is no path of a stream that is listed.
+fn push_other(text: &mut String, table: &FlowTable, place: usize) -> Result<(), AllocError> {
+    let Some((key, flow)) = table.flow(place) else {
+        return Ok(());
+    };
+    text.push_str("flow: ")?;
+    push_flow(text, &key, flow)
+}
+
+/// Appends the number of flows of streams that are not listed, if there are any.
+fn push_other_count(
+    text: &mut String,
+    table: &FlowTable,
+    streams: &[StreamFlows],
+) -> Result<(), AllocError> {
+    let mut others = table.flows().len();
+    for stream in streams.iter() {
+        others = others.saturating_sub(stream.places().len());
+    }
+    if others > 0 {
+        writeln!(
+            text,
+            "flows that are not shown to be RTP streams: {others}; --all lists them"
+        )?;
+    }
+    Ok(())
+}
+
+/// Returns the name of the path with a number.
+fn path_name(number: usize) -> &'static str {
+    match u8::try_from(number).ok().and_then(Path::new) {
+        Some(path) => path.letter(),
+        // Never: a stream has at most four paths.
+        None => "",
+    }
 }
 
 /// Appends the line of each path.
@@ -70,9 +126,10 @@ fn push_path(
     path: usize,
     place: usize,
 ) -> Result<(), AllocError> {
-    let (Some(name), Some((key, flow))) = (NAMES.get(path), table.flow(place)) else {
+    let Some((key, flow)) = table.flow(place) else {
         return Ok(());
     };
+    let name = path_name(path);
     write!(text, "stream {number} path {name}: ")?;
     push_flow(text, &key, flow)
 }
@@ -114,14 +171,28 @@ fn push_steps(text: &mut String, lengths: Lengths, steps: Steps) -> Result<(), A
     match steps.first {
         None => text.push_str("step unknown\n"),
         Some(_) if steps.varies => text.push_str("steps vary\n"),
-        Some(step) if lengths.least != lengths.greatest => writeln!(text, "step {step}"),
+        Some(step) if lengths.least != lengths.greatest => {
+            push_step(text, step)?;
+            text.push_str("\n")
+        }
         Some(step) => push_fits(text, lengths.least, step),
     }
 }
 
+/// Appends a timestamp step with its sign: one of 2^31 or more goes back.
+fn push_step(text: &mut String, step: u32) -> Result<(), AllocError> {
+    let (sign, size) = if step < 0x8000_0000 {
+        ("", step)
+    } else {
+        ("-", 0u32.wrapping_sub(step))
+    };
+    write!(text, "step {sign}{size}")
+}
+
 /// Appends a step, the encodings and channels that fit it, and the packet time.
 fn push_fits(text: &mut String, len: usize, step: u32) -> Result<(), AllocError> {
-    write!(text, "step {step}: ")?;
+    push_step(text, step)?;
+    text.push_str(": ")?;
     if !push_encodings(text, len, step)? {
         return text.push_str("no L16 or L24\n");
     }
@@ -144,19 +215,6 @@ fn push_encodings(text: &mut String, len: usize, step: u32) -> Result<bool, Allo
     Ok(!before.is_empty())
 }
 
-/// Returns each stream's first path with each further one, stream by stream.
-fn pairs_of(
-    alloc: Global,
-    table: &FlowTable,
-    streams: &[StreamFlows],
-) -> Result<Vec<FlowPair>, AllocError> {
-    let mut pairs = Vec::new(alloc);
-    for stream in streams.iter() {
-        push_pairs(&mut pairs, table, stream.places())?;
-    }
-    Ok(pairs)
-}
-
 /// Appends a line for the skew of each further path.
 fn push_skews(text: &mut String, number: usize, skews: &[Option<Skew>]) -> Result<(), AllocError> {
     for (path, skew) in skews.iter().enumerate() {
@@ -172,9 +230,11 @@ fn push_behind(
     path: usize,
     skew: &Option<Skew>,
 ) -> Result<(), AllocError> {
-    let (Some(name), Some(skew)) = (FURTHER.get(path), skew) else {
+    let Some(skew) = skew else {
         return Ok(());
     };
+    // The skews are those of the paths after the first.
+    let name = path_name(path.saturating_add(1));
     write!(text, "stream {number} path {name} behind a: ")?;
     push_skew(text, skew)
 }

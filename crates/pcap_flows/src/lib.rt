@@ -4,11 +4,13 @@
 //! Begin with `FlowTable`. The caller keeps the octets of the capture.
 //!
 //! 1. `FlowTable::of` reads the capture once, and counts the packets of its flows, in the order of
-//!    their first packets.
-//! 2. `table_text` returns a line for each flow of the table, stream by stream. Flows of one source
-//!    that share sequence numbers are paths of one stream. For the times between paths it reads the
-//!    capture once more.
-//! 3. `routes_of` decides which flow is which path of which stream.
+//!    their first packets. `time_jump` returns the longest step of the capture's time, if it is too
+//!    long, and `place_of_packet` the place of its packet in the file.
+//! 2. `StreamList::new` finds the streams of the table that are to be listed. Flows of one source
+//!    whose common packets agree in number and timestamp are paths of one stream. `measure` reads
+//!    the capture once for each 16 skews between paths. `table_text` returns a line for each path,
+//!    stream by stream.
+//! 3. `routes_of` decides which flow is which path of which stream of a trace.
 //! 4. `trace_text` returns the trace of the capture by these routes, and `config_text` a configuration
 //!    that fits it. The clock of a trace counts sampling instants at 48 kHz from the time of the
 //!    first datagram, and never goes back.
@@ -16,24 +18,31 @@
 //! The table, the routes, the texts and the times of up to 16 pairs of paths are allocated.
 #![tactic(auto)]
 
+mod capture_times;
 mod fault;
 mod flow;
 mod flow_text;
 mod import;
 mod packet;
 mod packet_format;
+mod packet_place;
 mod received_numbers;
 mod routes;
+mod same_packets;
 mod sequence;
 mod skew;
+mod stream_list;
 mod streams;
 mod table;
 
+pub use capture_times::TimeJump;
 pub use fault::ImportFault;
 pub use flow_text::table_text;
 pub use import::clock::CaptureClock;
 pub use import::config::config_text;
 pub use import::{MAX_TRACE_EVENTS, MAX_TRACE_OCTETS, datagram_octets, route_in, trace_text};
 pub use packet::FlowKey;
+pub use packet_place::place_of_packet;
 pub use routes::{Route, Routes, routes_of};
+pub use stream_list::StreamList;
 pub use table::FlowTable;

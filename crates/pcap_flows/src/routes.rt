@@ -1,10 +1,15 @@
 //! The routes of a capture's flows.
+ghost use Rattle.std.specs.Prelude.{◌≡◌, ◌++◌, ◌∷◌, [], filter, IfOk, OnOk};
+ghost use Rattle.std.specs.List.{list_any};
+ghost use Rattle.pcap_flows.specs.FlowTable.{table_view};
+ghost use Rattle.pcap_flows.specs.Routes as spec;
+
 use crate::fault::ImportFault;
 use crate::packet::FlowKey;
-use crate::packet_format::first_format;
-use crate::streams::{StreamFlows, group_streams};
+use crate::packet_format::format_of;
+use crate::streams::{FlowPath, paths_of};
 use crate::table::FlowTable;
-use std::alloc::Global;
+use std::alloc::{AllocError, Global};
 use std::net::SocketAddrV4;
 
 /// A flow and the path of a stream that it is in a trace.
@@ -19,12 +24,9 @@ pub struct Route {
 }
 
 /// The greatest number of streams of a trace.
-const MAX_STREAMS: u8 = 16;
+const MAX_STREAMS: usize = 16;
 
-/// The letters of a stream's paths.
-const LETTERS: [u8; 4] = [b'a', b'b', b'c', b'd'];
-
-/// The routes of flows, stream by stream and path by path.
+/// The routes of flows, in the order of the flows.
 #[derive(Drop)]
 pub struct Routes {
     pub(crate) list: Vec<Route>,
@@ -44,73 +46,30 @@ impl Routes {
     pub fn left_out(&self) -> usize {
         self.left_out
     }
-
-    /// Adds the paths of a stream that are named, or all of them if no address is named.
-    fn add(
-        &mut self,
-        table: &FlowTable,
-        names: &[SocketAddrV4],
-        stream: &StreamFlows,
-    ) -> Result<(), ImportFault> {
-        if names.is_empty() && first_format(table, stream.places()).is_none() {
-            return Ok(());
-        }
-        let mut letters = LETTERS.iter();
-        for place in stream.places().iter() {
-            if let Some(key) = table.keys().get(*place)
-                && (names.is_empty() || names.iter().any(|name| is_named(key, name)))
-                && let Some(letter) = letters.next()
-            {
-                self.push(*key, *letter)?;
-            }
-        }
-        // A stream of which no path was added leaves its number to the next.
-        if letters.len() < LETTERS.len() {
-            self.streams = self.streams.saturating_add(1);
-        }
-        Ok(())
-    }
-
-    /// Adds a path of the next stream.
-    fn push(&mut self, key: FlowKey, letter: u8) -> Result<(), ImportFault> {
-        if self.streams >= MAX_STREAMS {
-            return Err(ImportFault::Streams);
-        }
-        let route = Route {
-            key,
-            stream: self.streams,
-            letter,
-        };
-        match self.list.push(route) {
-            Ok(()) => Ok(()),
-            Err(_) => Err(ImportFault::Memory),
-        }
-    }
 }
 
-/// Returns routes of the flows to these addresses, or of all streams with a format if no address is named. The streams
-/// are those of `group_streams`. Returns an error if no flow goes to a named address, there is no route, or there are
-/// more than 16 streams.
+/// Returns routes of the flows to these addresses, or of all streams with a format if no address is named. Returns an
+/// error if no flow goes to a named address, there is no route, or there are more than 16 streams.
 pub fn routes_of(
     alloc: Global,
     table: &FlowTable,
     names: &[SocketAddrV4],
-) -> Result<Routes, ImportFault> {
+) -> Result<Routes, ImportFault>
+    ensures { IfOk result (λ routes. routes.list.items ≡ spec.routes_of (table_view table.now) names.now) }
+{
     check_names(table, names)?;
-    let mut routes = Routes {
-        list: Vec::new(alloc),
-        streams: 0,
-        left_out: 0,
-    };
-    let streams = group_streams(alloc, table)?;
-    for stream in streams.iter() {
-        routes.add(table, names, stream)?;
-    }
-    if routes.list.is_empty() {
+    let chosen = chosen_paths(alloc, table, names)?;
+    let list = routes_for(alloc, chosen.as_slice())?;
+    if list.is_empty() {
         return Err(ImportFault::NoFlow);
     }
-    routes.left_out = table.flows().len().saturating_sub(routes.list.len());
-    Ok(routes)
+    let left_out = table.flows().len().saturating_sub(list.len());
+    let streams = streams_among(chosen.as_slice());
+    Ok(Routes {
+        list,
+        streams: streams.min(MAX_STREAMS) as u8,
+        left_out,
+    })
 }
 
 /// Tests that a flow goes to each named address.
@@ -124,6 +83,162 @@ fn check_names(table: &FlowTable, names: &[SocketAddrV4]) -> Result<(), ImportFa
 }
 
 /// Returns true if a flow goes to an address and a port.
-fn is_named(key: &FlowKey, name: &SocketAddrV4) -> bool {
+fn is_named(key: &FlowKey, name: &SocketAddrV4) -> bool
+    ensures { result ≡ spec.is_named key.now name.now }
+{
     name.ip().to_bits() == key.to && name.port() == key.to_port
+}
+
+/// Returns the paths to these addresses, or those of all streams with a format if no address is named.
+fn chosen_paths(
+    alloc: Global,
+    table: &FlowTable,
+    names: &[SocketAddrV4],
+) -> Result<Vec<FlowPath>, AllocError>
+    ensures { IfOk result (λ chosen. chosen.items ≡ spec.chosen_paths (table_view table.now) names.now) }
+{
+    let paths = paths_of(alloc, table)?;
+    chosen_among(alloc, table, names, paths.as_slice())
+}
+
+/// Returns those of all paths of a table that are taken.
+fn chosen_among(
+    alloc: Global,
+    table: &FlowTable,
+    names: &[SocketAddrV4],
+    paths: &[FlowPath],
+) -> Result<Vec<FlowPath>, AllocError>
+    ensures { IfOk result (λ chosen. chosen.items
+        ≡ filter (spec.is_chosen (table_view table.now) names.now paths.now) paths.now) }
+{
+    let mut chosen = Vec::new(alloc);
+    for place in 0..paths.len() {
+        if is_chosen(table, names, paths, &paths[place]) {
+            chosen.push(paths[place])?;
+        }
+    }
+    Ok(chosen)
+}
+
+/// Returns true if a path goes to one of these addresses, or, if there are none, if its stream has a format.
+fn is_chosen(table: &FlowTable, names: &[SocketAddrV4], paths: &[FlowPath], path: &FlowPath) -> bool
+    ensures { result ≡ spec.is_chosen (table_view table.now) names.now paths.now path.now }
+{
+    match names {
+        [] => has_format(table, paths, path.first),
+        _ => goes_to(&path.key, names),
+    }
+}
+
+/// Returns true if a flow goes to one of these addresses.
+fn goes_to(key: &FlowKey, names: &[SocketAddrV4]) -> bool
+    ensures { result ≡ list_any (spec.is_named key.now) names.now }
+{
+    names.iter().any(|name| is_named(key, name))
+}
+
+/// Returns true if a flow of the stream that begins at a place has a format.
+fn has_format(table: &FlowTable, paths: &[FlowPath], first: usize) -> bool
+    ensures { result ≡ spec.stream_has_format (table_view table.now) paths.now first }
+{
+    paths.iter().any(|path| path.first == first && has_format_at(table, path.place))
+}
+
+/// Returns true if the flow at a place has a format.
+fn has_format_at(table: &FlowTable, place: usize) -> bool
+    ensures { result ≡ spec.has_format_at (table_view table.now) place }
+{
+    match table.flow(place) {
+        Some((key, flow)) => format_of(key.pt, flow).is_some(),
+        None => false,
+    }
+}
+
+/// Returns the routes of the paths that are taken. Returns `Streams` if there are more than 16 streams.
+fn routes_for(alloc: Global, chosen: &[FlowPath]) -> Result<Vec<Route>, ImportFault>
+    ensures { IfOk result (λ routes. routes.items ≡ spec.routes_of_paths chosen.now) }
+{
+    let mut routes = Vec::new(alloc);
+    for place in 0..chosen.len() {
+        let route = route_of_path(chosen, &chosen[place])?;
+        push_route(&mut routes, route)?;
+    }
+    Ok(routes)
+}
+
+/// Appends a route.
+fn push_route(routes: &mut Vec<Route>, route: Route) -> Result<(), AllocError>
+    ensures { OnOk result (routes.new.items ≡ routes.old.items ++ route ∷ []) }
+{
+    routes.push(route)?;
+    Ok(())
+}
+
+/// Returns the route of a path among those that are taken. Streams are numbered by their first flows, and the paths of
+/// each by theirs. Returns `Streams` if 16 streams come before.
+fn route_of_path(chosen: &[FlowPath], path: &FlowPath) -> Result<Route, ImportFault>
+    ensures { IfOk result (λ route. route ≡ spec.route_of_path chosen.now path.now) }
+{
+    let stream = streams_before(chosen, path.first);
+    if stream >= MAX_STREAMS {
+        return Err(ImportFault::Streams);
+    }
+    Ok(Route {
+        key: path.key,
+        stream: stream as u8,
+        letter: letter_of(paths_before(chosen, path)),
+    })
+}
+
+/// Returns the letter of the path with a number.
+fn letter_of(number: usize) -> u8
+    ensures { result ≡ spec.letter_of number }
+{
+    b'a' + number.min(3) as u8
+}
+
+/// Returns the number of streams that have a path among those that are taken.
+fn streams_among(chosen: &[FlowPath]) -> usize {
+    chosen.iter().filter(|path| leads(chosen, path)).count()
+}
+
+/// Returns the number of streams with a path among those that are taken whose first flow is before a place.
+fn streams_before(chosen: &[FlowPath], first: usize) -> usize
+    ensures { result ≡ spec.streams_before chosen.now first }
+{
+    chosen
+        .iter()
+        .filter(|path| path.first < first && leads(chosen, path))
+        .count()
+}
+
+/// Returns the number of paths of the same stream that are taken, of flows before a path's flow.
+fn paths_before(chosen: &[FlowPath], path: &FlowPath) -> usize
+    ensures { result ≡ spec.paths_before chosen.now path.now }
+{
+    chosen
+        .iter()
+        .filter(|other| is_earlier(path, other))
+        .count()
+}
+
+/// Returns true if a path is the first of its stream that is taken.
+fn leads(chosen: &[FlowPath], path: &FlowPath) -> bool
+    ensures { result ≡ spec.leads chosen.now path.now }
+{
+    !has_earlier(chosen, path)
+}
+
+/// Returns true if an earlier path of the same stream is taken.
+fn has_earlier(chosen: &[FlowPath], path: &FlowPath) -> bool
+    ensures { result ≡ list_any (spec.is_earlier path.now) chosen.now }
+{
+    chosen.iter().any(|other| is_earlier(path, other))
+}
+
+/// Returns true if the other path is one of the same stream, of a flow before it.
+fn is_earlier(path: &FlowPath, other: &FlowPath) -> bool
+    ensures { result ≡ spec.is_earlier path.now other.now }
+{
+    other.first == path.first && other.place < path.place
 }

@@ -2,6 +2,7 @@
 ghost use Rattle.std.specs.Prelude.{◌≡◌, IfOk, vec_len};
 ghost use Rattle.pcap_flows.specs.ReceivedNumbers as spec;
 
+use crate::received_numbers::Received;
 use std::alloc::{AllocError, Global};
 
 /// The number of sequence numbers in a cycle, 2^16.
@@ -28,12 +29,12 @@ pub(crate) fn number_near(greatest: u64, seq: u16) -> u64
     }
 }
 
-/// Returns a list of 2^16 zeros, each of which means that there was no packet with this number.
+/// Returns a list of 2^16 numbers 0, each of which means that there was no packet with these 16 bits.
 #[tactic(auto, unfolding(crate::specs::ReceivedNumbers::no_numbers))]
-pub(crate) fn no_numbers(alloc: Global) -> Result<Vec<u64>, AllocError>
+pub(crate) fn no_numbers(alloc: Global) -> Result<Vec<Received>, AllocError>
     ensures items { IfOk result (λ last_seen. last_seen.items ≡ spec.no_numbers) }
     ensures len { IfOk result (λ last_seen. vec_len last_seen ≡ 65536) }
 {
-    let last_seen = Vec::from_elem(alloc, 0u64, CYCLE)?;
+    let last_seen = Vec::from_elem(alloc, Received { number: 0, ts: 0 }, CYCLE)?;
     Ok(last_seen)
 }

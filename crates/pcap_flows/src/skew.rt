@@ -1,9 +1,16 @@
 //! The skew of two paths: the times between the arrivals of the same packet (SMPTE ST 2022-7).
+ghost use Rattle.std.specs.Prelude.{◌≤◌, length, IfOk, IfSome};
+ghost use Rattle.pcap_file.specs.ReadBuffer.{octets_of};
+ghost use Rattle.pcap_file.specs.Reader.{IsNext};
+
 use crate::packet::{FlowKey, FlowPacket, flow_packet};
 use crate::sequence::{CYCLE, first_number, number_near};
 use crate::table::FlowTable;
-use pcap_file::open;
+use pcap_file::{
+    BlockParser, Packet, ReadBuffer, ReaderFault, has_block, next_block, open, open_reader,
+};
 use std::alloc::{AllocError, Global};
+use std::io::Read;
 
 /// The delays of packets on the second path behind the same ones on the first, in nanoseconds; negative if the second
 /// path is earlier.
@@ -35,11 +42,11 @@ pub(crate) struct FlowPair {
 }
 
 /// The greatest number of pairs whose times are kept at once. Those of a pair take 2.5 MiB.
-const MAX_PAIRS: usize = 16;
+pub(crate) const MAX_PAIRS: usize = 16;
 
 /// The times and skews of a pair while a capture is read.
 #[derive(Drop)]
-struct PairTimes {
+pub(crate) struct PairTimes {
     pair: FlowPair,
     times: Vec<Times>,
     greatest: Option<u64>,
@@ -48,7 +55,7 @@ struct PairTimes {
 
 impl PairTimes {
     /// A pair before its first packet.
-    fn new(alloc: Global, pair: FlowPair) -> Result<PairTimes, AllocError> {
+    pub(crate) fn new(alloc: Global, pair: FlowPair) -> Result<PairTimes, AllocError> {
         let none = Times {
             number: 0,
             first: None,
@@ -148,17 +155,70 @@ fn add_capture(times: &mut Vec<PairTimes>, octets: &[u8]) -> Result<(), AllocErr
         let Ok(packet) = item else {
             break;
         };
-        if let Some(next) = flow_packet(&packet) {
-            for pair in times.iter_mut() {
-                pair.add(&next)?;
-            }
+        add_packet(times.as_mut_slice(), &packet)?;
+    }
+    Ok(())
+}
+
+/// Adds the times of all packets of a capture that is read to each pair, up to its end or its fault. Returns an error
+/// if an allocation or a read fails, or a record or block is too long.
+pub(crate) fn add_reader<R: Read>(
+    alloc: Global,
+    times: &mut [PairTimes],
+    reader: &mut R,
+) -> Result<(), ReaderFault> {
+    let (mut window, mut parts) = match open_reader(alloc, reader) {
+        Ok(opened) => opened,
+        Err(ReaderFault::Capture(_)) => return Ok(()),
+        Err(fault) => return Err(fault),
+    };
+    for _ in 0..u64::MAX {
+        if !has_block(&parts, &mut window, reader)? {
+            return Ok(());
+        }
+        match add_next(times, &mut parts, &window)? {
+            Some(len) => window.consume(len),
+            None => return Ok(()),
         }
     }
     Ok(())
 }
 
+/// Adds the time of the packet of the next record or block, and returns its length in octets; none if it is the
+/// capture's fault.
+fn add_next(
+    times: &mut [PairTimes],
+    parts: &mut BlockParser,
+    window: &ReadBuffer,
+) -> Result<Option<usize>, AllocError>
+    requires { IsNext parts.old (octets_of window.now) window.now.ended }
+    ensures { IfOk result (λ passed. IfSome passed (λ len. len ≤ length (octets_of window.now))) }
+{
+    let Ok(part) = next_block(parts, window) else {
+        return Ok(None);
+    };
+    if let Some(packet) = part.packet {
+        add_packet(times, &packet)?;
+    }
+    Ok(Some(part.len))
+}
+
+/// Adds the time of a packet to each pair, if it is an RTP packet of one of its flows.
+fn add_packet(times: &mut [PairTimes], packet: &Packet<'_>) -> Result<(), AllocError> {
+    let Some(next) = flow_packet(packet) else {
+        return Ok(());
+    };
+    for pair in times.iter_mut() {
+        pair.add(&next)?;
+    }
+    Ok(())
+}
+
 /// Appends the skew of each pair, and removes the pairs.
-fn take_skews(times: &mut Vec<PairTimes>, skews: &mut Vec<Option<Skew>>) -> Result<(), AllocError> {
+pub(crate) fn take_skews(
+    times: &mut Vec<PairTimes>,
+    skews: &mut Vec<Option<Skew>>,
+) -> Result<(), AllocError> {
     for pair in times.iter_mut() {
         skews.push(pair.skew())?;
     }

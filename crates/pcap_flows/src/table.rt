@@ -1,15 +1,17 @@
 //! The table of a capture's flows.
-ghost use Rattle.std.specs.Prelude.{◌≡◌, ◌≤◌, IfOk, OnOk, length, vec_len, position};
+ghost use Rattle.std.specs.Prelude.{◌≡◌, ◌≤◌, IfOk, OnOk, length, vec_len, position, option_map, slice_get};
 ghost use Rattle.pcap_file.specs.Capture.{item_view, packets_left, packets_of};
+ghost use Rattle.pcap_flows.specs.CaptureTimes.{jump_of};
 ghost use Rattle.pcap_flows.specs.FlowPacket.{same_flow};
 
+use crate::capture_times::{CaptureTimes, TimeJump};
 use crate::flow::Flow;
 use crate::packet::{FlowKey, FlowPacket, flow_packet};
 use pcap_file::{Capture, CaptureFault, Packet, open};
 use std::alloc::{AllocError, Global};
 
 /// The greatest number of flows of a table.
-// Each takes 512 KiB for its sequence numbers, so a table takes little more than 128 MiB.
+// Each takes 1 MiB for its sequence numbers and timestamps, so a table takes little more than 256 MiB.
 pub(crate) const MAX_FLOWS: usize = 256;
 
 /// The flows of a capture, in the order of their first packets.
@@ -23,6 +25,8 @@ pub struct FlowTable {
     not_rtp: u64,
     /// The fault at which the capture ended.
     fault: Option<CaptureFault>,
+    /// The steps of the capture's time.
+    times: CaptureTimes,
     ghost same: { vec_len flows ≡ vec_len keys },
 }
 
@@ -65,6 +69,7 @@ impl FlowTable {
             untracked: 0,
             not_rtp: 0,
             fault: None,
+            times: CaptureTimes::new(),
         }
     }
 
@@ -111,10 +116,13 @@ impl FlowTable {
         ensures { OnOk result (table_view self.new ≡ table_with (table_view self.old) (item_view item.entry)) }
     {
         match item {
-            Ok(packet) => match flow_packet(&packet) {
-                Some(next) => self.add(alloc, &next)?,
-                None => self.not_rtp = self.not_rtp.saturating_add(1),
-            },
+            Ok(packet) => {
+                self.times.add(packet.time);
+                match flow_packet(&packet) {
+                    Some(next) => self.add(alloc, &next)?,
+                    None => self.not_rtp = self.not_rtp.saturating_add(1),
+                }
+            }
             Err(fault) => self.fault = Some(fault),
         }
         Ok(())
@@ -146,7 +154,10 @@ impl FlowTable {
     }
 
     /// Returns the key and the counts of the flow at a place, if there is one.
-    pub(crate) fn flow(&self, place: usize) -> Option<(FlowKey, &Flow)> {
+    pub(crate) fn flow(&self, place: usize) -> Option<(FlowKey, &Flow)>
+        ensures key { option_map (λ f. f.0) result ≡ slice_get self.now.keys.items place }
+        ensures flow { option_map (λ f. f.1.now) result ≡ slice_get self.now.flows.items place }
+    {
         Some((*self.keys.get(place)?, self.flows.get(place)?))
     }
 
@@ -174,6 +185,14 @@ impl FlowTable {
         ensures { result ≡ self.now.fault }
     {
         self.fault
+    }
+
+    /// Returns the longest step back of the capture's time if it is longer than a second, or else the longest step
+    /// forward if it is longer than `gap` seconds. Each counts from the latest time of a UDP packet before it.
+    pub fn time_jump(&self, gap: u64) -> Option<TimeJump>
+        ensures { result ≡ jump_of (table_view self.now).times gap }
+    {
+        self.times.jump(gap)
     }
 }
 

@@ -1,0 +1,98 @@
+//! The flows of the capture at a path, and the test of its times.
+use crate::fault::{CaptureInputFault, CommandFault};
+use crate::host::{Host, open_capture};
+use crate::import_command::routes_to;
+use pcap_file::ReaderFault;
+use pcap_flows::{FlowTable, Routes, TimeJump, place_of_packet};
+use pcap_replay::{record_opening, scan_flows};
+use std::alloc::Global;
+use std::net::SocketAddrV4;
+
+/// Returns the flows of the capture at a path, which may be of any length.
+pub(crate) fn table_at<H: Host>(
+    host: &H,
+    alloc: Global,
+    path: &str,
+) -> Result<FlowTable, CommandFault> {
+    let mut input = open_capture(host, path)?;
+    Ok(scan_flows(alloc, &mut input)?)
+}
+
+/// Returns the routes of the flows of the capture at a path to the addresses that words name, or of all flows that fit
+/// a stream if there are no words. Returns the fault of a time that jumps by more than `gap` seconds.
+pub(crate) fn routes_at<H: Host>(
+    host: &H,
+    alloc: Global,
+    path: &str,
+    words: &[&str],
+    gap: u64,
+) -> Result<Routes, CommandFault> {
+    let addresses = addresses_in(alloc, words)?;
+    let table = table_at(host, alloc, path)?;
+    check_times(host, alloc, path, &table, gap)?;
+    routes_to(alloc, &table, addresses.as_slice())
+}
+
+/// Returns the addresses and ports that words name. Returns `CommandFault::Address` for a word that names none.
+pub(crate) fn addresses_in(
+    alloc: Global,
+    words: &[&str],
+) -> Result<Vec<SocketAddrV4>, CommandFault> {
+    let mut addresses = Vec::new(alloc);
+    for word in words.iter() {
+        let Ok(address) = word.parse::<SocketAddrV4>() else {
+            return Err(CommandFault::Address);
+        };
+        addresses.push(address)?;
+    }
+    Ok(addresses)
+}
+
+/// Tests that the time of the capture at a path steps back by at most a second, and forward by at most `gap` seconds.
+/// The times of a live run's record are those of its own clock, which never jumps.
+pub(crate) fn check_times<H: Host>(
+    host: &H,
+    alloc: Global,
+    path: &str,
+    table: &FlowTable,
+    gap: u64,
+) -> Result<(), CommandFault> {
+    match table.time_jump(gap) {
+        Some(jump) if !is_record(host, alloc, path)? => {
+            let place = place_at(host, alloc, path, &jump)?;
+            Err(CommandFault::Capture(jump_fault(place, &jump)))
+        }
+        _ => Ok(()),
+    }
+}
+
+/// Returns true if the capture at a path is the record of a live run.
+fn is_record<H: Host>(host: &H, alloc: Global, path: &str) -> Result<bool, CommandFault> {
+    let mut input = open_capture(host, path)?;
+    Ok(record_opening(alloc, &mut input)?.is_some())
+}
+
+/// Returns the place of the packet with which a capture's time jumps.
+fn place_at<H: Host>(
+    host: &H,
+    alloc: Global,
+    path: &str,
+    jump: &TimeJump,
+) -> Result<usize, CommandFault> {
+    let mut input = open_capture(host, path)?;
+    match place_of_packet(alloc, &mut input, jump.packet)? {
+        Some(place) => Ok(place),
+        // The file has become shorter since its packets were counted.
+        None => Err(CommandFault::from(ReaderFault::ReadFailed)),
+    }
+}
+
+/// Returns the fault of a time that jumps at a place.
+fn jump_fault(place: usize, jump: &TimeJump) -> CaptureInputFault {
+    let seconds = jump.seconds;
+    if jump.is_back {
+        CaptureInputFault::TimeBack { place, seconds }
+    } else {
+        CaptureInputFault::TimeAhead { place, seconds }
+    }
+}
