@@ -190,8 +190,12 @@ failed_sample letter failed =
     metric_text (codes "sends_") (codes "failed") Counter ++ codes "{copy=\"" ++ letter ++ codes "\"" ++ value_text failed
 
 -- those of both
+abbrev pub failed_samples : ℕ → ℕ → List ℕ
+failed_samples failed_a failed_b = failed_sample (codes "a") failed_a ++ failed_sample (codes "b") failed_b
+
+-- the whole metric
 unfoldable pub failed_text : ℕ → ℕ → List ℕ
-failed_text failed_a failed_b = failed_header ++ failed_sample (codes "a") failed_a ++ failed_sample (codes "b") failed_b
+failed_text failed_a failed_b = failed_header ++ failed_samples failed_a failed_b
 
 -- the metric of a record's state
 abbrev pub record_header : List ℕ

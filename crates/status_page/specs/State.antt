@@ -99,7 +99,7 @@ failed_tokens failed =
 -- the state of a record, and how many datagrams it holds
 abbrev pub record_members : RecordState → List Token
 record_members state =
-    key (codes "state") ∷ string (record_text state) ∷ key (codes "datagrams") ∷ known_token (record_datagrams state) ∷ []
+    (key (codes "state") ∷ string (record_text state) ∷ []) ++ key (codes "datagrams") ∷ known_token (record_datagrams state) ∷ []
 
 -- the record
 abbrev pub record_tokens : RecordState → List Token

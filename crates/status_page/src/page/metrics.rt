@@ -11,6 +11,7 @@ ghost use Rattle.status_page.specs.Metrics.{
   stream_families,
   path_families,
   output_families,
+  failed_samples,
   failed_text,
   record_states,
   record_families,
@@ -234,6 +235,13 @@ fn push_failed_sends(text: &mut Vec<u8>, failed_a: u64, failed_b: u64) -> Result
     ensures { OnOk result (text.new.items ≡ text.old.items ++ failed_text failed_a failed_b) }
 {
     push_header(text, "sends_", "failed", MetricKind::Counter, FAILED_HELP)?;
+    push_failed_samples(text, failed_a, failed_b)
+}
+
+/// Appends the lines with the number of datagrams that were not sent, of the first and of the second copy of the mix.
+fn push_failed_samples(text: &mut Vec<u8>, failed_a: u64, failed_b: u64) -> Result<(), AllocError>
+    ensures { OnOk result (text.new.items ≡ text.old.items ++ failed_samples failed_a failed_b) }
+{
     push_failed_sample(text, "a", failed_a)?;
     push_failed_sample(text, "b", failed_b)
 }

@@ -2,6 +2,7 @@
 ghost use Rattle.std.specs.Prelude.{◌≡◌, [], ◌∷◌, ◌++◌, OnOk, IfOk, codes};
 ghost use Rattle.json.specs.Lex.{tokens};
 ghost use Rattle.json.specs.Print.{print};
+ghost use Rattle.json.specs.Token.{key, string};
 ghost use Rattle.status_page.specs.State.{
   array_tokens,
   known_token,
@@ -276,8 +277,26 @@ fn write_record_members(writer: &mut Writer, state: RecordState) -> Result<(), A
     ensures tokens { OnOk result (writer.new.tokens ≡ writer.old.tokens ++ record_members state) }
     ensures before { OnOk result (writer.new.before ≡ writer.old.before) }
 {
+    write_record_state(writer, state.text())?;
+    write_record_datagrams(writer, state.datagrams())
+}
+
+/// Writes the state of the record by its name.
+fn write_record_state(writer: &mut Writer, name: &str) -> Result<(), AllocError>
+    ensures tokens { OnOk result (writer.new.tokens
+        ≡ writer.old.tokens ++ key (codes "state") ∷ string name.now ∷ []) }
+    ensures before { OnOk result (writer.new.before ≡ writer.old.before) }
+{
     writer.key("state")?;
-    writer.string(state.text())?;
+    writer.string(name)
+}
+
+/// Writes the number of datagrams that the record holds, if there is a record.
+fn write_record_datagrams(writer: &mut Writer, count: Option<u64>) -> Result<(), AllocError>
+    ensures tokens { OnOk result (writer.new.tokens
+        ≡ writer.old.tokens ++ key (codes "datagrams") ∷ known_token count ∷ []) }
+    ensures before { OnOk result (writer.new.before ≡ writer.old.before) }
+{
     writer.key("datagrams")?;
-    write_known(writer, state.datagrams())
+    write_known(writer, count)
 }
