@@ -7,6 +7,7 @@ use crate::context::RunContext;
 use crate::fault::LiveFault;
 use crate::inputs::LiveInputs;
 use crate::scoped_thread::with_scoped_thread;
+use crate::shown_health::ShownHealth;
 use crate::single_thread::{OpenRecord, RecordOutput, run_in_one_thread};
 use crate::status::{OpenStatus, open_status};
 use crate::supervisor::stop_flags::StopFlags;
@@ -84,8 +85,6 @@ fn bind_and_run<
     ensures run { IfOk result (IsRunOf options.now.one_thread studio.now) }
     ensures early { IfErr result IsEarly }
 {
-    // Before the first socket, which would else get the descriptor of a standard stream that is closed.
-    open_missing_fds();
     let sockets = open_sockets(rt, alloc, studio, inputs.sockets)?;
     let shown = StatusInputs {
         names: inputs.names,

@@ -65,7 +65,10 @@ impl HealthSource for ShownHealth<'_> {
     }
 
     fn record(&self) -> RecordState {
-        let _not_told = self.recorded;
-        RecordState::Absent
+        match self.recorded.state() {
+            live_io::RecordState::None => RecordState::Absent,
+            live_io::RecordState::Writing(datagrams) => RecordState::Writing(datagrams),
+            live_io::RecordState::Ended(datagrams, _end) => RecordState::Closed(datagrams),
+        }
     }
 }

@@ -32,6 +32,9 @@ pub(crate) enum ProgramFault {
     /// A live run's report was written, but its record ended before the run, for this reason.
     #[error("device: record {0}")]
     RecordEnded(RecordEnd),
+    /// A live run's report was written, but a path ended before the run did, since its socket failed again and again.
+    #[error("live: path ended")]
+    PathEnded,
 }
 
 impl ProgramFault {
@@ -44,7 +47,7 @@ impl ProgramFault {
             ProgramFault::Live(LiveFault::Memory) => 4,
             ProgramFault::Inherited(InheritedSocketFault::Memory) => 4,
             ProgramFault::Live(_) | ProgramFault::Inherited(_) | ProgramFault::Clock => 5,
-            ProgramFault::RecordEnded(_) => 5,
+            ProgramFault::RecordEnded(_) | ProgramFault::PathEnded => 5,
         }
     }
 

@@ -165,10 +165,13 @@ fn finish<W: Write>(
         write_after_report(studio, inputs, args, output)?;
     }
     ran?;
-    match inputs.recorded.end() {
-        Some(end) => Err(ProgramFault::RecordEnded(end)),
-        None => Ok(()),
+    if let Some(end) = inputs.recorded.end() {
+        return Err(ProgramFault::RecordEnded(end));
     }
+    if inputs.sockets.health.has_ended_path() {
+        return Err(ProgramFault::PathEnded);
+    }
+    Ok(())
 }
 
 /// A path of the host's files, at which a run creates its record.
