@@ -1,7 +1,7 @@
 //! The command `live`: a live run, from a configuration to its report and the lines after it.
 use crate::fault::ProgramFault;
 use command_line::LiveArgs;
-use file_commands::{CommandFault, Host, output_result, parse_studio, read_config, table_in};
+use file_commands::{CommandFault, Host, output_result, parse_studio, table_in};
 use live_io::{
     InheritedSockets, LivePorts, RecordResult, RunHealth, SocketConfig, TaiOffset, TaiTime,
     UnexpectedSources, tai_now,
@@ -30,38 +30,25 @@ struct OpenedStudio {
     began: Option<Duration>,
 }
 
-/// Runs the studio of the configuration at a path, as `run_live_config` does with the configuration's octets.
+/// Runs the studio of a configuration's octets over sockets, for so many sampling instants if a number is given, and
+/// writes its report to `output`. If counts are asked for while it runs, they go to `faults`. Files are the host's.
+/// Returns the first fault: of the configuration, of the offset or the time of `--clock`, of a missing port or an
+/// inherited socket, of the record's file, or of the run.
 pub(crate) fn run_live<
     R: Threads + Wait + Sync + Net + Clock + RandomSource + Env + AllocGlobal,
     H: Host,
 >(
     rt: &R,
-    host: &H,
-    alloc: Global,
-    path: &str,
-    args: LiveArgs<'_>,
-    output: &mut H::Stdout,
-    faults: &mut H::Stderr,
-) -> Result<(), ProgramFault> {
-    let config = read_config(host, alloc, path)?;
-    run_live_config(rt, host, alloc, config.as_slice(), args, output, faults)
-}
-
-/// Runs the studio of a configuration's octets over sockets, and writes its report to `output`. If counts are asked for
-/// while it runs, they go to `faults`. Returns the first fault: of the configuration, of the offset or the time of
-/// `--clock`, of a missing port or an inherited socket, of the record's file, or of the run.
-fn run_live_config<
-    R: Threads + Wait + Sync + Net + Clock + RandomSource + Env + AllocGlobal,
-    H: Host,
->(
-    rt: &R,
-    host: &H,
     alloc: Global,
     config: &[u8],
-    args: LiveArgs<'_>,
+    instants: Option<i64>,
     output: &mut H::Stdout,
     faults: &mut H::Stderr,
+    host: &H,
+    args: LiveArgs<'_>,
 ) -> Result<(), ProgramFault> {
+    let mut args = args;
+    args.options.instants = instants;
     let opened = open_studio(rt, alloc, parse_studio(alloc, config)?, args.tai_offset)?;
     let loaded = load_inputs(rt, alloc, &opened.studio, config, args.listen_fds)?;
     // The run creates the record once its sockets are bound. A file that is there already is refused before that.

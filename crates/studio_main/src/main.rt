@@ -132,12 +132,12 @@ fn main(rt: HostRuntime) -> ExitCode {
     let status = match program_args(&rt) {
         Ok(words) => run(
             &rt,
-            &SystemHost { rt: &rt },
             alloc,
             words.as_slice(),
             &mut rt.stdin(),
             &mut rt.stdout(),
             &mut faults,
+            &SystemHost { rt: &rt },
         ),
         Err(fault) => fault.report(&mut faults),
     };

@@ -5,7 +5,7 @@ use clap::Error;
 use clap::error::ErrorKind;
 use command_line::{CliCommand, FileCommand, parse_args};
 use file_commands::{
-    CommandFault, Host, run_chart, run_check, run_import, run_marks, run_marks_to_wav,
+    CommandFault, Host, read_config, run_chart, run_check, run_import, run_marks, run_marks_to_wav,
     run_marks_with_counts, run_play, run_play_to_wav, run_quick_start, run_replay, run_streams,
 };
 use std::alloc::Global;
@@ -18,24 +18,24 @@ use std::thread::Threads;
 use std::time::Clock;
 
 /// Runs the program and returns its exit status. The words do not include the program's name. The text goes to
-/// `output`, and the line of a fault to `faults`.
+/// `output`, and the line of a fault to `faults`. Files are the host's.
 pub(crate) fn run<
     R: Threads + Wait + Sync + Net + Clock + RandomSource + Env + AllocGlobal,
     H: Host,
 >(
     rt: &R,
-    host: &H,
     alloc: Global,
     words: &[String],
     input: &mut H::Stdin,
     output: &mut H::Stdout,
     faults: &mut H::Stderr,
+    host: &H,
 ) -> u8 {
     let command = match parse_args(alloc, words) {
         Ok(command) => command,
         Err(error) => return report_usage(&error, output, faults),
     };
-    match dispatch(rt, host, alloc, command, input, output, faults) {
+    match dispatch(rt, alloc, command, input, output, faults, host) {
         Ok(()) => 0,
         Err(fault) => fault.report(faults),
     }
@@ -60,15 +60,19 @@ fn report_usage<W: Write, E: Write>(error: &Error, output: &mut W, faults: &mut 
 /// Runs the command that the words ask for.
 fn dispatch<R: Threads + Wait + Sync + Net + Clock + RandomSource + Env + AllocGlobal, H: Host>(
     rt: &R,
-    host: &H,
     alloc: Global,
     command: CliCommand<'_>,
     input: &mut H::Stdin,
     output: &mut H::Stdout,
     faults: &mut H::Stderr,
+    host: &H,
 ) -> Result<(), ProgramFault> {
     match command {
-        CliCommand::Live(path, args) => run_live(rt, host, alloc, path, args, output, faults),
+        CliCommand::Live(path, args) => {
+            let config = read_config(host, alloc, path)?;
+            let instants = args.options.instants;
+            run_live(rt, alloc, config.as_slice(), instants, output, faults, host, args)
+        }
         CliCommand::File(command) => {
             Ok(run_file_command(host, alloc, command, input, output, faults)?)
         }
