@@ -57,13 +57,14 @@ pub(crate) fn check_times<H: Host>(
     table: &FlowTable,
     gap: u64,
 ) -> Result<(), CommandFault> {
-    match table.time_jump(gap) {
-        Some(jump) if !is_record(host, alloc, path)? => {
-            let place = place_at(host, alloc, path, &jump)?;
-            Err(CommandFault::Capture(jump_fault(place, &jump)))
-        }
-        _ => Ok(()),
+    let Some(jump) = table.time_jump(gap) else {
+        return Ok(());
+    };
+    if is_record(host, alloc, path)? {
+        return Ok(());
     }
+    let place = place_at(host, alloc, path, &jump)?;
+    Err(CommandFault::Capture(jump_fault(place, &jump)))
 }
 
 /// Returns true if the capture at a path is the record of a live run.
