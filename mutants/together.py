@@ -1,0 +1,147 @@
+"""Tries edits of a crate together: those that change different functions, in one check.
+
+A contract is not changed by an edit, so whether a function meets its own says nothing of another function. Of a check with several edits
+those are refused whose own functions the prover refuses, by a message that points into the function or into its proofs. What such a
+check does not decide is left to a try of its own.
+"""
+import re
+import subprocess
+from pathlib import Path
+from typing import NamedTuple
+
+FUNCTION = re.compile(r"(?:    )?(?:pub(?:\(\w+\))? )?(?:const )?(?:unsafe )?fn (\w+)")
+# What the prover says of a place: an error of a proof, or a goal of a function that it could not prove.
+MESSAGE = re.compile(r"(?:note: )?(?:\./)?(src|proofs)/(\S+?):(\d+):\d+: (error|warning|it is not proved)?")
+# A proof names what an edit took away: that says nothing of a contract.
+NAMES = re.compile(r"has no field|is not in scope|has no `|was not admitted")
+# The front end did not take the code.
+UNREAD = re.compile(r"\berror\[[\w-]+\]")
+
+
+class Change(NamedTuple):
+    """A line of a file that an edit replaces."""
+
+    file: str
+    old: str
+    new: str
+
+
+class Edit(NamedTuple):
+    """An edit: its file and what it changes."""
+
+    file: Path
+    changes: list
+
+
+class Place(NamedTuple):
+    """A function: its module's path and its name."""
+
+    module: tuple
+    name: str
+
+
+def read(file):
+    """An edit, as its file has it."""
+    changes, target, old = [], None, None
+    for line in file.read_text().splitlines():
+        word, _, text = line.partition(": ")
+        if word == "file":
+            target = text.strip()
+        elif word == "old":
+            old = text
+        elif word == "new":
+            changes.append(Change(target, old, text))
+    return Edit(file, changes)
+
+
+def module_of(file):
+    """The path of a file's module, without its crate."""
+    parts = Path(file).with_suffix("").parts[1:]
+    return () if parts in (("lib",), ("main",)) else parts
+
+
+def function_at(lines, number):
+    """The name of the function that holds a line, or None between functions."""
+    for line in reversed(lines[: number + 1]):
+        if found := FUNCTION.match(line):
+            return found[1]
+        if line.startswith("}") and line is not lines[number]:
+            return None
+    return None
+
+
+def applied(texts, edit, home):
+    """The texts of the files with an edit, and the functions that it changes; None if its lines are not there once, or in no function."""
+    texts, places = dict(texts), set()
+    for change in edit.changes:
+        text = texts.get(change.file) or (home / change.file).read_text()
+        if not change.old or text.count(change.old) != 1:
+            return None
+        number = text[: text.index(change.old)].count("\n")
+        name = function_at(text.splitlines(), number)
+        if not name:
+            return None
+        places.add(Place(module_of(change.file), name))
+        texts[change.file] = text.replace(change.old, change.new)
+    return texts, places
+
+
+def batches(edits, home):
+    """Groups of edits that change different functions. An edit that can't be placed is in none."""
+    groups = []
+    for edit in edits:
+        for group in groups:
+            made = applied(group["texts"], edit, home)
+            if made and not made[1] & group["places"]:
+                group["texts"], group["places"] = made[0], group["places"] | made[1]
+                group["edits"].append(edit)
+                break
+        else:
+            if made := applied({}, edit, home):
+                groups.append({"texts": made[0], "places": made[1], "edits": [edit]})
+    return [group["edits"] for group in groups]
+
+
+def points_into(line, places, texts, home):
+    """Whether a message points into one of these functions or its proofs, and says more than that a name is gone."""
+    found = MESSAGE.match(line)
+    if not found or found[4] == "warning" or NAMES.search(line):
+        return False
+    kind, path, number = found[1], found[2], int(found[3])
+    if kind == "src":
+        file = f"src/{path}"
+        lines = (texts.get(file) or (home / file).read_text()).splitlines()
+        return Place(module_of(file), function_at(lines, number - 1) or "") in places
+    parts = Path(path).parts[:-1]
+    return any(parts[: len(it.module)] == it.module and it.name in parts[len(it.module) :] for it in places)
+
+
+def check(home, texts):
+    """Checks a crate with these texts of its files, and puts the files back."""
+    kept = {file: (home / file).read_text() for file in texts}
+    try:
+        for file, text in texts.items():
+            (home / file).write_text(text)
+        return subprocess.run(["rt", "check", "--jobs", "1"], cwd=home, capture_output=True, text=True, errors="replace", check=False)
+    finally:
+        for file, text in kept.items():
+            (home / file).write_text(text)
+
+
+def refused_in(home, edits):
+    """The edits that one check of all of them refuses, each by a message of its own. Where the check decides nothing, halves are tried."""
+    texts = {}
+    for edit in edits:
+        texts = applied(texts, edit, home)[0]
+    ran = check(home, texts)
+    said = ran.stdout + ran.stderr
+    if ran.returncode != 1 or UNREAD.search(said):
+        half = len(edits) // 2
+        return refused_in(home, edits[:half]) + refused_in(home, edits[half:]) if half else []
+    lines = said.splitlines()
+    return [edit for edit in edits if any(points_into(line, applied({}, edit, home)[1], texts, home) for line in lines)]
+
+
+def refused(home, files):
+    """Of these files of edits of the crate in a folder, those that checks of several at once refuse."""
+    return [edit.file for group in batches([read(file) for file in files], home) for edit in refused_in(home, group)]
