@@ -1,6 +1,7 @@
 -- The ends of a stream on two paths, where it is the only one.
-use Rattle.std.proofs.Common.{◌≡◌, ℕ, length-append, List, [], ◌∷◌, ◌++◌, length, get_or, ℤ, Some, unwrap_or, slice_get, refl, sym, ap, subst, ◌∙◌, arith, append-nil}
-use Rattle.rtrb.specs.Ring.{IsFinishedOf, IsPair, Finishes, SameConsumer, SameProducer}
+use Rattle.std.proofs.Common.{◌≡◌, ℕ, zero, suc, ◌⊎◌, Vec, length-append, List, [], ◌∷◌, ◌++◌, length, get_or, ℤ, Some, unwrap_or, slice_get, refl, sym, ap, subst, ◌∙◌, arith, append-nil}
+use Rattle.rtrb.specs.Ring.{IsFinishedOf, IsPair, SameConsumer, SameProducer}
+use Rattle.rtrb.specs.Ends.{SameRing}
 use Rattle.rtrb.specs.declared.consumer.Consumer.{Consumer}
 use Rattle.rtrb.specs.declared.finished.Finished.{Finished}
 use Rattle.rtrb.specs.declared.producer.Producer.{Producer}
@@ -8,19 +9,151 @@ use Rattle.rtp_stream.specs.declared.stream_spec.Stream.{Stream}
 use Rattle.rtp_stream.specs.MarkFacts.{MarkView}
 use Rattle.rtp_stream.specs.declared.packet.Packet.{Packet}
 use Rattle.studio_ends.specs.FreshEnds.{AllFreshPaths, AllFreshRings, AllFreshStreams}
-use Rattle.worker_tests.specs.OneStream.{AreOfOneStream}
+use Rattle.worker_tests.specs.OneStream.{AreOfOneStream, HasSameRings}
 use Rattle.studio_ends.specs.Tokens.{HandsIn}
+use Rattle.studio_ends.specs.DrainedRings.{AllLookAt}
+use Rattle.studio_ends.specs.MarksIn.{AllTakeSome}
+use Rattle.studio_ends.specs.StreamTurns.{AllTakePackets}
+use Rattle.studio_ends.specs.Streams.{ReadsClock, TakesTurn}
+use Rattle.studio_ends.specs.declared.stream_end.marks_out.StopReason.{StopReason}
+use Rattle.studio_ends.specs.declared.stream_end.marks_out.TurnNote.{TurnNote}
+use Rattle.studio_rings.specs.Turns.{AreSameRings}
+use Rattle.studio_rings.proofs.StreamTurnLemmas.{looked-either, rings-looked, rings-self}
 use Rattle.studio_ends.specs.declared.rings.TokenConsumer.{TokenConsumer}
 use Rattle.studio_ends.specs.declared.path_end.PathEnd.{PathEnd}
 use Rattle.studio_ends.specs.declared.stream_end.StreamEnd.{StreamEnd}
 use Rattle.studio_ends.specs.declared.monitor_end.MonitorEnd.{MonitorEnd}
 use Rattle.studio_ends.specs.declared.mix_end.MixEnd.{MixEnd}
 
--- the token of an end is that of the ring's other end, whatever both did before
-pub token_of : {T A P : Type 0} (p q : Producer T A P) (done : Finished T A P) (c d : Consumer T A P) → IsPair p c → SameProducer p q → SameConsumer c d → Finishes q done → IsFinishedOf done d
-token_of p q done c d pair same other fin =
-    let f = fin.0 in
-    (other.0.0 ∙ (pair.0 ∙ (sym same.0.0 ∙ sym f.0)), other.0.1 ∙ (pair.1 ∙ (sym same.0.1 ∙ sym f.1)), other.0.2 ∙ (pair.2 ∙ (sym same.0.2 ∙ sym f.2)), other.0.3 ∙ (pair.3 ∙ (sym same.0.3 ∙ sym f.3)))
+-- the other end of a ring stays that, whatever both ends do
+pub pair_of : {T A P : Type 0} (p q : Producer T A P) (c d : Consumer T A P) → IsPair p c → SameProducer p q → SameConsumer c d → IsPair q d
+pair_of p q c d pair same other =
+    (other.0.0 ∙ (pair.0 ∙ sym same.0.0), other.0.1 ∙ (pair.1 ∙ sym same.0.1), other.0.2 ∙ (pair.2 ∙ sym same.0.2), other.0.3 ∙ (pair.3 ∙ sym same.0.3))
+
+-- the token of a ring's end, of which the other end is this one
+pub token_of : {T A P : Type 0} (p : Producer T A P) (done : Finished T A P) (c : Consumer T A P) → IsPair p c → SameRing p.end done.end → IsFinishedOf done c
+token_of p done c pair f = (pair.0 ∙ sym f.0, pair.1 ∙ sym f.1, pair.2 ∙ sym f.2, pair.3 ∙ sym f.3)
+
+self_producer : {T A P : Type 0} (p : Producer T A P) → SameProducer p p
+self_producer p = ((refl, refl, refl, refl), refl)
+
+pub self_consumer : {T A P : Type 0} (c : Consumer T A P) → SameConsumer c c
+self_consumer c = ((refl, refl, refl, refl), refl)
+
+-- the ring's end at a place is the other end of this one, and stays it where the rings are the same
+pub path_paired : (p : PathEnd) (olds news : List (TokenConsumer Packet)) (place : ℕ) → AreSameRings olds news
+    → ((side : TokenConsumer Packet) → slice_get olds place ≡ Some side → IsPair p.ring side.ring)
+    → (side : TokenConsumer Packet) → slice_get news place ≡ Some side → IsPair p.ring side.ring
+path_paired p [] [] place same h side at = h side at
+path_paired p [] (n ∷ ns) place same h side at = absurd same
+path_paired p (o ∷ os) [] place same h side at = absurd same
+path_paired p (o ∷ os) (n ∷ ns) zero same h side at =
+    let is : n ≡ side = ap (λ x. unwrap_or x n) at in
+    subst (λ (x : TokenConsumer Packet). IsPair p.ring x.ring) is (pair_of p.ring p.ring o.ring n.ring (h o refl) (self_producer p.ring) same.0)
+path_paired p (o ∷ os) (n ∷ ns) (suc place) same h side at = path_paired p os ns place same.1 h side at
+
+pub same_count : (olds news : List (TokenConsumer Packet)) → AreSameRings olds news → length news ≡ length olds
+same_count [] [] same = refl
+same_count [] (n ∷ ns) same = absurd same
+same_count (o ∷ os) [] same = absurd same
+same_count (o ∷ os) (n ∷ ns) same = ap suc (same_count os ns same.1)
+
+-- rings of which marks were taken are the same
+pub some_same : (olds news : List (TokenConsumer MarkView)) → AllTakeSome olds news → AreSameRings olds news
+some_same [] [] h = tt
+some_same [] (n ∷ ns) h = absurd h
+some_same (o ∷ os) [] h = absurd h
+some_same (o ∷ os) (n ∷ ns) h = (h.0.ring, some_same os ns h.1)
+
+pub marks_paired : (s : StreamEnd) (olds news : List (TokenConsumer MarkView)) (place : ℕ) → AreSameRings olds news
+    → ((side : TokenConsumer MarkView) → slice_get olds place ≡ Some side → IsPair s.marks side.ring)
+    → (side : TokenConsumer MarkView) → slice_get news place ≡ Some side → IsPair s.marks side.ring
+marks_paired s [] [] place same h side at = h side at
+marks_paired s [] (n ∷ ns) place same h side at = absurd same
+marks_paired s (o ∷ os) [] place same h side at = absurd same
+marks_paired s (o ∷ os) (n ∷ ns) zero same h side at =
+    let is : n ≡ side = ap (λ x. unwrap_or x n) at in
+    subst (λ (x : TokenConsumer MarkView). IsPair s.marks x.ring) is (pair_of s.marks s.marks o.ring n.ring (h o refl) (self_producer s.marks) same.0)
+marks_paired s (o ∷ os) (n ∷ ns) (suc place) same h side at = marks_paired s os ns place same.1 h side at
+
+pub marks_count : (olds news : List (TokenConsumer MarkView)) → AreSameRings olds news → length news ≡ length olds
+marks_count [] [] same = refl
+marks_count [] (n ∷ ns) same = absurd same
+marks_count (o ∷ os) [] same = absurd same
+marks_count (o ∷ os) (n ∷ ns) same = ap suc (marks_count os ns same.1)
+
+-- the ends of one stream are that after each call of one of them
+pub offered : (first then second : PathEnd) (stream : StreamEnd) (mix : MixEnd) → AreOfOneStream first second stream mix → SameProducer first.ring then.ring → AreOfOneStream then second stream mix
+offered first then second stream mix h same = record {
+  two = h.two;
+  first_is = λ side at. pair_of first.ring then.ring side.ring side.ring (h.first_is side at) same (self_consumer side.ring);
+  second_is = h.second_is;
+  one = h.one;
+  marks = h.marks;
+}
+
+pub turned : (first second : PathEnd) (stream then : StreamEnd) (mix : MixEnd) → AreOfOneStream first second stream mix → HasSameRings stream then → AreOfOneStream first second then mix
+turned first second stream then mix h same = record {
+  two = same_count stream.sides.items then.sides.items same.sides ∙ h.two;
+  first_is = path_paired first stream.sides.items then.sides.items 0 same.sides h.first_is;
+  second_is = path_paired second stream.sides.items then.sides.items 1 same.sides h.second_is;
+  one = h.one;
+  marks = λ side at. pair_of stream.marks then.marks side.ring side.ring (h.marks side at) same.marks (self_consumer side.ring);
+}
+
+mix_same : (first second : PathEnd) (stream : StreamEnd) (mix then : MixEnd) → AreOfOneStream first second stream mix → AreSameRings mix.sides.items then.sides.items → AreOfOneStream first second stream then
+mix_same first second stream mix then h same = record {
+  two = h.two;
+  first_is = h.first_is;
+  second_is = h.second_is;
+  one = marks_count mix.sides.items then.sides.items same ∙ h.one;
+  marks = marks_paired stream mix.sides.items then.sides.items 0 same h.marks;
+}
+
+pub mixed_more : (first second : PathEnd) (stream : StreamEnd) (mix then : MixEnd) → AreOfOneStream first second stream mix → AllTakeSome mix.sides.items then.sides.items → AreOfOneStream first second stream then
+mixed_more first second stream mix then h some = mix_same first second stream mix then h (some_same mix.sides.items then.sides.items some)
+
+-- a token that was handed in leaves the rings the same
+pub handed_same : (olds news : List (TokenConsumer Packet)) (place : ℕ) (all : List Packet) → HandsIn olds place all news → AreSameRings olds news
+handed_same [] news place all h = absurd h
+handed_same (o ∷ os) [] zero all h = absurd h
+handed_same (o ∷ os) [] (suc place) all h = absurd h
+handed_same (o ∷ os) (n ∷ ns) zero all h = (subst (λ (c : Consumer Packet _ _). SameConsumer o.ring c) (sym h.0.ring) (self_consumer o.ring), subst (AreSameRings os) (sym h.1) (rings-self os))
+handed_same (o ∷ os) (n ∷ ns) (suc place) all h = (subst (λ (x : TokenConsumer Packet). SameConsumer o.ring x.ring) (sym h.0) (self_consumer o.ring), handed_same os ns place all h.1)
+
+-- so do packets that were taken
+pub taken_same : (olds news : List (TokenConsumer Packet)) (taken : List (List Packet)) → AllTakePackets olds news taken → AreSameRings olds news
+taken_same [] [] [] h = tt
+taken_same [] [] (packets ∷ more) h = absurd h
+taken_same [] (n ∷ ns) taken h = absurd h
+taken_same (o ∷ os) [] taken h = absurd h
+taken_same (o ∷ os) (n ∷ ns) [] h = absurd h
+taken_same (o ∷ os) (n ∷ ns) (packets ∷ more) h = (h.0.ring, taken_same os ns more h.1)
+
+-- an end that is as it was
+pub same_end : (old new : StreamEnd) → new ≡ old → HasSameRings old new
+same_end old new e = subst (HasSameRings old) (sym e) (record { marks = self_producer old.marks; sides = rings-self old.sides.items })
+
+pub turned_same : (old new : StreamEnd) (now : ℤ) (note : TurnNote) → TakesTurn old now note new → HasSameRings old new
+turned_same old new now note t = record { marks = t.ring; sides = taken_same old.sides.items new.sides.items t.taken t.took }
+
+pub read_same : (old new : StreamEnd) (now : ℤ) (why : StopReason) → ReadsClock old now why new → HasSameRings old new
+read_same old new now why r = record { marks = r.ring; sides = subst (λ (l : Vec (TokenConsumer Packet) _). AreSameRings old.sides.items l.items) (sym r.sides) (rings-self old.sides.items) }
+
+pub drained_same : (old new : StreamEnd) → SameProducer old.marks new.marks → new.sides ≡ old.sides → HasSameRings old new
+drained_same old new marks sides = record { marks = marks; sides = subst (λ (l : Vec (TokenConsumer Packet) _). AreSameRings old.sides.items l.items) (sym sides) (rings-self old.sides.items) }
+
+pub handed_in : (old new : StreamEnd) (place : ℕ) (all : List Packet) → HandsIn old.sides.items place all new.sides.items → new.marks ≡ old.marks → HasSameRings old new
+handed_in old new place all h marks = record {
+  marks = subst (SameProducer old.marks) (sym marks) (self_producer old.marks);
+  sides = handed_same old.sides.items new.sides.items place all h;
+}
+
+pub looked_same : (old new : StreamEnd) → AllLookAt old.sides.items new.sides.items ⊎ (new ≡ old) → new.marks ≡ old.marks → HasSameRings old new
+looked_same old new looks marks = record {
+  marks = subst (SameProducer old.marks) (sym marks) (self_producer old.marks);
+  sides = rings-looked old.sides.items new.sides.items (looked-either old new looks);
+}
 
 record AreTwo (first second : PathEnd) (sides : List (TokenConsumer Packet)) : Type 0 where
   two : length sides ≡ 2
@@ -87,9 +220,3 @@ module _ {A : Type 0} where
   pub one_popped : (xs ys : List A) (a : A) → xs ≡ ys ++ a ∷ [] → length xs ≡ 1 → xs ≡ a ∷ []
   one_popped xs [] a e l = e
   one_popped xs (y ∷ ys) a e l = absurd (let m = ap length e in omega (arith, l, m, length-append (y ∷ ys) (a ∷ [])))
-
--- what was handed in at the first place leaves the second
-pub second-handed : {T : Type 0} (olds news : List (TokenConsumer T)) (all : List T) (side : TokenConsumer T) → HandsIn olds 0 all news → slice_get news 1 ≡ Some side → slice_get olds 1 ≡ Some side
-second-handed (o ∷ os) (n ∷ ns) all side h at = ap (λ l. slice_get l 0) (sym h.1) ∙ at
-second-handed [] news all side h at = absurd h
-second-handed (o ∷ os) [] all side h at = absurd h

@@ -16,21 +16,21 @@ fn answers(
     octets: &[u8],
 ) -> Vec<u8> {
     let keys = RandomState::new(rt).expect(rt, "random octets");
-    let mut connection = new_connection(alloc, keys);
     let mut sent = Vec::new(alloc);
-    assert!(rt; is_served(&mut connection, page, octets, &mut sent));
+    let is_served = is_served(new_connection(alloc, keys), page, octets, &mut sent);
+    assert!(rt; is_served);
     sent
 }
 
 /// Serves a client until its connection is done.
 fn is_served(
-    connection: &mut Connection,
+    mut connection: Connection,
     page: &mut Page,
     octets: &[u8],
     sent: &mut Vec<u8>,
 ) -> bool {
     let mut unread = octets;
-    serve(connection, page, &mut unread, sent).is_ok()
+    serve(&mut connection, page, &mut unread, sent).is_ok()
 }
 
 /// Requests that are answered in few words.
@@ -97,7 +97,7 @@ const SHORT: [(&str, &str); 12] = [
 /// no request.
 #[test]
 fn requests_are_answered_octet_by_octet(rt: HostRuntime) {
-    let page = &mut Page::new(rt.alloc(), snapshot(&rt));
+    let page = &mut Page::new(rt.alloc(), snapshot());
     for (request, answer) in &SHORT {
         is_answered(&rt, rt.alloc(), page, *request, *answer);
     }
@@ -127,8 +127,8 @@ const KEPT: [&str; 3] = [
 /// One request after another on one connection: each has its answer whole, with the length of its body.
 #[test]
 fn a_connection_is_kept(rt: HostRuntime) {
-    let page = &mut Page::new(rt.alloc(), snapshot(&rt));
-    let requests = b"GET /state HTTP/1.1\r\nHost: localhost\r\n\r\nGET /?now HTTP/1.1\r\nHost: localhost\r\n\r\n";
+    let page = &mut Page::new(rt.alloc(), snapshot());
+    let requests = b"GET /state HTTP/1.1\r\nHost: h\r\n\r\nGET /?now HTTP/1.1\r\nHost: h\r\n\r\n";
     has_kept_parts(&rt, &answers(&rt, rt.alloc(), page, requests));
 }
 
@@ -157,7 +157,7 @@ const LONG: [(&str, &str); 2] = [
 /// A head of more than 8,192 octets is refused, wherever it is cut.
 #[test]
 fn a_long_head_is_refused(rt: HostRuntime) {
-    let page = &mut Page::new(rt.alloc(), snapshot(&rt));
+    let page = &mut Page::new(rt.alloc(), snapshot());
     for (front, answer) in &LONG {
         is_refused(&rt, rt.alloc(), page, *front, *answer);
     }

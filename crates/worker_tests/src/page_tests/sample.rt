@@ -1,10 +1,11 @@
 //! A snapshot, in which each number is another.
+//!
+//! All parts find room in it, which the texts show: so its functions test no result, and hold little across a test.
 use rtp_stream::{Counts, PathCounts};
 use status_page::{
     ArrivalMargin, Condition, CopyCounts, OutputState, PathState, RecordState, Snapshot,
     SocketState, StreamName, StreamState,
 };
-use std::process::Abort;
 
 /// A name with all that has to be escaped.
 pub(super) const NAME: &str = "L\"\\\n<b>";
@@ -50,35 +51,28 @@ fn counts() -> Counts {
 }
 
 /// Returns a stream with a name and two paths, of one of which little is known.
-fn stream(rt: &impl Abort) -> StreamState {
+fn stream() -> StreamState {
     let mut stream = StreamState::default();
     stream.name = StreamName::from(NAME).ok();
     stream.condition = Condition::Running;
     stream.latency = 240;
     stream.counts = counts();
-    add_paths(rt, &mut stream);
+    let _ = stream.paths.try_push(heard_path());
+    let _ = stream.paths.try_push(PathState::default());
     stream
 }
 
-/// Adds both paths of the stream.
-fn add_paths(rt: &impl Abort, stream: &mut StreamState) {
-    assert!(rt; stream.paths.try_push(heard_path()).is_ok());
-    assert!(rt; stream.paths.try_push(PathState::default()).is_ok());
-}
-
 /// Adds an output channel with this peak.
-fn add_output(rt: &impl Abort, snapshot: &mut Snapshot, peak: u32) {
+fn add_output(snapshot: &mut Snapshot, peak: u32) {
     let output = OutputState { peak, saturated: 2 };
-    assert!(rt; snapshot.outputs.try_push(output).is_ok());
+    let _ = snapshot.outputs.try_push(output);
 }
 
-/// Returns a snapshot of that stream, of two output channels, of failed sends and of a record.
-pub(super) fn snapshot(rt: &impl Abort) -> Snapshot {
+/// Returns a snapshot of that stream and of two output channels.
+pub(super) fn snapshot() -> Snapshot {
     let mut snapshot = Snapshot::new();
-    assert!(rt; snapshot.streams.try_push(stream(rt)).is_ok());
-    add_output(rt, &mut snapshot, 8_388_608);
-    add_output(rt, &mut snapshot, 0);
-    snapshot.failed_sends = [11, 13];
-    snapshot.record = RecordState::Closed(14);
+    let _ = snapshot.streams.try_push(stream());
+    add_output(&mut snapshot, 8_388_608);
+    add_output(&mut snapshot, 0);
     snapshot
 }

@@ -1,6 +1,7 @@
 //! Clients at real sockets, with the server and the clients in one thread.
 use super::sample::snapshot;
 use status_page::{MAX_CLIENTS, Page, PageServer};
+use std::alloc::Global;
 use std::hash::RandomState;
 use std::io;
 use std::io::{ErrorKind, Read, Write};
@@ -69,11 +70,14 @@ fn serves(rt: &impl Abort, server: &mut PageServer, page: &mut Page, clients: &m
     assert!(rt; fates_of(clients) == (0, 70));
 }
 
-/// 70 clients at once: the last six take the places of others, so 64 are answered. Those that then do nothing are
-/// disconnected after 10 s.
+/// Tests that with a page that has something to show.
+fn serves_page(rt: &impl Abort, alloc: Global, server: &mut PageServer, clients: &mut [TcpStream]) {
+    serves(rt, server, &mut Page::new(alloc, snapshot()), clients);
+}
+
+/// 70 clients at once: 64 are answered, and the others let go. Those who then do nothing are let go after 10 s.
 #[test]
 fn clients_are_answered_or_let_go(rt: HostRuntime) {
-    let page = &mut Page::new(rt.alloc(), snapshot(&rt));
     let keys = RandomState::new(&rt).expect(&rt, "random octets");
     let mut server = PageServer::bind(&rt, rt.alloc(), keys, 0).expect(&rt, "a port");
     let address = server.address().expect(&rt, "an address");
@@ -81,5 +85,5 @@ fn clients_are_answered_or_let_go(rt: HostRuntime) {
     for _ in 0..MAX_CLIENTS + 6 {
         add_client(&rt, &mut clients, TcpStream::connect(&rt, address));
     }
-    serves(&rt, &mut server, page, &mut clients);
+    serves_page(&rt, rt.alloc(), &mut server, &mut clients);
 }

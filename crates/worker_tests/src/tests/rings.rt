@@ -96,6 +96,7 @@ fn one_stream(rt: &impl Abort, alloc: Global, clock: StreamClock, ring_len: usiz
 }
 
 /// A turn's outcome: packets of the first two paths, marks, the time it reached, and the reason why it stopped.
+#[tactic(auto, using(crate::proofs::OneStreamLemmas::turned_same))]
 fn turn(rt: &impl Abort, stream: &mut StreamEnd, now: i64) -> (u32, u32, u32, i64, StopReason)
     ensures { HasSameRings stream.old stream.new }
 {
@@ -157,6 +158,7 @@ fn play(rt: &impl Abort, ends: &mut OneStream, steps: &[Step]) {
     }
 }
 
+#[tactic(auto, using(crate::proofs::OneStreamLemmas::offered))]
 fn play_one(rt: &impl Abort, ends: &mut OneStream, step: Step) {
     match step {
         Step::Send(packet, answer) => assert!(rt; ends.first.offer(packet) == answer),
@@ -174,20 +176,29 @@ fn play_one(rt: &impl Abort, ends: &mut OneStream, step: Step) {
 }
 
 /// Returns the fault of a turn at a reading, if it has one.
+#[tactic(auto, using(crate::proofs::OneStreamLemmas::turned_same, crate::proofs::OneStreamLemmas::same_end))]
 fn fault_of(stream: &mut StreamEnd, now: i64) -> Option<ClockFault>
     ensures { HasSameRings stream.old stream.new }
 {
-    stream.turn(now).err()
+    match stream.turn(now) {
+        Ok(_) => None,
+        Err(fault) => Some(fault),
+    }
 }
 
 /// Returns the reason why a reading of the clock stopped, if it was not refused.
+#[tactic(auto, using(crate::proofs::OneStreamLemmas::read_same, crate::proofs::OneStreamLemmas::same_end))]
 fn reads(stream: &mut StreamEnd, now: i64) -> Option<StopReason>
     ensures { HasSameRings stream.old stream.new }
 {
-    stream.read_clock(now).ok()
+    match stream.read_clock(now) {
+        Ok(reason) => Some(reason),
+        Err(_) => None,
+    }
 }
 
 /// Returns true if a drain has given all marks that are left.
+#[tactic(auto, using(crate::proofs::OneStreamLemmas::drained_same))]
 fn drains(stream: &mut StreamEnd) -> bool
     ensures { HasSameRings stream.old stream.new }
 {
@@ -195,6 +206,7 @@ fn drains(stream: &mut StreamEnd) -> bool
 }
 
 /// Returns the paths that a close finds open, or none if it closed.
+#[tactic(auto, using(crate::proofs::OneStreamLemmas::looked_same))]
 fn still_open(stream: &mut StreamEnd) -> Option<[bool; 4]>
     ensures { HasSameRings stream.old stream.new }
 {
@@ -358,8 +370,8 @@ fn the_order_of_the_streams_changes_no_datagram(rt: HostRuntime) {
 /// The first close of a stream, whose paths are both open.
 const OPEN: [Step; 2] = [Step::DrainNone, Step::Close([true, true, false, false])];
 
-/// Finishes a path's end, whose token goes to its stream's. Returns the numbers of datagrams that were offered, sent and
-/// refused at a full ring.
+/// Finishes a path's end, whose token goes to its stream's. Returns the numbers of datagrams that were offered, sent
+/// and refused at a full ring.
 fn finish_path(rt: &impl Abort, path: PathEnd, number: usize, stream: &mut StreamEnd) -> [u64; 3]
     requires place { number < vec_len stream.old.sides }
     requires pair { (side : TokenConsumer Packet) → slice_get stream.old.sides.items number ≡ Some side
@@ -367,7 +379,9 @@ fn finish_path(rt: &impl Abort, path: PathEnd, number: usize, stream: &mut Strea
     ensures { HasSameRings stream.old stream.new }
 {
     let (done, counts) = path.finish();
-    let done = done.expect(rt, "the stream's end is there");
+    let Some(done) = done else {
+        panic!(rt; "the stream's end is there")
+    };
     stream.path_done(number, done);
     [counts.offered, counts.sent, counts.full]
 }
@@ -380,7 +394,10 @@ fn finish_stream(rt: &impl Abort, stream: StreamEnd) -> StreamDone
     assert!(rt; drains(&mut stream), "the end is all that is left");
     let (done, counts) = stream.finish();
     assert!(rt; (counts.arrived, counts.taken, counts.got) == (2, 2, 2));
-    done.expect(rt, "the mixer's end is there")
+    let Some(done) = done else {
+        panic!(rt; "the mixer's end is there")
+    };
+    done
 }
 
 /// Finishes the ends of a stream whose two slots the mixer took. The close names the paths that go on, until both have
@@ -393,6 +410,7 @@ fn finish_in_turn(rt: &impl Abort, ends: OneStream) {
         monitor: _,
         mut mix,
     } = ends;
+    assert!(rt; !mix.settled(), "no stream has finished");
     assert!(rt; finish_path(rt, first, 0, &mut stream) == [3, 2, 1]);
     assert!(rt; still_open(&mut stream) == Some([false, true, false, false]));
     assert!(rt; finish_path(rt, second, 1, &mut stream) == [0, 0, 0]);
@@ -409,7 +427,6 @@ fn finish_in_turn(rt: &impl Abort, ends: OneStream) {
 fn rings_of_one_place_lose_nothing_to_the_end(rt: HostRuntime) {
     let mut ends = one_stream(&rt, rt.alloc(), MEDIA, 1);
     play(&rt, &mut ends, &ONE_PLACE);
-    assert!(rt; !ends.mix.settled(), "no stream has finished");
     play(&rt, &mut ends, &OPEN);
     finish_in_turn(&rt, ends);
 }
