@@ -61,7 +61,9 @@ def module_of(file):
 
 
 def function_at(lines, number):
-    """The name of the function that holds a line, or None between functions."""
+    """The name of the function that holds a line, its attributes among them, or None between functions."""
+    while lines[number].lstrip().startswith(("#[", "//")) and number + 1 < len(lines):
+        number += 1
     for line in reversed(lines[: number + 1]):
         if found := FUNCTION.match(line):
             return found[1]
