@@ -35,6 +35,13 @@ struct TestSocket {
     receives: u32,
 }
 
+impl TestSocket {
+    /// Sets the result of the next receives.
+    fn set_result(&mut self, next: Receive) {
+        self.result = next;
+    }
+}
+
 impl DatagramSocket for TestSocket {
     fn receive(&mut self, buf: &mut [u8]) -> io::Result<Option<usize>> {
         self.receives = self.receives.saturating_add(1);
@@ -139,7 +146,7 @@ fn a_datagram_ends_the_back_off(rt: HostRuntime) {
             let _ = retrying.next(&mut buf);
             retrying.wait(10 * MILLISECOND);
         }
-        retrying.socket.result = result;
+        retrying.socket.set_result(result);
         assert_eq!(rt; retrying.next(&mut buf), answer, "{result:?}");
         assert_eq!(rt; health.is_resting(), result == Receive::Fault, "{result:?}");
         // Without a rest the socket is read once its flag is set, and not before.
@@ -152,7 +159,7 @@ fn a_datagram_ends_the_back_off(rt: HostRuntime) {
             ready.store(true, Ordering::SeqCst);
         }
         retrying.wait(10 * MILLISECOND);
-        retrying.socket.result = Receive::Fault;
+        retrying.socket.set_result(Receive::Fault);
         assert_eq!(rt;
             retrying.next(&mut buf),
             Some(FeedAnswer::Fault),
