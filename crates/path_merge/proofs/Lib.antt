@@ -41,6 +41,7 @@ pub mod SpanLemmas
 pub mod FullNumberLemmas
 pub mod SentHistoryLemmas
 pub mod NearLemmas
+pub mod SameClockLemmas
 pub mod HeardLemmas
 pub mod GainLemmas
 pub mod LentLemmas

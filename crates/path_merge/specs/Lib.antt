@@ -33,4 +33,5 @@ pub mod NextMark
 pub mod Goal
 pub mod ReadingSteps
 pub mod ClockLag
+pub mod FollowLaws
 pub mod Run

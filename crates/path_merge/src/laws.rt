@@ -52,8 +52,10 @@ ghost use Rattle.rtp_stream.specs.Sent.{
   timestamp_in_step,
   wire_history,
 };
-ghost use Rattle.rtp_stream.specs.Counts.{counts_of};
+ghost use Rattle.rtp_stream.specs.Counts.{counts_of, fates_of};
 ghost use Rattle.rtp_stream.specs.Standing.{is_following};
+ghost use Rattle.rtp_stream.specs.declared.stream_spec.StreamClock.TheVariants.{Arrival, Follow};
+ghost use Rattle.path_merge.specs.FollowLaws.{IsNeverAstray, by_clock};
 ghost use Rattle.path_merge.specs.Merge.{HasHistory};
 ghost use Rattle.path_merge.specs.ClockLag.{IsDue, KeepUp};
 ghost use Rattle.path_merge.specs.Clock.{clock_fault_of};
@@ -230,4 +232,15 @@ pub fn near_numbers_open_one_epoch()
         is_following stream.clock ≡ false → BeginsWith stream anchor open_at sent
         → IsWithinReach stream anchor (2 ^ 15) open_at sent →
         marks_of stream open_at (wire_history stream anchor sent) ≡ marks_by_number stream anchor open_at sent }
+{}
+
+/// A history in which no arrival is behind or beyond has by the clock `Follow` the fates and marks that it has by the
+/// clock `Arrival`. Second copies that are late, other sources and packets off the grid may be among its arrivals.
+pub fn a_sender_in_time_is_heard_as_by_arrival()
+    ensures fates { (stream : Stream) (open_at : ℤ) (events : List Event) →
+        IsNeverAstray (by_clock Follow stream) open_at events →
+        fates_of (by_clock Follow stream) open_at events ≡ fates_of (by_clock Arrival stream) open_at events }
+    ensures marks { (stream : Stream) (open_at : ℤ) (events : List Event) →
+        IsNeverAstray (by_clock Follow stream) open_at events →
+        marks_of (by_clock Follow stream) open_at events ≡ marks_of (by_clock Arrival stream) open_at events }
 {}

@@ -4,7 +4,16 @@ ghost use Rattle.rtp_stream.specs.PacketRef.{packet_of};
 ghost use Rattle.rtp_stream.specs.Anchor.{is_source_wanted};
 ghost use Rattle.rtp_stream.specs.Fate as fate;
 ghost use Rattle.rtp_stream.specs.Grid.{in_room};
-ghost use Rattle.rtp_stream.specs.Standing.{all_paths, any_path, empties, end_since, is_astray, is_following, may_empty, standing_of};
+ghost use Rattle.rtp_stream.specs.Standing.{
+  all_paths,
+  any_path,
+  empties,
+  end_since,
+  is_astray,
+  is_following,
+  may_empty,
+  standing_of,
+};
 ghost use Rattle.rtp_stream.specs.PathTrack as spec;
 ghost use Rattle.rtp_stream.specs.PathTrack.{is_slip_by, room_by, shifted, track_after, track_at, track_heard};
 ghost use Rattle.rtp_stream.specs.declared.stream_spec.Stream.{Stream};
@@ -144,7 +153,9 @@ fn end_of(anchor: &Anchor, tracks: &[Track; 4]) -> u64
     requires { anchor.now.number < 2 ^ 62 }
     ensures { result ≡ end_since anchor.now (λ path. (track_at tracks.now path).end) }
 {
-    let first = tracks[0].end.max(tracks[1].end.max(tracks[2].end.max(tracks[3].end)));
+    let first = tracks[0]
+        .end
+        .max(tracks[1].end.max(tracks[2].end.max(tracks[3].end)));
     (anchor.number + 1).max(first)
 }
 
@@ -221,8 +232,10 @@ pub fn update_track(
     requires high { next ≤ 2 ^ 61 }
     requires anchor { anchor.now.number < 2 ^ 62 }
     requires place { place.now
-        ≡ fate.place_of (in_room spec.now (room_by spec.now anchor.now next tracks.old)) anchor.now next (packet_of packet.now) }
-    ensures heard { track_at tracks.new path ≡ track_heard spec.now anchor.now next tracks.old path (packet_of packet.now) }
+        ≡ fate.place_of (in_room spec.now (room_by spec.now anchor.now next tracks.old))
+        anchor.now next (packet_of packet.now) }
+    ensures heard { track_at tracks.new path
+        ≡ track_heard spec.now anchor.now next tracks.old path (packet_of packet.now) }
     ensures others { (other : ℕ) → nat_eq other path ≡ false → track_at tracks.new other ≡ track_at tracks.old other }
     ensures slip { result ≡ is_source_wanted spec.now.ssrc packet.now.ssrc
         && is_slip_by spec.now anchor.now next tracks.old path (packet_of packet.now) }

@@ -15,8 +15,8 @@ use super::Merge;
 use crate::window::Window;
 use rtp_stream::{
     Anchor, Fate, Packet, PacketRef, Path, Probation, Track, continues_media_time, fate_of_first,
-    fate_of_put, is_off_place, is_taken, media_of_first, media_of_restart, place_of,
-    room_of, update_probation, update_track,
+    fate_of_put, is_off_place, is_taken, media_of_first, media_of_restart, place_of, room_of,
+    update_probation, update_track,
 };
 
 /// The greatest number of arrivals that are counted, 2^62.
@@ -157,7 +157,8 @@ impl<V: Window> Merge<V> {
         requires open_yet { self.old.closed ≡ false }
         requires room { self.old.counts.arrived < 2 ^ 62 }
         requires fits { Fits self.old.spec (packet_of packet.now) }
-        requires place { place ≡ fate.place_of (in_room self.old.spec (room_by self.old.spec anchor self.old.base self.old.tracks))
+        requires place { place
+            ≡ fate.place_of (in_room self.old.spec (room_by self.old.spec anchor self.old.base self.old.tracks))
             anchor self.old.base (packet_of packet.now) }
         ensures next { opens_epoch self.old anchor path (packet_of packet.now) ≡ false
             → IsNextStep self.old.spec self.old self.new anchor path (packet_of packet.now) result }
@@ -196,7 +197,15 @@ impl<V: Window> Merge<V> {
         let next = self.window.base();
         let off = is_off_place(place);
         let completes = update_probation(&mut self.probations, path, &self.spec, off, packet);
-        let slips = update_track(&mut self.tracks, &self.spec, &anchor, next, place, path, packet);
+        let slips = update_track(
+            &mut self.tracks,
+            &self.spec,
+            &anchor,
+            next,
+            place,
+            path,
+            packet,
+        );
         if is_either(completes, slips) {
             self.media_of_epoch(packet)
         } else {
@@ -218,7 +227,8 @@ impl<V: Window> Merge<V> {
         requires room { self.old.counts.arrived < 2 ^ 62 }
         requires fits { Fits self.old.spec (packet_of packet.now) }
         requires place { IsPlaced self.old.spec anchor self.old.base (packet_of packet.now) place }
-        ensures { (room : ℕ) → place ≡ fate.place_of (in_room self.old.spec room) anchor self.old.base (packet_of packet.now)
+        ensures { (room : ℕ)
+            → place ≡ fate.place_of (in_room self.old.spec room) anchor self.old.base (packet_of packet.now)
             → IsPutStep self.old.spec room self.old self.new anchor path (packet_of packet.now) result }
     {
         match place {
