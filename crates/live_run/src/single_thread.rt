@@ -1,6 +1,6 @@
 //! A live run in one thread, with a supervisor in another. `engine_io` has the engine's feeds, clock and sink,
 //! `socket_wait` its wait for the sockets, and `observer` its record and status.
-ghost use Rattle.std.specs.Prelude.{◌≡◌, true, IfOk, IfErr, length, map};
+ghost use Rattle.std.specs.Prelude.{true, IfOk, IfErr};
 ghost use Rattle.std.specs.Thread.{IsSync};
 ghost use Rattle.live_run.specs.RunResult.{IsEarly, IsRunOf};
 
@@ -88,7 +88,7 @@ pub(crate) fn run_in_one_thread<
     let watch = PathWatch::new(studio, health, status.publisher.is_some());
     let (record, writer) = ends_of(record);
     let observer = LiveObserver::new(alloc, studio, record, status, shown)?;
-    let io = prepare_engine_io(rt, alloc, studio, sockets, period, feed_flags, meter)?;
+    let io = prepare_engine_io(rt, alloc, sockets, period, feed_flags, meter)?;
     let run = SupervisedRun {
         io,
         observer,
@@ -137,8 +137,6 @@ struct SupervisedRun<'a, R: Wait + Clock, E> {
 impl<R: Threads + Wait + Sync + Clock, E: Write + Send + Drop> SupervisedRun<'_, R, E> {
     /// Runs an engine in this thread, and the supervisor in another.
     fn run(self, rt: &R, alloc: Global, studio: &StudioSpec) -> Result<WorkReport, LiveFault>
-        requires feeds { map (λ own. length own.items) self.io.feeds.items
-            ≡ map (λ stream. stream.paths) studio.now.streams }
         ensures run { IfOk result (IsRunOf true studio.now) }
         ensures early { IfErr result IsEarly }
     {
@@ -160,8 +158,6 @@ impl<R: Threads + Wait + Sync + Clock, E: Write + Send + Drop> SupervisedRun<'_,
             supervisor,
             flags,
             move || -> Result<WorkReport, LiveFault>
-                requires feeds { map (λ own. length own.items) io.feeds.items
-                    ≡ map (λ stream. stream.paths) studio.now.streams }
                 ensures run { IfOk result (IsRunOf true studio.entry.now) }
                 ensures early { IfErr result IsEarly }
             { io.run(rt, alloc, studio, observer, recorded) },
@@ -183,8 +179,6 @@ fn run_recorded<
     writer: RecordWriter<'a>,
     file: D,
 ) -> Result<WorkReport, LiveFault>
-    requires feeds { map (λ own. length own.items) run.io.feeds.items
-        ≡ map (λ stream. stream.paths) studio.now.streams }
     ensures run { IfOk result (IsRunOf true studio.now) }
     ensures early { IfErr result IsEarly }
 {
@@ -198,8 +192,6 @@ fn run_recorded<
         },
         move || -> Result<WorkReport, LiveFault>
             requires sync { IsSync R.row }
-            requires feeds { map (λ own. length own.items) run.io.feeds.items
-                ≡ map (λ stream. stream.paths) studio.now.streams }
             ensures run { IfOk result (IsRunOf true studio.entry.now) }
             ensures early { IfErr result IsEarly }
         { run.run(rt, alloc, studio) },

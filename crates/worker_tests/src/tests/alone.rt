@@ -23,7 +23,7 @@ fn run_one<R: Wait + Abort, F: Feed, C: Clock, K: Sink, P: IdleWait>(
     rest: P,
 ) -> (WorkReport, K) {
     let studio = one_stream(alloc).expect(rt, "a studio");
-    let feeds = list_of(rt, alloc, [list_of(rt, alloc, feeds)]);
+    let feeds = list_of(rt, alloc, feeds);
     let done = run_engine(rt, alloc, &studio, feeds, clock, sink, NoObserver, rest);
     let Ok((report, sink, _)) = done else {
         panic!(rt; "there is memory")

@@ -68,12 +68,6 @@ fn each_refused_allocation_of_a_run_is_answered(rt: HostRuntime) {
     assert!(rt; first.is_ok() || second.is_ok(), "with memory again");
 }
 
-/// The feeds of one stream on two paths; none where memory is refused.
-fn feeds_of_one<'a>(alloc: Global, packets: &'a [Vec<u8>]) -> Option<Vec<Vec<MemoryFeed<'a>>>> {
-    let own = two_feeds(alloc, packets).ok()?;
-    Vec::from_array(alloc, [own]).ok()
-}
-
 /// Returns true if a run of two blocks in one thread was made; else an allocation was refused.
 fn is_run_alone<R: Wait + Abort>(
     rt: &R,
@@ -81,7 +75,7 @@ fn is_run_alone<R: Wait + Abort>(
     studio: &StudioSpec,
     packets: &[Vec<u8>],
 ) -> bool {
-    let Some(feeds) = feeds_of_one(alloc, packets) else {
+    let Ok(feeds) = two_feeds(alloc, packets) else {
         return false;
     };
     let (clock, sink) = (MemoryClock::new(&[0]), MemorySink::new(alloc));
