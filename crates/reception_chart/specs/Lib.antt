@@ -1,3 +1,4 @@
 pub mod Axis
 pub mod Bins
 pub mod Chart
+pub mod Places

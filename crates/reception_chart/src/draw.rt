@@ -72,15 +72,3 @@ pub(crate) fn push_text(
         "<text class=\"{class}\" x=\"{x}\" y=\"{y}\">{text}</text>\n"
     ))
 }
-
-/// Returns sampling instants at 48 kHz in microseconds, rounded down.
-pub(crate) fn micros(instants: u64) -> u64 {
-    // A sampling instant is 125/6 microseconds.
-    instants.saturating_mul(125) / 6
-}
-
-/// Returns sampling instants at 48 kHz in milliseconds, and the thousandths of a millisecond behind these.
-pub(crate) fn millis(instants: u64) -> (u64, u64) {
-    let micros = micros(instants);
-    (micros / 1000, micros % 1000)
-}

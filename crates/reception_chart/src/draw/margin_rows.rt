@@ -1,10 +1,11 @@
 //! The rows of arrival margins: the time from the arrival of each path's copies to their deadlines.
 use crate::draw::bars::{LEFT, PLOT_WIDTH, height_of, push_bars};
-use crate::draw::{fmt_result, millis, push_text};
+use crate::draw::{fmt_result, push_text};
 use crate::reception::margins::{MARGIN_BINS, Margins, PathMargins};
 use path_merge::Path;
 use std::alloc::AllocError;
 use std::io::Write;
+use studio_run::millis;
 
 /// The distance of the paths' rows.
 const MARGIN_STEP: u32 = 24;

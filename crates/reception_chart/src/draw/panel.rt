@@ -1,13 +1,14 @@
 //! The panel of a stream: its name, strip, ticks, arrival margins and counts.
 use crate::draw::count_lines::{counts_height, push_counts};
+use crate::draw::fmt_result;
 use crate::draw::margin_rows::{margins_height, push_margins};
 use crate::draw::strip::{push_strip, strip_height};
 use crate::draw::ticks::{TICKS_HEIGHT, push_ticks};
-use crate::draw::{fmt_result, millis};
 use crate::reception::panel_data::PanelData;
 use rtp_stream::StreamSpec;
 use std::alloc::{AllocError, Global};
 use std::io::Write;
+use studio_run::millis;
 use studio_session::Cursor;
 
 /// The height of a panel's name.

@@ -1,9 +1,10 @@
 //! The ticks below a strip, with their times in seconds.
 use crate::draw::bars::{LEFT, PLOT_WIDTH};
-use crate::draw::{fmt_result, micros};
+use crate::draw::fmt_result;
 use crate::reception::axis::Axis;
 use std::alloc::AllocError;
 use std::io::Write;
+use studio_run::millis;
 
 /// The greatest number of ticks behind the first.
 const MAX_TICKS: u64 = 8;
@@ -23,6 +24,12 @@ pub(crate) fn push_ticks(svg: &mut Vec<u8>, top: u32, axis: &Axis) -> Result<(),
         push_tick(svg, top, time, micros)?;
     }
     Ok(())
+}
+
+/// Returns sampling instants at 48 kHz in microseconds, rounded down.
+fn micros(instants: u64) -> u64 {
+    let (ms, us) = millis(instants);
+    ms.saturating_mul(1000).saturating_add(us)
 }
 
 /// Returns the least step of 1, 2, 5, 10 and so on, in microseconds, that gives at most 8 ticks behind the first.

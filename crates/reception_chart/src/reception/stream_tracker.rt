@@ -1,6 +1,7 @@
 //! The tracker of a stream, which takes its events and reports its reception to an observer.
 ghost use Rattle.std.specs.Prelude.{◌≡◌, ◌+◌, ◌<◌, None, true, length, IfOk};
 ghost use Rattle.studio_session.specs.Cursor.{IsSameCursor};
+ghost use Rattle.reception_chart.specs.Places.{CountsOne};
 
 use crate::reception::{CopyTiming, ReceptionEvent, ReceptionKind, ReceptionObserver};
 use path_merge::{Fate, MarkKindRef, PacketRef, Path};
@@ -90,7 +91,7 @@ impl StreamTracker {
 
     /// Takes a clock reading, in sampling instants at 48 kHz, and reports the slots that are lost by then.
     pub(crate) fn read<O: ReceptionObserver>(&mut self, now: i64, observer: &mut O)
-        ensures place { self.old.cursor.place < usize.MAX → self.new.cursor.place ≡ self.old.cursor.place + 1 }
+        ensures place { CountsOne usize.MAX self.old.cursor.place self.new.cursor.place }
     {
         if self.place == usize::MAX {
             return;
@@ -103,7 +104,7 @@ impl StreamTracker {
 
     /// Takes the close, and reports the slots that are lost by then.
     pub(crate) fn closed<O: ReceptionObserver>(&mut self, observer: &mut O)
-        ensures place { self.old.cursor.place < usize.MAX → self.new.cursor.place ≡ self.old.cursor.place + 1 }
+        ensures place { CountsOne usize.MAX self.old.cursor.place self.new.cursor.place }
     {
         if self.place == usize::MAX {
             return;
@@ -123,7 +124,7 @@ impl StreamTracker {
     /// Takes a datagram of the stream.
     fn take<O: ReceptionObserver>(&mut self, path: Path, octets: &[u8], observer: &mut O)
         requires path { path < self.old.cursor.spec.paths }
-        ensures place { self.old.cursor.place < usize.MAX → self.new.cursor.place ≡ self.old.cursor.place + 1 }
+        ensures place { CountsOne usize.MAX self.old.cursor.place self.new.cursor.place }
     {
         if self.place == usize::MAX {
             return;
@@ -134,7 +135,7 @@ impl StreamTracker {
 
     /// Counts the event of another stream's datagram.
     fn pass_over(&mut self)
-        ensures place { self.old.cursor.place < usize.MAX → self.new.cursor.place ≡ self.old.cursor.place + 1 }
+        ensures place { CountsOne usize.MAX self.old.cursor.place self.new.cursor.place }
     {
         if self.place == usize::MAX {
             return;
