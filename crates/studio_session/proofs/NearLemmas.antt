@@ -1,17 +1,18 @@
 -- Two histories that differ in marks of silence alone go on so, whatever comes.
-use Rattle.std.proofs.Common.{◌≡◌, ℕ, zero, suc, ◌+◌, ◌-◌, ◌^◌, ◌<◌, Bool, true, false, not, ◌&&◌, List, [], ◌∷◌, ◌++◌, length, Option, Some, None, ℤ, pos, ◌≤ℤ◌, refl, sym, ap, subst, ◌∙◌, arith, append_assoc, append-nil, if◌then◌else◌}
+use Rattle.std.proofs.Common.{◌≡◌, ℕ, zero, suc, ◌+◌, ◌-◌, ◌^◌, ◌<◌, Bool, true, false, not, ◌&&◌, ◌||◌, List, [], ◌∷◌, ◌++◌, length, Option, Some, None, ℤ, pos, ◌≤ℤ◌, refl, sym, ap, subst, ◌∙◌, arith, append_assoc, append-nil, if◌then◌else◌}
 use Rattle.std.specs.Prelude.{nat_eq, nat_le, nat_lt}
 use Rattle.std.proofs.lemmas.Bool.{false≢true}
 use Rattle.std.proofs.lemmas.Int.{ints}
 use Rattle.rtp_stream.specs.Anchor.{anchor_from, can_anchor, is_source_wanted, next_number, restart_from}
 use Rattle.rtp_stream.specs.Copies.{copies_at, copies_of, copies_of_all, copies_under_with, copies_with}
 use Rattle.rtp_stream.specs.Counts.{fates_at, fates_of}
-use Rattle.rtp_stream.specs.Epochs.{anchor_in, anchor_of, anchors_after, anchors_of, can_restart, continues_media_time, last_of, placed}
+use Rattle.rtp_stream.specs.Epochs.{anchor_in, anchor_of, anchors_after, anchors_of, can_restart, continues_media_time, last_of, placed, room_in_force}
 use Rattle.rtp_stream.specs.Fate.{counted_fate, fate_of, is_restart}
-use Rattle.rtp_stream.specs.Grid.{end_of_copies, first_with}
+use Rattle.rtp_stream.specs.Grid.{end_of_copies, first_with, in_room}
 use Rattle.rtp_stream.specs.History.{arrival_count, is_closed, is_counting, is_well_timed, time_of}
 use Rattle.rtp_stream.specs.Marks.{body_of, end_mark, marks_at, marks_of, slot_mark, slots_at_close, slots_between, slots_from, slots_or_quiet}
 use Rattle.rtp_stream.specs.Probation.{completes_probation, heard_since, is_off}
+use Rattle.rtp_stream.specs.Standing.{are_many, has_wire_size, is_astray, is_following, is_slip, room_after, standing_after, standings_on, standings_since}
 use Rattle.rtp_stream.specs.declared.anchor.Anchor.{Anchor}
 use Rattle.rtp_stream.specs.declared.event.Event.{Event}
 use Rattle.rtp_stream.specs.declared.event.Event.TheVariants.{Arrive, Close, Tick}
@@ -19,10 +20,11 @@ use Rattle.rtp_stream.specs.declared.fate.Fate.{Fate}
 use Rattle.rtp_stream.specs.declared.fate.Fate.TheVariants.{Closed, CountersFull, Restarted}
 use Rattle.rtp_stream.specs.declared.packet.Packet.{Packet}
 use Rattle.rtp_stream.specs.declared.stream_spec.Stream.{Stream}
-use Rattle.path_merge.specs.Merge.{heard_of}
+use Rattle.rtp_stream.specs.declared.track.Standing.{Standing}
+use Rattle.path_merge.specs.Merge.{heard_of, standings_of}
 use Rattle.path_merge.proofs.CloseLemmas.{marks_of-close}
 use Rattle.path_merge.proofs.DueLemmas.{next_number-rises}
-use Rattle.path_merge.proofs.EpochLemmas.{anchor_is, copies_of-since, heard_by, heard_of-close, heard_of-made, heard_of-push, heard_of-tick, last-push, place_within, since_of}
+use Rattle.path_merge.proofs.EpochLemmas.{anchor_is, copies_of-since, heard_by, heard_of-close, heard_of-made, heard_of-push, heard_of-tick, last-push, place_within, room_made, since_of, standings_by, standings_of-close, standings_of-made, standings_of-push, standings_of-tick}
 use Rattle.path_merge.proofs.HistoryLemmas.{anchor_of-close, anchor_of-tick, arrival_count-append, copies_of-tick, copies_of-with, copies_of_all-close, copies_of_all-push, copies_of_all-tick, fates_of-close, fates_of-push, fates_of-tick, is_closed-append, is_well_timed_from-append, or_else, time_of-append}
 use Rattle.path_merge.proofs.LawLemmas.{arrival_keeps}
 use Rattle.path_merge.proofs.MarkGrowthLemmas.{IsTickAt, tick_well_timed, well_timed_tick}
@@ -48,6 +50,7 @@ module _ (stream : Stream) (open_at : ℤ) where
     pub fates : fates_of stream open_at e ≡ fates_of stream open_at f
     pub anchor : anchor_of stream open_at e ≡ anchor_of stream open_at f
     pub heard : (path : ℕ) → heard_of stream open_at (last_of (anchors_of stream open_at e)) e path ≡ heard_of stream open_at (last_of (anchors_of stream open_at f)) f path
+    pub standings : standings_of stream open_at (last_of (anchors_of stream open_at e)) e ≡ standings_of stream open_at (last_of (anchors_of stream open_at f)) f
     pub copies : copies_of_all stream open_at e ≡ copies_of_all stream open_at f
     pub marks : AreClose stream (marks_of stream open_at e) (marks_of stream open_at f)
 
@@ -64,11 +67,25 @@ module _ (stream : Stream) (open_at : ℤ) where
   -- one arrival more
   module _ (e f : List Event) (near : AreNear e f) (path : ℕ) (packet : Packet) where
     -- whether it restarts the stream, by what that hangs on
-    abbrev decides : ℤ → Anchor → List (ℕ × Packet) → List (Bool × Packet) → Bool
-    decides time anchor copies heard =
+    abbrev decides : ℤ → Anchor → List (ℕ × Packet) → List (Bool × Packet) → Bool → Bool
+    decides time anchor copies heard slips =
         continues_media_time stream time anchor packet
         && (nat_le (end_of_copies copies) (next_number stream anchor time)
-        && (is_source_wanted stream.ssrc packet.ssrc && completes_probation stream heard))
+        && (is_source_wanted stream.ssrc packet.ssrc && (completes_probation stream heard || slips)))
+
+    -- whether it shows that the sender is astray, by how arrivals stood before it and stand with it
+    abbrev shows : ℤ → Anchor → List Standing → List Standing → Bool
+    shows time anchor before after =
+        is_following stream.clock
+        && (has_wire_size packet
+        && (is_astray (standing_after stream anchor (next_number stream anchor time) before path packet)
+        && are_many is_astray (standings_on path after)))
+
+    -- how it stands itself
+    abbrev stands : Bool → ℤ → Anchor → List Standing → List Standing
+    stands counting time anchor before =
+        if is_following stream.clock && (counting && is_source_wanted stream.ssrc packet.ssrc)
+        then standing_after stream anchor (next_number stream anchor time) before path packet ∷ [] else []
 
     heard_by_near : (on : ℕ) (o p : Option (ℕ × Anchor)) → anchor_in o ≡ anchor_in p → heard_by stream open_at o e (Arrive path packet) on ≡ heard_by stream open_at p f (Arrive path packet) on
     heard_by_near on None None same = refl
@@ -94,33 +111,78 @@ module _ (stream : Stream) (open_at : ℤ) where
         ∙ ap (λ l. heard_of stream open_at (last_of (anchors_of stream open_at f)) f on ++ l) (heard_by_near on (last_of (anchors_of stream open_at e)) (last_of (anchors_of stream open_at f)) anchor_near)
         ∙ sym (heard_of-push stream open_at (last_of (anchors_of stream open_at f)) f (Arrive path packet) on (place_within stream open_at f))
 
-    can_near : (i j : ℕ) (a b : Anchor) → a ≡ b → since_of stream open_at (Some (i, a)) e ≡ since_of stream open_at (Some (j, b)) f
-        → heard_of stream open_at (Some (i, a)) (e ++ Arrive path packet ∷ []) path ≡ heard_of stream open_at (Some (j, b)) (f ++ Arrive path packet ∷ []) path
-        → can_restart stream open_at i a e path packet ≡ can_restart stream open_at j b f path packet
-    can_near i j a b is since heard =
-        ap (λ t. decides t a (since_of stream open_at (Some (i, a)) e) (heard_since stream open_at i a (e ++ Arrive path packet ∷ []) path)) near.time
-        ∙ ap (λ c. decides (time_of open_at f) a c (heard_since stream open_at i a (e ++ Arrive path packet ∷ []) path)) since
-        ∙ ap (λ h. decides (time_of open_at f) a (since_of stream open_at (Some (j, b)) f) h) heard
-        ∙ ap (λ x. decides (time_of open_at f) x (since_of stream open_at (Some (j, b)) f) (heard_since stream open_at j b (f ++ Arrive path packet ∷ []) path)) is
+    stands_near : (o p : Option (ℕ × Anchor)) → anchor_in o ≡ anchor_in p → standings_of stream open_at o e ≡ standings_of stream open_at p f
+        → standings_by stream open_at o e (Arrive path packet) ≡ standings_by stream open_at p f (Arrive path packet)
+    stands_near None None same stood = refl
+    stands_near None (Some q) same stood = absurd (cc)
+    stands_near (Some p) None same stood = absurd (cc)
+    stands_near (Some (i, a)) (Some (j, b)) same stood =
+        let is : a ≡ b = cc in
+        ap (λ c. stands c (time_of open_at e) a (standings_since stream open_at i a e)) (counting_near e f near)
+        ∙ ap (λ t. stands (is_counting f) t a (standings_since stream open_at i a e)) near.time
+        ∙ ap (stands (is_counting f) (time_of open_at f) a) stood
+        ∙ ap (λ x. stands (is_counting f) (time_of open_at f) x (standings_since stream open_at j b f)) is
 
-    restart_near : (o p : Option (ℕ × Anchor)) → anchor_in o ≡ anchor_in p → since_of stream open_at o e ≡ since_of stream open_at p f
-        → heard_of stream open_at o (e ++ Arrive path packet ∷ []) path ≡ heard_of stream open_at p (f ++ Arrive path packet ∷ []) path
-        → is_restart stream open_at o e path packet ≡ is_restart stream open_at p f path packet
-    restart_near None None same since heard = refl
-    restart_near None (Some q) same since heard = absurd (cc)
-    restart_near (Some p) None same since heard = absurd (cc)
-    restart_near (Some (i, a)) (Some (j, b)) same since heard = can_near i j a b (let is : a ≡ b = cc in is) since heard
+    -- how arrivals stand with it
+    standings_near : standings_of stream open_at (last_of (anchors_of stream open_at e)) (e ++ Arrive path packet ∷ []) ≡ standings_of stream open_at (last_of (anchors_of stream open_at f)) (f ++ Arrive path packet ∷ [])
+    standings_near =
+        standings_of-push stream open_at (last_of (anchors_of stream open_at e)) e (Arrive path packet) (place_within stream open_at e)
+        ∙ ap (λ l. l ++ standings_by stream open_at (last_of (anchors_of stream open_at e)) e (Arrive path packet)) near.standings
+        ∙ ap (λ l. standings_of stream open_at (last_of (anchors_of stream open_at f)) f ++ l) (stands_near (last_of (anchors_of stream open_at e)) (last_of (anchors_of stream open_at f)) anchor_near near.standings)
+        ∙ sym (standings_of-push stream open_at (last_of (anchors_of stream open_at f)) f (Arrive path packet) (place_within stream open_at f))
+
+    slip_near : (i j : ℕ) (a b : Anchor) → a ≡ b → standings_of stream open_at (Some (i, a)) e ≡ standings_of stream open_at (Some (j, b)) f
+        → standings_of stream open_at (Some (i, a)) (e ++ Arrive path packet ∷ []) ≡ standings_of stream open_at (Some (j, b)) (f ++ Arrive path packet ∷ [])
+        → is_slip stream open_at i a e path packet ≡ is_slip stream open_at j b f path packet
+    slip_near i j a b is stood stand =
+        ap (λ t. shows t a (standings_since stream open_at i a e) (standings_since stream open_at i a (e ++ Arrive path packet ∷ []))) near.time
+        ∙ ap (λ l. shows (time_of open_at f) a l (standings_since stream open_at i a (e ++ Arrive path packet ∷ []))) stood
+        ∙ ap (shows (time_of open_at f) a (standings_since stream open_at j b f)) stand
+        ∙ ap (λ x. shows (time_of open_at f) x (standings_since stream open_at j b f) (standings_since stream open_at j b (f ++ Arrive path packet ∷ []))) is
+
+    -- the room that it finds
+    room_near : (o p : Option (ℕ × Anchor)) → anchor_in o ≡ anchor_in p → standings_of stream open_at o e ≡ standings_of stream open_at p f → room_in_force stream open_at o e ≡ room_in_force stream open_at p f
+    room_near None None same stood = refl
+    room_near None (Some q) same stood = absurd (cc)
+    room_near (Some p) None same stood = absurd (cc)
+    room_near (Some (i, a)) (Some (j, b)) same stood =
+        let is : a ≡ b = cc in
+        ap (λ t. room_after stream a (next_number stream a t) (standings_since stream open_at i a e)) near.time
+        ∙ ap (room_after stream a (next_number stream a (time_of open_at f))) stood
+        ∙ ap (λ x. room_after stream x (next_number stream x (time_of open_at f)) (standings_since stream open_at j b f)) is
+
+    -- what is heard, and how arrivals stand before it and with it, is the same of both since these anchors
+    record SameSince (o p : Option (ℕ × Anchor)) : Type 0 where
+      copies : since_of stream open_at o e ≡ since_of stream open_at p f
+      heard : heard_of stream open_at o (e ++ Arrive path packet ∷ []) path ≡ heard_of stream open_at p (f ++ Arrive path packet ∷ []) path
+      stood : standings_of stream open_at o e ≡ standings_of stream open_at p f
+      stand : standings_of stream open_at o (e ++ Arrive path packet ∷ []) ≡ standings_of stream open_at p (f ++ Arrive path packet ∷ [])
+
+    same_since : SameSince (last_of (anchors_of stream open_at e)) (last_of (anchors_of stream open_at f))
+    same_since = record { copies = since_near; heard = heard_near path; stood = near.standings; stand = standings_near }
+
+    can_near : (i j : ℕ) (a b : Anchor) → a ≡ b → SameSince (Some (i, a)) (Some (j, b)) → can_restart stream open_at i a e path packet ≡ can_restart stream open_at j b f path packet
+    can_near i j a b is since =
+        ap (λ t. decides t a (since_of stream open_at (Some (i, a)) e) (heard_since stream open_at i a (e ++ Arrive path packet ∷ []) path) (is_slip stream open_at i a e path packet)) near.time
+        ∙ ap (λ c. decides (time_of open_at f) a c (heard_since stream open_at i a (e ++ Arrive path packet ∷ []) path) (is_slip stream open_at i a e path packet)) since.copies
+        ∙ ap (λ h. decides (time_of open_at f) a (since_of stream open_at (Some (j, b)) f) h (is_slip stream open_at i a e path packet)) since.heard
+        ∙ ap (decides (time_of open_at f) a (since_of stream open_at (Some (j, b)) f) (heard_since stream open_at j b (f ++ Arrive path packet ∷ []) path)) (slip_near i j a b is since.stood since.stand)
+        ∙ ap (λ x. decides (time_of open_at f) x (since_of stream open_at (Some (j, b)) f) (heard_since stream open_at j b (f ++ Arrive path packet ∷ []) path) (is_slip stream open_at j b f path packet)) is
+
+    restart_near : (o p : Option (ℕ × Anchor)) → anchor_in o ≡ anchor_in p → SameSince o p → is_restart stream open_at o e path packet ≡ is_restart stream open_at p f path packet
+    restart_near None None same since = refl
+    restart_near None (Some q) same since = absurd (cc)
+    restart_near (Some p) None same since = absurd (cc)
+    restart_near (Some (i, a)) (Some (j, b)) same since = can_near i j a b (let is : a ≡ b = cc in is) since
 
     -- the anchors that it makes
-    made_near : (o p : Option (ℕ × Anchor)) → anchor_in o ≡ anchor_in p → since_of stream open_at o e ≡ since_of stream open_at p f
-        → heard_of stream open_at o (e ++ Arrive path packet ∷ []) path ≡ heard_of stream open_at p (f ++ Arrive path packet ∷ []) path
-        → anchors_after stream open_at o e path packet ≡ anchors_after stream open_at p f path packet
-    made_near None None same since heard = ap (λ t. if can_anchor stream t packet then anchor_from stream t packet ∷ [] else []) near.time
-    made_near None (Some q) same since heard = absurd (cc)
-    made_near (Some p) None same since heard = absurd (cc)
-    made_near (Some (i, a)) (Some (j, b)) same since heard =
+    made_near : (o p : Option (ℕ × Anchor)) → anchor_in o ≡ anchor_in p → SameSince o p → anchors_after stream open_at o e path packet ≡ anchors_after stream open_at p f path packet
+    made_near None None same since = ap (λ t. if can_anchor stream t packet then anchor_from stream t packet ∷ [] else []) near.time
+    made_near None (Some q) same since = absurd (cc)
+    made_near (Some p) None same since = absurd (cc)
+    made_near (Some (i, a)) (Some (j, b)) same since =
         let is : a ≡ b = cc in
-        ap (λ c. if c then restart_from stream (time_of open_at e) a (next_number stream a (time_of open_at e)) packet ∷ [] else []) (can_near i j a b is since heard)
+        ap (λ c. if c then restart_from stream (time_of open_at e) a (next_number stream a (time_of open_at e)) packet ∷ [] else []) (can_near i j a b is since)
         ∙ ap (λ t. if can_restart stream open_at j b f path packet then restart_from stream t a (next_number stream a t) packet ∷ [] else []) near.time
         ∙ ap (λ x. if can_restart stream open_at j b f path packet then restart_from stream (time_of open_at f) x (next_number stream x (time_of open_at f)) packet ∷ [] else []) is
 
@@ -130,7 +192,7 @@ module _ (stream : Stream) (open_at : ℤ) where
     made_same : made_of e ≡ made_of f
     made_same =
         ap (λ c. if c then anchors_after stream open_at (last_of (anchors_of stream open_at e)) e path packet else []) (counting_near e f near)
-        ∙ ap (λ l. if is_counting f then l else []) (made_near (last_of (anchors_of stream open_at e)) (last_of (anchors_of stream open_at f)) anchor_near since_near (heard_near path))
+        ∙ ap (λ l. if is_counting f then l else []) (made_near (last_of (anchors_of stream open_at e)) (last_of (anchors_of stream open_at f)) anchor_near same_since)
 
     -- the last anchor with it
     last_is : (events : List Event) → last_of (anchors_of stream open_at (events ++ Arrive path packet ∷ [])) ≡ or_else (last_of (placed (length events) (made_of events))) (last_of (anchors_of stream open_at events))
@@ -167,33 +229,74 @@ module _ (stream : Stream) (open_at : ℤ) where
         ∙ heard_with on (made_of f) (last_of (anchors_of stream open_at e)) (last_of (anchors_of stream open_at f)) (heard_near on)
         ∙ sym (ap (λ o. heard_of stream open_at o (f ++ Arrive path packet ∷ []) on) (last_is f))
 
+    standings_with : (made : List Anchor) (o p : Option (ℕ × Anchor)) → standings_of stream open_at o (e ++ Arrive path packet ∷ []) ≡ standings_of stream open_at p (f ++ Arrive path packet ∷ [])
+        → standings_of stream open_at (or_else (last_of (placed (length e) made)) o) (e ++ Arrive path packet ∷ []) ≡ standings_of stream open_at (or_else (last_of (placed (length f) made)) p) (f ++ Arrive path packet ∷ [])
+    standings_with [] o p same = same
+    standings_with (a ∷ []) o p same = standings_of-made stream open_at a e (Arrive path packet) ∙ sym (standings_of-made stream open_at a f (Arrive path packet))
+    standings_with (a ∷ b ∷ made) o p same = standings_with (b ∷ made) o p same
+
+    standings_then : standings_of stream open_at (last_of (anchors_of stream open_at (e ++ Arrive path packet ∷ []))) (e ++ Arrive path packet ∷ []) ≡ standings_of stream open_at (last_of (anchors_of stream open_at (f ++ Arrive path packet ∷ []))) (f ++ Arrive path packet ∷ [])
+    standings_then =
+        ap (λ o. standings_of stream open_at o (e ++ Arrive path packet ∷ [])) (last_is e)
+        ∙ ap (λ l. standings_of stream open_at (or_else (last_of (placed (length e) l)) (last_of (anchors_of stream open_at e))) (e ++ Arrive path packet ∷ [])) made_same
+        ∙ standings_with (made_of f) (last_of (anchors_of stream open_at e)) (last_of (anchors_of stream open_at f)) standings_near
+        ∙ sym (ap (λ o. standings_of stream open_at o (f ++ Arrive path packet ∷ [])) (last_is f))
+
+    -- the room that it finds under the anchor in force with it
+    room_with : (made : List Anchor) (o p : Option (ℕ × Anchor)) → room_in_force stream open_at o e ≡ room_in_force stream open_at p f
+        → room_in_force stream open_at (or_else (last_of (placed (length e) made)) o) e ≡ room_in_force stream open_at (or_else (last_of (placed (length f) made)) p) f
+    room_with [] o p same = same
+    room_with (a ∷ []) o p same = room_made stream open_at a e ∙ sym (room_made stream open_at a f)
+    room_with (a ∷ b ∷ made) o p same = room_with (b ∷ made) o p same
+
+    room_same : room_in_force stream open_at (last_of (anchors_of stream open_at e)) e ≡ room_in_force stream open_at (last_of (anchors_of stream open_at f)) f
+    room_same = room_near (last_of (anchors_of stream open_at e)) (last_of (anchors_of stream open_at f)) anchor_near near.standings
+
+    abbrev room_then_of : List Event → ℕ
+    room_then_of events = room_in_force stream open_at (last_of (anchors_of stream open_at (events ++ Arrive path packet ∷ []))) events
+
+    room_then : room_then_of e ≡ room_then_of f
+    room_then =
+        ap (λ o. room_in_force stream open_at o e) (last_is e)
+        ∙ ap (λ l. room_in_force stream open_at (or_else (last_of (placed (length e) l)) (last_of (anchors_of stream open_at e))) e) made_same
+        ∙ room_with (made_of f) (last_of (anchors_of stream open_at e)) (last_of (anchors_of stream open_at f)) room_same
+        ∙ sym (ap (λ o. room_in_force stream open_at o f) (last_is f))
+
     copies_then : copies_of_all stream open_at (e ++ Arrive path packet ∷ []) ≡ copies_of_all stream open_at (f ++ Arrive path packet ∷ [])
     copies_then =
         copies_of_all-push stream open_at e (Arrive path packet)
         ∙ ap (λ l. l ++ copies_at stream open_at e (Arrive path packet)) near.copies
         ∙ ap (λ l. copies_of_all stream open_at f ++ l)
-        (ap (λ t. copies_under_with stream t (is_counting e) (anchor_of stream open_at (e ++ Arrive path packet ∷ [])) packet) near.time
-        ∙ ap (λ c. copies_under_with stream (time_of open_at f) c (anchor_of stream open_at (e ++ Arrive path packet ∷ [])) packet) (counting_near e f near)
-        ∙ ap (λ o. copies_under_with stream (time_of open_at f) (is_counting f) o packet) anchor_then)
+        (ap (λ r. copies_under_with (in_room stream r) (time_of open_at e) (is_counting e) (anchor_of stream open_at (e ++ Arrive path packet ∷ [])) packet) room_then
+        ∙ ap (λ t. copies_under_with (in_room stream (room_then_of f)) t (is_counting e) (anchor_of stream open_at (e ++ Arrive path packet ∷ [])) packet) near.time
+        ∙ ap (λ c. copies_under_with (in_room stream (room_then_of f)) (time_of open_at f) c (anchor_of stream open_at (e ++ Arrive path packet ∷ [])) packet) (counting_near e f near)
+        ∙ ap (λ o. copies_under_with (in_room stream (room_then_of f)) (time_of open_at f) (is_counting f) o packet) anchor_then)
         ∙ sym (copies_of_all-push stream open_at f (Arrive path packet))
 
     -- its fate, by what that hangs on
-    abbrev fate_by : Bool → ℕ → Bool → ℤ → Option Anchor → List (ℕ × Packet) → Fate
-    fate_by closed arrived restarts time anchor copies =
+    abbrev fate_by : Bool → ℕ → Bool → ℕ → ℤ → Option Anchor → List (ℕ × Packet) → Fate
+    fate_by closed arrived restarts room time anchor copies =
         if closed then Closed
         else if not (nat_lt arrived (2 ^ 62)) then CountersFull
         else if restarts then Restarted
-        else counted_fate stream time anchor copies packet
+        else counted_fate stream room time anchor copies packet
+
+    abbrev restarts_of : List Event → Bool
+    restarts_of events = is_restart stream open_at (last_of (anchors_of stream open_at events)) events path packet
+
+    abbrev room_of : List Event → ℕ
+    room_of events = room_in_force stream open_at (last_of (anchors_of stream open_at events)) events
 
     fate_near : fate_of stream open_at e path packet ≡ fate_of stream open_at f path packet
     fate_near =
-        let restart = restart_near (last_of (anchors_of stream open_at e)) (last_of (anchors_of stream open_at f)) anchor_near since_near (heard_near path) in
-        ap (λ c. fate_by c (arrival_count e) (is_restart stream open_at (last_of (anchors_of stream open_at e)) e path packet) (time_of open_at e) (anchor_of stream open_at e) (copies_of stream open_at e)) near.closed
-        ∙ ap (λ n. fate_by (is_closed f) n (is_restart stream open_at (last_of (anchors_of stream open_at e)) e path packet) (time_of open_at e) (anchor_of stream open_at e) (copies_of stream open_at e)) near.arrived
-        ∙ ap (λ r. fate_by (is_closed f) (arrival_count f) r (time_of open_at e) (anchor_of stream open_at e) (copies_of stream open_at e)) restart
-        ∙ ap (λ t. fate_by (is_closed f) (arrival_count f) (is_restart stream open_at (last_of (anchors_of stream open_at f)) f path packet) t (anchor_of stream open_at e) (copies_of stream open_at e)) near.time
-        ∙ ap (λ o. fate_by (is_closed f) (arrival_count f) (is_restart stream open_at (last_of (anchors_of stream open_at f)) f path packet) (time_of open_at f) o (copies_of stream open_at e)) near.anchor
-        ∙ ap (λ l. fate_by (is_closed f) (arrival_count f) (is_restart stream open_at (last_of (anchors_of stream open_at f)) f path packet) (time_of open_at f) (anchor_of stream open_at f) l) (copies_near e f near)
+        let restart : restarts_of e ≡ restarts_of f = restart_near (last_of (anchors_of stream open_at e)) (last_of (anchors_of stream open_at f)) anchor_near same_since in
+        ap (λ c. fate_by c (arrival_count e) (restarts_of e) (room_of e) (time_of open_at e) (anchor_of stream open_at e) (copies_of stream open_at e)) near.closed
+        ∙ ap (λ n. fate_by (is_closed f) n (restarts_of e) (room_of e) (time_of open_at e) (anchor_of stream open_at e) (copies_of stream open_at e)) near.arrived
+        ∙ ap (λ r. fate_by (is_closed f) (arrival_count f) r (room_of e) (time_of open_at e) (anchor_of stream open_at e) (copies_of stream open_at e)) restart
+        ∙ ap (λ r. fate_by (is_closed f) (arrival_count f) (restarts_of f) r (time_of open_at e) (anchor_of stream open_at e) (copies_of stream open_at e)) room_same
+        ∙ ap (λ t. fate_by (is_closed f) (arrival_count f) (restarts_of f) (room_of f) t (anchor_of stream open_at e) (copies_of stream open_at e)) near.time
+        ∙ ap (λ o. fate_by (is_closed f) (arrival_count f) (restarts_of f) (room_of f) (time_of open_at f) o (copies_of stream open_at e)) near.anchor
+        ∙ ap (fate_by (is_closed f) (arrival_count f) (restarts_of f) (room_of f) (time_of open_at f) (anchor_of stream open_at f)) (copies_near e f near)
 
     fates_then : fates_of stream open_at (e ++ Arrive path packet ∷ []) ≡ fates_of stream open_at (f ++ Arrive path packet ∷ [])
     fates_then =
@@ -225,6 +328,7 @@ module _ (stream : Stream) (open_at : ℤ) where
       fates = fates_then e f near path packet;
       anchor = anchor_then e f near path packet;
       heard = heard_then e f near path packet;
+      standings = standings_then e f near path packet;
       copies = copies_then e f near path packet;
       marks = rw (arrival_keeps stream open_at e path packet some near.timed, arrival_keeps stream open_at f path packet some near.other_timed) near.marks;
     }
@@ -248,6 +352,7 @@ module _ (stream : Stream) (open_at : ℤ) where
           fates = fates_of-tick stream open_at e u ∙ near.fates ∙ sym (fates_of-tick stream open_at f u);
           anchor = anchor_of-tick stream open_at e u ∙ near.anchor ∙ sym (anchor_of-tick stream open_at f u);
           heard = λ path. heard_of-tick stream open_at e u path ∙ near.heard path ∙ sym (heard_of-tick stream open_at f u path);
+          standings = standings_of-tick stream open_at e u ∙ near.standings ∙ sym (standings_of-tick stream open_at f u);
           copies = copies_of_all-tick stream open_at e u ∙ near.copies ∙ sym (copies_of_all-tick stream open_at f u);
           marks = subst (λ l. AreClose stream l (marks_of stream open_at (f ++ Tick u ∷ []))) (sym first)
               (subst (AreClose stream (marks_of stream open_at e ++ slots_or_quiet stream open_at (marks_of stream open_at f) u (slots_between stream (copies_of stream open_at f) (anchor_of stream open_at f) (time_of open_at f) u))) (sym second)
@@ -269,6 +374,7 @@ module _ (stream : Stream) (open_at : ℤ) where
           fates = fates_of-close stream open_at e ∙ near.fates ∙ sym (fates_of-close stream open_at f);
           anchor = anchor_of-close stream open_at e ∙ near.anchor ∙ sym (anchor_of-close stream open_at f);
           heard = λ path. heard_of-close stream open_at e path ∙ near.heard path ∙ sym (heard_of-close stream open_at f path);
+          standings = standings_of-close stream open_at e ∙ near.standings ∙ sym (standings_of-close stream open_at f);
           copies = copies_of_all-close stream open_at e ∙ near.copies ∙ sym (copies_of_all-close stream open_at f);
           marks = subst (λ l. AreClose stream l (marks_of stream open_at (f ++ Close ∷ []))) (sym first)
               (subst (AreClose stream (marks_of stream open_at e ++ marks_at stream open_at (copies_of_all stream open_at f) (marks_of stream open_at f) f Close)) (sym (marks_of-close stream open_at f))
@@ -354,6 +460,7 @@ module _ (stream : Stream) (open_at : ℤ) (some : 0 < stream.frames) (events : 
     fates = fates_of-tick stream open_at (events ++ Tick a ∷ []) b ∙ fates_of-tick stream open_at events a ∙ sym (fates_of-tick stream open_at events b);
     anchor = anchor_of-tick stream open_at (events ++ Tick a ∷ []) b ∙ anchor_of-tick stream open_at events a ∙ sym (anchor_of-tick stream open_at events b);
     heard = λ path. heard_of-tick stream open_at (events ++ Tick a ∷ []) b path ∙ heard_of-tick stream open_at events a path ∙ sym (heard_of-tick stream open_at events b path);
+    standings = standings_of-tick stream open_at (events ++ Tick a ∷ []) b ∙ standings_of-tick stream open_at events a ∙ sym (standings_of-tick stream open_at events b);
     copies = copies_of_all-tick stream open_at (events ++ Tick a ∷ []) b ∙ copies_of_all-tick stream open_at events a ∙ sym (copies_of_all-tick stream open_at events b);
     marks =
         subst (λ l. AreClose stream l (marks_of stream open_at (events ++ Tick b ∷ []))) (sym marks_long)
