@@ -23,7 +23,7 @@ fn turn_at(end: &mut StreamEnd, now: i64) -> TurnNote
     }
 }
 
-/// Passes a reading to a stream with the arrival clock before its first packet is taken.
+/// Passes a reading to a stream with a clock of arrivals before its first packet is taken.
 // The first packet has the time of the reading before it. A turn takes packets before it moves on to its own reading,
 // so without this the first packet would have the time of the turn before.
 fn read_first(end: &mut StreamEnd, now: i64)
@@ -32,7 +32,7 @@ fn read_first(end: &mut StreamEnd, now: i64)
     requires high { now ≤ℤ pos (2 ^ 60) }
     ensures { ReadsFirst end.old now end.new }
 {
-    if end.spec().clock() != StreamClock::Arrival || end.next_deadline().is_some() {
+    if matches!(end.spec().clock(), StreamClock::Media { .. }) || end.next_deadline().is_some() {
         return;
     }
     match end.read_clock(now) {
