@@ -236,6 +236,7 @@ CASE_PLACES = {
     "Traces": [
         *(f"examples/{name}" for name in ("first", "wrapped", "lost", "arrival-clock", "two-streams", "unlike-packets")),
         *(f"examples/{name}" for name in ("silent-stream", "long-latency", "gain-change", "restart", "four-paths")),
+        *(f"examples/follow-{name}" for name in ("late", "early", "paths", "early-path", "pause")),
         "examples/capture",
         "examples/blocks",
         f"{STUDIO}/tests/players.rt",

@@ -7,8 +7,8 @@ unreachable-requires c =
     let z : to_z w64 (of_z w64 c.args.now) ≡ c.args.now = search rules in
     never _ _ c.args.now _ c.in-Err.field-0 z c.in-Err.ensures.fault (c.requires.low) (c.requires.high) c.requires.open_yet
 
-pub returns-then-ne : goal.returns-then-ne
-returns-then-ne c = first-none _ _ c.requires.open_yet (c.requires.low)
+pub returns-then-matches : goal.returns-then-matches
+returns-then-matches c = first-none _ _ c.requires.open_yet (c.requires.low)
 
 pub returns : goal.returns
 returns c =
