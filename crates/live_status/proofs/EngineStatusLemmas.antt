@@ -1,7 +1,8 @@
 -- Streams of an engine, filled into a blank snapshot.
-use Rattle.std.proofs.Common.{◌≡◌, ℕ, ℤ, List, Option, Some, None, slice_get, replicate, sym, ap, subst, ◌∙◌, arith}
+use Rattle.std.proofs.Common.{◌≡◌, ℕ, zero, suc, ◌<◌, ◌≤◌, ℤ, List, [], ◌∷◌, length, get_or, Option, Some, None, IfSome, MatchOption, Bor, option_copied, slice_get, replicate, refl, sym, ap, subst, ◌∙◌, arith}
 use Rattle.status_page.specs.Blank.{blank_path}
-use Rattle.std.proofs.lemmas.Option.{slice_get-get_or, slice_get_within}
+use Rattle.std.specs.List.{HoldsAt}
+use Rattle.std.proofs.lemmas.Option.{slice_get-get_or, slice_get_read, slice_get_within}
 use Rattle.studio_engine.specs.Engine.{EngineState}
 use Rattle.status_page.specs.declared.snapshot.PathState.{PathState}
 use Rattle.status_page.specs.declared.snapshot.StreamState.{StreamState}
@@ -19,6 +20,23 @@ use Rattle.live_status.specs.declared.stream_status.StreamStatus.{StreamStatus}
 pub copies-from : (tracker : Option CopyTracker) (place : ℕ) (now : ℤ) (lost : ℕ) (old was is : PathState) → (was.copies ≡ old.copies) × (was.spare ≡ old.spare) → ShowsCopies tracker place now lost was is → ShowsCopies tracker place now lost old is
 copies-from None place now lost old was is same shown = (shown.0 ∙ same.0, shown.1 ∙ same.1)
 copies-from (Some tracker) place now lost old was is same shown = shown
+
+past : {X : Type 0} (xs : List X) (i : ℕ) → length xs ≤ i → slice_get xs i ≡ None
+past [] i h = refl
+past (x ∷ xs) zero h = absurd (omega (arith, h))
+past (x ∷ xs) (suc i) h = past xs i (omega (arith, h))
+
+-- what was found at a place is what stands there
+pub found-at : {X : Type 0} (xs : List X) (i : ℕ) (r : Option (Bor X)) → IfSome r (λ x. x.now ≡ get_or xs i x.now) → MatchOption r (length xs ≤ i) (λ x. (i < length xs) × HoldsAt (λ y. x.now ≡ y) xs i) → option_copied r ≡ slice_get xs i
+found-at xs i None is at = sym (past xs i at)
+found-at xs i (Some x) is at = sym (slice_get_read xs (length xs) i x.now refl at.0 is)
+
+-- a path with the same copies shows the same
+pub copies-to : (tracker : Option CopyTracker) (place : ℕ) (now : ℤ) (lost : ℕ) (old was is : PathState) → is.copies ≡ was.copies → is.spare ≡ was.spare → ShowsCopies tracker place now lost old was → ShowsCopies tracker place now lost old is
+copies-to None place now lost old was is copies spare shown = (copies ∙ shown.0, spare ∙ shown.1)
+copies-to (Some tracker) place now lost old was is copies spare shown = λ stream offers tallied.
+    let told = shown stream offers tallied in
+    (told.0, told.1, copies ∙ told.2, spare ∙ told.3)
 
 -- each blank stream that was filled in is the engine's
 pub streams-filled : (engine : EngineState) (trackers : List CopyTracker) (statuses : List StreamStatus) (blanks news : List StreamState) → AreEach IsBlankOf statuses blanks → AreEach (FillsStreamAt engine trackers) blanks news → AreEach (IsEngineStream engine trackers) statuses news
@@ -47,7 +65,7 @@ paths-kept engine tracker number counts blanks olds news shown kept = record {
       record {
         first = λ few. ap (λ (path : PathState). path.first) is ∙ was.first few;
         before = λ few. subst (λ (path : PathState). HasEngineBefore engine number place path.counts path.datagrams) (sym is) (was.before few);
-        copies = λ few. subst (λ (path : PathState). ShowsCopies tracker place engine.time counts.lost blank path) (sym is) (was.copies few);
+        copies = λ few. copies-to tracker place engine.time counts.lost blank _ new (ap (λ (path : PathState). path.copies) is) (ap (λ (path : PathState). path.spare) is) (was.copies few);
       };
 }
 
@@ -64,7 +82,7 @@ streams-kept engine trackers statuses olds news shown kept = record {
         latency_is = is.latency_is ∙ was.latency_is;
         counts = λ within. subst (λ (counts : Counts). HasEngineCounts engine place counts) (sym is.counts_are) (was.counts within);
         paths = λ within.
-            paths-kept engine (slice_get trackers place) place new.counts (replicate one.paths blank_path) _ new.paths.items
-            (subst (λ (counts : Counts). AreEach (IsEnginePath engine (slice_get trackers place) place counts) (replicate one.paths blank_path) _) (sym is.counts_are) (was.paths within)) is.paths_are;
+            paths-kept engine (slice_get trackers place) place new.counts (replicate one.paths blank_path) (get_or olds place new).paths.items new.paths.items
+            (subst (λ (counts : Counts). AreEach (IsEnginePath engine (slice_get trackers place) place counts) (replicate one.paths blank_path) (get_or olds place new).paths.items) (sym is.counts_are) (was.paths within)) is.paths_are;
       };
 }

@@ -38,15 +38,18 @@ abbrev pub known_text : Option ℕ → List ℕ
 known_text None = codes "-"
 known_text (Some number) = decimal number
 
--- the line of the socket of a path, at this reading of the clock
+-- the line of the socket of a path, at this reading of the clock, in three parts: its place, its faults, and what it lost
+abbrev pub socket_place : ℕ → ℕ → ℤ → List ℕ
+socket_place stream path time = codes "socket=" ++ decimal stream ++ path_letter path ++ codes " time=" ++ signed_decimal time
+
+abbrev pub socket_faults : SocketState → List ℕ
+socket_faults socket = codes " faults=" ++ decimal socket.faults ++ codes " ended=" ++ flag_text socket.has_ended
+
+abbrev pub socket_losses : SocketState → List ℕ
+socket_losses socket = codes " dropped=" ++ known_text socket.dropped ++ codes " unexpected=" ++ known_text socket.unexpected ++ codes "\n"
+
 abbrev pub socket_line : ℕ → ℕ → ℤ → SocketState → List ℕ
-socket_line stream path time socket =
-    codes "socket=" ++ decimal stream ++ path_letter path ++ codes " time=" ++ signed_decimal time
-    ++ codes " faults=" ++ decimal socket.faults
-    ++ codes " ended=" ++ flag_text socket.has_ended
-    ++ codes " dropped=" ++ known_text socket.dropped
-    ++ codes " unexpected=" ++ known_text socket.unexpected
-    ++ codes "\n"
+socket_line stream path time socket = socket_place stream path time ++ socket_faults socket ++ socket_losses socket
 
 -- the line of a run, at this reading of the clock: what was not sent of each copy of the mix, and its record
 abbrev pub run_line : ℤ → ℕ → ℕ → RecordState → List ℕ

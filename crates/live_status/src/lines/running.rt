@@ -3,7 +3,7 @@ ghost use Rattle.std.specs.Prelude.{◌≡◌, ◌+◌, ◌≤◌, ◌++◌, len
 ghost use Rattle.rtp_stream.specs.Counts.{tally_of};
 ghost use Rattle.studio_run.specs.Buffer.{PassesOn, BreaksOff};
 ghost use Rattle.status_page.specs.Record.{record_text};
-ghost use Rattle.live_status.specs.Lines.{flag_text, known_text, run_line, running_line, socket_line};
+ghost use Rattle.live_status.specs.Lines.{flag_text, known_text, run_line, running_line, socket_faults, socket_line, socket_losses, socket_place};
 
 use rtp_stream::{Counts, Path};
 use status_page::{RecordState, SocketState};
@@ -68,15 +68,41 @@ fn push_socket_line(text: &mut TextBuffer, stream: u8, path: Path, time: i64, so
     requires { length text.old + 4096 ≤ 65536 }
     ensures { text.new ≡ text.old ++ socket_line stream path time socket.now }
 {
+    push_socket_place(text, stream, path, time);
+    push_socket_faults(text, socket);
+    push_socket_losses(text, socket);
+}
+
+/// Adds the front of a socket's line: its path, and the clock reading.
+fn push_socket_place(text: &mut TextBuffer, stream: u8, path: Path, time: i64)
+    requires { length text.old + 100 ≤ 65536 }
+    ensures text { text.new ≡ text.old ++ socket_place stream path time }
+    ensures few { length text.new ≤ length text.old + 100 }
+{
     text.push("socket=");
     text.push_number(stream);
     text.push(path.letter());
     text.push(" time=");
     text.push_number(time);
+}
+
+/// Adds how often a socket failed, and whether its path has ended.
+fn push_socket_faults(text: &mut TextBuffer, socket: &SocketState)
+    requires { length text.old + 100 ≤ 65536 }
+    ensures text { text.new ≡ text.old ++ socket_faults socket.now }
+    ensures few { length text.new ≤ length text.old + 100 }
+{
     text.push(" faults=");
     text.push_number(socket.faults);
     text.push(" ended=");
     text.push(flag_text(socket.has_ended));
+}
+
+/// Adds the datagrams that a socket did not get or did not want, and ends the line.
+fn push_socket_losses(text: &mut TextBuffer, socket: &SocketState)
+    requires { length text.old + 200 ≤ 65536 }
+    ensures { text.new ≡ text.old ++ socket_losses socket.now }
+{
     text.push(" dropped=");
     push_known(text, socket.dropped);
     text.push(" unexpected=");
