@@ -18,7 +18,7 @@ use studio_session::ArriveOutcome;
 #[derive(Drop)]
 pub(crate) struct LiveObserver<'v, E> {
     record: Option<RecordObserver<'v>>,
-    status: Option<EngineStatus<'v, E>>,
+    status: Option<EngineStatus<'v, E, ShownHealth<'v>>>,
 }
 
 impl<'v, E: Write + Drop> LiveObserver<'v, E> {
