@@ -3,6 +3,7 @@
 A line holds the crate, how many edits it has, how many of them were refused, the date, and two checksums: of the crate, and of what
 the crates below it show to it. While both hold, no edit of the crate can have become provable.
 """
+import fcntl
 import hashlib
 import re
 import sys
@@ -87,6 +88,13 @@ def write(lines):
     """Writes the record, with the crates in the order of crates.txt."""
     rows = [[crate, str(line.edits), str(line.refused), *line[2:]] for crate in sources.crates() if (line := lines.get(crate))]
     FILE.write_text("\n".join([HEAD, *(f"{row[0]:16} {row[1]:>3} {row[2]:>3}  {'  '.join(row[3:])}" for row in rows), ""]))
+
+
+def update(lines):
+    """Puts lines into the record, which another run may write at the same time."""
+    with open(FILE, "a+") as file:
+        fcntl.flock(file, fcntl.LOCK_EX)
+        write({**read(), **lines})
 
 
 def differences():

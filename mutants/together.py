@@ -112,6 +112,9 @@ def points_into(line, places, texts, home):
     kind, path, number = found[1], found[2], int(found[3])
     if kind == "src":
         file = f"src/{path}"
+        if not (home / file).is_file():
+            # It is of a crate below.
+            return False
         lines = (texts.get(file) or (home / file).read_text()).splitlines()
         return Place(module_of(file), function_at(lines, number - 1) or "") in places
     parts = Path(path).parts[:-1]

@@ -16,9 +16,6 @@ pub enum CommandFault {
     /// A word of `--path` is not an IPv4 address and a port.
     #[error("usage: a path is not ADDRESS:PORT")]
     Address,
-    /// A chart of a capture on standard input, which can be read only once.
-    #[error("usage: --chart reads the capture twice, and - can be read once")]
-    ChartOfStdin,
     /// The file to write is also read. The file's path was written to `faults`.
     #[error("is an input")]
     OutputIsInput,
@@ -133,7 +130,7 @@ impl CommandFault {
     pub fn status(&self) -> u8 {
         match self {
             CommandFault::Address | CommandFault::StreamNumber | CommandFault::StreamWav(_) => 2,
-            CommandFault::ChartOfStdin | CommandFault::OutputIsInput => 2,
+            CommandFault::OutputIsInput => 2,
             CommandFault::Config(ConfigFault::Unread) => 5,
             CommandFault::Capture(CaptureInputFault::Unread) => 5,
             CommandFault::Capture(_) => 1,

@@ -3,12 +3,14 @@ ghost use Rattle.std.specs.Prelude.{[]};
 
 use crate::capture_flows::routes_at;
 use crate::config::studio_of;
-use crate::fault::CommandFault;
-use crate::host::{Host, open_capture};
+use crate::fault::{CaptureInputFault, CommandFault};
+use crate::host::{Host, STDIN_PATH, open_capture, refuse_inputs};
+use crate::replay_input::{PeekedInput, opening_in, paths_in, read_front, studio_for};
 use crate::replay_outputs::{ReplayOutputs, create_wav, finish_wav, write_chart};
 use command_line::ReplayArgs;
+use pcap_file::CaptureFault;
 use pcap_flows::Routes;
-use pcap_replay::{ReplayObserver, record_opening, replay, replay_record};
+use pcap_replay::{ReplayObserver, WavObserver, replay, replay_record};
 use reception_chart::{Extent, StudioTracker};
 use std::alloc::Global;
 use std::io;
@@ -48,14 +50,13 @@ pub fn run_replay<H: Host>(
     output: &mut H::Stdout,
     faults: &mut H::Stderr,
 ) -> Result<(), CommandFault> {
-    let is_stdin = args.file == "-";
-    if is_stdin && args.chart.is_some() {
-        return Err(CommandFault::ChartOfStdin);
-    }
-    let capture = if is_stdin { STDIN_PATH } else { args.file };
+    let capture = if args.is_stdin() { STDIN_PATH } else { args.file };
     refuse_inputs(host, "wav", args.wav, &[config, capture], faults)?;
     refuse_inputs(host, "chart", args.chart, &[config, capture], faults)?;
     let studio = studio_of(host, alloc, config)?;
+    if args.is_stdin() {
+        return replay_input(host, alloc, studio, &args, input, output, faults);
+    }
     let source = source_of(host, alloc, studio, &args)?;
     source.replay(host, alloc, &args, output, faults)
 }
@@ -65,7 +66,7 @@ fn replay_input<H: Host>(
     host: &H,
     alloc: Global,
     studio: StudioSpec,
-    args: ReplayArgs<'_>,
+    args: &ReplayArgs<'_>,
     input: &mut H::Stdin,
     output: &mut H::Stdout,
     faults: &mut H::Stderr,
@@ -136,11 +137,14 @@ fn source_of<H: Host>(
     studio: StudioSpec,
     args: &ReplayArgs<'_>,
 ) -> Result<ReplaySource, CommandFault> {
-    match opening_at(host, alloc, args.file)? {
-        Some(opening) => Ok(ReplaySource {
-            studio: opened_at(alloc, studio, opening)?,
-            kind: CaptureKind::Record,
-        }),
+    match opening_in(alloc, &mut open_capture(host, args.file)?)? {
+        Some(opening) => {
+            let paths = paths_in(alloc, &mut open_capture(host, args.file)?)?;
+            Ok(ReplaySource {
+                studio: studio_for(alloc, studio, opening, paths.as_slice())?,
+                kind: CaptureKind::Record,
+            })
+        }
         None => Ok(ReplaySource {
             kind: CaptureKind::Flows(routes_at(
                 host,
@@ -152,19 +156,6 @@ fn source_of<H: Host>(
             studio,
         }),
     }
-}
-
-/// Returns the studio for a record, which opens at the time at which the recorded run opened.
-fn opened_at(alloc: Global, studio: StudioSpec, opening: u64) -> Result<StudioSpec, CommandFault> {
-    // A time of 2^63 or more becomes one that `shifted` refuses: it is past 2^60.
-    let open_at = i64::try_from(opening).unwrap_or(i64::MAX);
-    Ok(studio.shifted(alloc, open_at)?)
-}
-
-/// Returns the opening time of a live run, in sampling instants, if the capture at a path is the record of one.
-fn opening_at<H: Host>(host: &H, alloc: Global, path: &str) -> Result<Option<u64>, CommandFault> {
-    let mut input = open_capture(host, path)?;
-    Ok(record_opening(alloc, &mut input)?)
 }
 
 impl ReplaySource {
