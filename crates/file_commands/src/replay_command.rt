@@ -50,7 +50,11 @@ pub fn run_replay<H: Host>(
     output: &mut H::Stdout,
     faults: &mut H::Stderr,
 ) -> Result<(), CommandFault> {
-    let capture = if args.is_stdin() { STDIN_PATH } else { args.file };
+    let capture = if args.is_stdin() {
+        STDIN_PATH
+    } else {
+        args.file
+    };
     refuse_inputs(host, "wav", args.wav, &[config, capture], faults)?;
     refuse_inputs(host, "chart", args.chart, &[config, capture], faults)?;
     let studio = studio_of(host, alloc, config)?;

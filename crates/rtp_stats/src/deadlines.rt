@@ -111,9 +111,9 @@ impl Deadlines {
         }
     }
 
-    /// Returns the arrival margin of a packet that was offered at the clock reading `now`, by its fate and timestamp: the
-    /// time from `now` to its deadline, in sampling instants at 48 kHz. Returns `None` if the packet did not come in
-    /// time or is not in step, or if no deadline is known.
+    /// Returns the arrival margin of a packet that was offered at the clock reading `now`, by its fate and timestamp.
+    /// This is the time from `now` to its deadline, in sampling instants at 48 kHz. Returns `None` if the packet did
+    /// not come in time or is not in step, or if no deadline is known.
     ///
     /// `due` is the stream's next deadline after the offer, as for `deadline`.
     pub fn margin(&mut self, fate: Fate, ts: u32, due: Option<i64>, now: i64) -> Option<u32>

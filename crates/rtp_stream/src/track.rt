@@ -1,4 +1,4 @@
-//! How a path's arrivals stand by the clock `Follow`: whether its sender is astray.
+//! The record of each path's arrivals by the clock `Follow`, which shows that a sender is astray.
 ghost use Rattle.std.specs.Prelude.{◌≡◌, ◌<◌, ◌≤◌, ◌+◌, ◌^◌, ◌&&◌, ℕ, nat_eq, false};
 ghost use Rattle.rtp_stream.specs.PacketRef.{packet_of};
 ghost use Rattle.rtp_stream.specs.Anchor.{is_source_wanted};
@@ -28,7 +28,7 @@ use crate::stream_spec::{StreamClock, StreamSpec};
 // Not 8 in a row: the first packets of a burst may be late, and the last ones not.
 const MIN_ASTRAY: u32 = 8;
 
-/// How an arrival stands by the clock `Follow`.
+/// The standing of an arrival by the clock `Follow`: in time, behind or beyond.
 #[derive(Clone, Copy, Debug)]
 pub struct Standing {
     /// The path on which it came in.
@@ -41,7 +41,7 @@ pub struct Standing {
     pub beyond: bool,
 }
 
-/// How one path's last 64 arrivals stand, and where its copies in time end.
+/// The record of one path: its last 64 arrivals, and the end of its copies in time.
 #[derive(Clone, Copy, Debug)]
 pub struct Track {
     /// A bit for each of the last 64 arrivals, the latest the lowest: it is 1 if that was behind or beyond.

@@ -27,8 +27,8 @@ pub struct WorkReport {
     pub fault_a: u64,
     /// The datagrams that failed at the second address.
     pub fault_b: u64,
-    /// True if nothing was left over: the sink was passed the datagrams of all blocks that were ready. In a run in
-    /// threads it is true exactly if every stream gave its token and the mixer's end took all its marks.
+    /// True if nothing was left over: the sink was passed the datagrams of all blocks that were ready. For a run in
+    /// threads `studio_rings::is_settled_with` states when it is true.
     pub settled: bool,
 }
 

@@ -71,7 +71,16 @@ fn dispatch<R: Threads + Wait + Sync + Net + Clock + RandomSource + Env + AllocG
         CliCommand::Live(path, args) => {
             let config = read_config(host, alloc, path)?;
             let instants = args.options.instants;
-            run_live(rt, alloc, config.as_slice(), instants, output, faults, host, args)
+            run_live(
+                rt,
+                alloc,
+                config.as_slice(),
+                instants,
+                output,
+                faults,
+                host,
+                args,
+            )
         }
         CliCommand::File(command) => {
             Ok(run_file_command(host, alloc, command, input, output, faults)?)

@@ -3,7 +3,8 @@ ghost use Rattle.std.specs.Prelude.{◌≡◌, ◌+◌, ◌≤◌, ◌++◌, len
 ghost use Rattle.rtp_stream.specs.Counts.{tally_of};
 ghost use Rattle.studio_run.specs.Buffer.{PassesOn, BreaksOff};
 ghost use Rattle.status_page.specs.Record.{record_text};
-ghost use Rattle.live_status.specs.Lines.{flag_text, known_text, run_line, running_line, socket_faults, socket_line, socket_losses, socket_place};
+ghost use Rattle.live_status.specs.Lines.{flag_text, known_text, run_line, running_line};
+ghost use Rattle.live_status.specs.Lines.{socket_faults, socket_line, socket_losses, socket_place};
 
 use rtp_stream::{Counts, Path};
 use status_page::{RecordState, SocketState};

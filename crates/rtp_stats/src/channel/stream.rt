@@ -72,7 +72,8 @@ impl StreamStatsSender {
         due: Option<i64>,
         now: i64,
     )
-        ensures noted { NotesOffer path fate packet.entry.seq packet.entry.ts due now self.old.tracker self.new.tracker }
+        ensures noted { NotesOffer path fate packet.entry.seq packet.entry.ts due now
+            self.old.tracker self.new.tracker }
         ensures ring { self.new.ring ≡ self.old.ring }
     {
         self.tracker
