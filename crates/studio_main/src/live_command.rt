@@ -30,25 +30,21 @@ struct OpenedStudio {
     began: Option<Duration>,
 }
 
-/// Runs the studio of a configuration's octets over sockets, for so many sampling instants if a number is given, and
-/// writes its report to `output`. If counts are asked for while it runs, they go to `faults`. Files are the host's.
-/// Returns the first fault: of the configuration, of the offset or the time of `--clock`, of a missing port or an
-/// inherited socket, of the record's file, or of the run.
+/// Runs the studio of a configuration's octets over sockets, and writes its report to `output`. If counts are asked for
+/// while it runs, they go to `faults`. Files are the host's. Returns the first fault: of the configuration, of the
+/// offset or the time of `--clock`, of a missing port or an inherited socket, of the record's file, or of the run.
 pub(crate) fn run_live<
     R: Threads + Wait + Sync + Net + Clock + RandomSource + Env + AllocGlobal,
     H: Host,
 >(
     rt: &R,
+    host: &H,
     alloc: Global,
     config: &[u8],
-    instants: Option<i64>,
+    args: LiveArgs<'_>,
     output: &mut H::Stdout,
     faults: &mut H::Stderr,
-    host: &H,
-    args: LiveArgs<'_>,
 ) -> Result<(), ProgramFault> {
-    let mut args = args;
-    args.options.instants = instants;
     let opened = open_studio(rt, alloc, parse_studio(alloc, config)?, args.tai_offset)?;
     let loaded = load_inputs(rt, alloc, &opened.studio, config, args.listen_fds)?;
     // The run creates the record once its sockets are bound. A file that is there already is refused before that.
@@ -62,7 +58,7 @@ fn run_loaded<R: Threads + Wait + Sync + Net + Clock + RandomSource + Env + Allo
     alloc: Global,
     opened: &OpenedStudio,
     loaded: &LoadedInputs,
-    record: Option<RecordPath<'_, H>>,
+    record: Option<RecordPath<'_, '_, H>>,
     args: LiveArgs<'_>,
     output: &mut H::Stdout,
     faults: &mut H::Stderr,
@@ -163,12 +159,12 @@ fn finish<W: Write>(
 
 /// A path of the host's files, at which a run creates its record.
 #[derive(Clone, Copy)]
-struct RecordPath<'a, H> {
-    host: &'a H,
-    path: &'a str,
+struct RecordPath<'h, 'p, H> {
+    host: &'h H,
+    path: &'p str,
 }
 
-impl<H: Host> CreateRecord for RecordPath<'_, H> {
+impl<H: Host> CreateRecord for RecordPath<'_, '_, H> {
     type File = H::Record;
 
     fn create(&self) -> Result<H::Record, RecordFault> {
@@ -177,10 +173,10 @@ impl<H: Host> CreateRecord for RecordPath<'_, H> {
 }
 
 /// Returns the place of a record, if one is asked for. Returns a fault if something is there.
-fn record_at<'a, H: Host>(
-    host: &'a H,
-    path: Option<&'a str>,
-) -> Result<Option<RecordPath<'a, H>>, ProgramFault> {
+fn record_at<'h, 'p, H: Host>(
+    host: &'h H,
+    path: Option<&'p str>,
+) -> Result<Option<RecordPath<'h, 'p, H>>, ProgramFault> {
     match path {
         Some(path) if host.has(path) => Err(ProgramFault::Live(LiveFault::RecordExists)),
         Some(path) => Ok(Some(RecordPath { host, path })),

@@ -70,17 +70,7 @@ fn dispatch<R: Threads + Wait + Sync + Net + Clock + RandomSource + Env + AllocG
     match command {
         CliCommand::Live(path, args) => {
             let config = read_config(host, alloc, path)?;
-            let instants = args.options.instants;
-            run_live(
-                rt,
-                alloc,
-                config.as_slice(),
-                instants,
-                output,
-                faults,
-                host,
-                args,
-            )
+            run_live(rt, host, alloc, config.as_slice(), args, output, faults)
         }
         CliCommand::File(command) => {
             Ok(run_file_command(host, alloc, command, input, output, faults)?)
@@ -112,7 +102,7 @@ fn run_file_command<H: Host>(
         }
         FileCommand::Chart(path) => run_chart(host, alloc, path, input, output),
         FileCommand::Check(path) => run_check(host, alloc, path, output),
-        FileCommand::Streams(path) => run_streams(host, alloc, path, output),
+        FileCommand::Streams(args) => run_streams(host, alloc, args, output),
         FileCommand::Import(path, args) => run_import(host, alloc, path, &args, output, faults),
         FileCommand::Replay(config, args) => {
             run_replay(host, alloc, config, args, input, output, faults)
