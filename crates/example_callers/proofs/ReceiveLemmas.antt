@@ -14,7 +14,7 @@ use Rattle.rtp_stream.specs.Grid.{first_with}
 use Rattle.rtp_stream.specs.History.{is_closed, is_well_timed, time_of}
 use Rattle.rtp_stream.specs.Marks.{body_of, has_slot, is_past_quiet, is_past_quiets, is_quiet_new, is_slot, marks_of, quiet_mark, slot_mark, slots_between, slots_from, slots_or_quiet}
 use Rattle.rtp_stream.specs.declared.anchor.Anchor.{Anchor}
-use Rattle.path_merge.proofs.EpochLemmas.{heard_of-tick}
+use Rattle.path_merge.proofs.EpochLemmas.{heard_of-tick, standings_of-tick}
 use Rattle.path_merge.proofs.JoinLemmas.{alike-trans, has_slot-append}
 use Rattle.path_merge.proofs.StepLemmas.{marks_of-tick}
 use Rattle.rtp_stream.specs.declared.stream_spec.Stream.{Stream}
@@ -174,6 +174,7 @@ module _ (stream : Stream) (open_at : ℤ) (before : List Event) (u : ℤ) (open
     fates = fates_of-tick stream open_at once u;
     anchor = anchor_of-tick stream open_at once u;
     heard = heard_of-tick stream open_at once u;
+    standings = standings_of-tick stream open_at once u;
     copies = copies_of-tick stream open_at once u;
     marks = same_marks;
     before_close = rw (events_until_close-open (once ++ Tick u ∷ []) (is_closed-append once (Tick u ∷ []) ∙ rw open_then refl), events_until_close-open once open_then) same_marks;
