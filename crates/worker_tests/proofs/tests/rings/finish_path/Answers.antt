@@ -1,6 +1,6 @@
 use Rattle.std.proofs.Common.{IfSome, subst}
 use Rattle.rtrb.specs.Ring.{Finishes, all_sent}
-use Rattle.studio_ends.specs.declared.path.PathDone.{PathDone}
+use Rattle.studio_ends.specs.declared.path_end.PathDone.{PathDone}
 use Rattle.worker_tests.proofs.OneStreamLemmas.{handed_in, token_of}
 use Rattle.worker_tests.proofs.tests.rings.finish_path.Goals as goal
 
