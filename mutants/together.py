@@ -61,7 +61,11 @@ def module_of(file):
 
 
 def function_at(lines, number):
-    """The name of the function that holds a line, its attributes among them, or None between functions."""
+    """The name of the function that holds a line, its attributes among them, or None between functions.
+
+    A message may point into a file of the same name of a crate below, which may have more lines."""
+    if number >= len(lines):
+        return None
     while lines[number].lstrip().startswith(("#[", "//")) and number + 1 < len(lines):
         number += 1
     for line in reversed(lines[: number + 1]):

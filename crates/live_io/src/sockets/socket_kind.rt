@@ -1,8 +1,7 @@
 //! The kind of a descriptor that was passed in: a UDP socket at an IPv4 address, or not.
 
-use crate::sockets::udp_table::{UDP_TABLE, is_listed};
+use crate::sockets::udp_table::{UDP_TABLE, is_listed, with_digit};
 use libc::net;
-use libc::types::{statx, statx_timestamp};
 use os::FromRawFd;
 use std::net::{SocketAddr, UdpSocket};
 use std::os::fd::IntoRawFd;
@@ -14,6 +13,13 @@ const OTHER_TABLES: [&[u8]; 3] = [
     b"/proc/self/net/icmp",
     b"/proc/self/net/udplite",
 ];
+
+/// The path of a descriptor's link, in which the digits of its number replace slashes from the end.
+// A path may have several slashes where one would do, so the number needs no fixed place.
+const LINK: [u8; 24] = *b"/proc/self/fd///////////";
+
+/// The greatest number of octets of a socket's link, `socket:[INODE]`, with an inode of 20 digits, and more.
+const MAX_LINK: usize = 32;
 
 /// Returns true if a descriptor is a UDP socket at an IPv4 address, as far as the system says. The descriptor stays
 /// open.
@@ -39,14 +45,35 @@ pub(crate) fn is_udp_socket(descriptor: i32) -> bool {
 }
 
 /// Returns the inode of a socket, or `None` if the descriptor is not a socket.
-// The same number as in the link `/proc/self/fd/N`, which is `socket:[INODE]`.
 pub(crate) fn inode_of(descriptor: i32) -> Option<u64> {
-    let mut found = blank_status();
-    if os::statx(descriptor, b"", libc::AT_EMPTY_PATH, &mut found) != 0 {
-        return None;
+    let path = link_path(u32::try_from(descriptor).ok()?);
+    let mut target = [0u8; MAX_LINK];
+    let len = usize::try_from(os::readlink(&path, &mut target)).ok()?;
+    inode_in(target.get(..len)?)
+}
+
+/// Returns the path of a descriptor's link.
+fn link_path(descriptor: u32) -> [u8; 24] {
+    let mut path = LINK;
+    let mut left = descriptor;
+    for octet in path.iter_mut().rev() {
+        *octet = b'0' + (left % 10) as u8;
+        left /= 10;
+        if left == 0 {
+            break;
+        }
     }
-    let is_socket = u32::from(found.stx_mode) & libc::S_IFMT == libc::S_IFSOCK;
-    is_socket.then_some(found.stx_ino)
+    path
+}
+
+/// Returns the inode in a socket's link, `socket:[INODE]`, or `None` if it is the link of something else.
+fn inode_in(target: &[u8]) -> Option<u64> {
+    let digits = target.strip_prefix(b"socket:[")?.strip_suffix(b"]")?;
+    let mut inode = Some(0);
+    for octet in digits {
+        inode = with_digit(inode, *octet);
+    }
+    inode
 }
 
 /// Returns true if a descriptor is a socket at an IPv4 address.
@@ -88,39 +115,4 @@ fn needs_connection(descriptor: i32) -> bool {
     let mut octets = [0u8; 1];
     let count = unsafe { net::recv(descriptor, &mut octets, flags) };
     count < 0 && os::errno() == libc::ENOTCONN
-}
-
-/// Returns the value that `statx` fills.
-fn blank_status() -> statx {
-    let never = statx_timestamp {
-        tv_sec: 0,
-        tv_nsec: 0,
-        __reserved: 0,
-    };
-    statx {
-        stx_mask: 0,
-        stx_blksize: 0,
-        stx_attributes: 0,
-        stx_nlink: 0,
-        stx_uid: 0,
-        stx_gid: 0,
-        stx_mode: 0,
-        __spare0: [0],
-        stx_ino: 0,
-        stx_size: 0,
-        stx_blocks: 0,
-        stx_attributes_mask: 0,
-        stx_atime: never,
-        stx_btime: never,
-        stx_ctime: never,
-        stx_mtime: never,
-        stx_rdev_major: 0,
-        stx_rdev_minor: 0,
-        stx_dev_major: 0,
-        stx_dev_minor: 0,
-        stx_mnt_id: 0,
-        stx_dio_mem_align: 0,
-        stx_dio_offset_align: 0,
-        __spare3: [0; 12],
-    }
 }

@@ -128,7 +128,8 @@ const KEPT: [&str; 3] = [
 #[test]
 fn a_connection_is_kept(rt: HostRuntime) {
     let page = &mut Page::new(rt.alloc(), snapshot());
-    let requests = b"GET /state HTTP/1.1\r\nHost: h\r\n\r\nGET /?now HTTP/1.1\r\nHost: h\r\n\r\n";
+    let requests =
+        b"GET /state HTTP/1.1\r\nHost: localhost\r\n\r\nGET /?now HTTP/1.1\r\nHost: localhost\r\n\r\n";
     has_kept_parts(&rt, &answers(&rt, rt.alloc(), page, requests));
 }
 

@@ -68,11 +68,13 @@ fn add_output(snapshot: &mut Snapshot, peak: u32) {
     let _ = snapshot.outputs.try_push(output);
 }
 
-/// Returns a snapshot of that stream and of two output channels.
+/// Returns a snapshot of that stream, of two output channels, of failed sends and of a record.
 pub(super) fn snapshot() -> Snapshot {
     let mut snapshot = Snapshot::new();
     let _ = snapshot.streams.try_push(stream());
     add_output(&mut snapshot, 8_388_608);
     add_output(&mut snapshot, 0);
+    snapshot.failed_sends = [11, 13];
+    snapshot.record = RecordState::Closed(14);
     snapshot
 }

@@ -16,6 +16,10 @@ pub(super) const STATE: &str =
     \"outputs\":[{\"peak\":8388608,\"saturated\":2},{\"peak\":0,\"saturated\":2}],\
     \"failed_sends\":[11,13],\"record\":{\"state\":\"ended\",\"datagrams\":14}}";
 
+/// The JSON of a snapshot without streams, outputs, failed sends and a record.
+const EMPTY: &str = "{\"streams\":[],\"outputs\":[],\"failed_sends\":[0,0],\
+    \"record\":{\"state\":\"none\",\"datagrams\":null}}";
+
 /// Parts of its metrics.
 const METRICS: [&str; 12] = [
     "# HELP darbexum_stream_state Where the stream stands: 1 for the state that it is in, and 0 for the others.\n\
@@ -61,8 +65,7 @@ fn is_state(rt: &impl Abort, alloc: Global, snapshot: &Snapshot, want: &str) -> 
 #[test]
 fn the_state_is_json(rt: HostRuntime) {
     let is_written = is_state(&rt, rt.alloc(), &snapshot(), STATE);
-    let empty = "{\"streams\":[],\"outputs\":[]}";
-    let empty_is_written = is_state(&rt, rt.alloc(), &Snapshot::new(), empty);
+    let empty_is_written = is_state(&rt, rt.alloc(), &Snapshot::new(), EMPTY);
     assert!(rt; is_written && empty_is_written, "there is memory");
 }
 
