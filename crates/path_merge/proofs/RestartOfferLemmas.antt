@@ -100,7 +100,7 @@ counted_arrivals stream open_at = by_last_event (λ events. is_closed events ≡
             let many : 2 ^ 62 ≤ arrival_count events = grind (arith, nat_tests, is) in
             ap length (append-nil (fates_of stream open_at events)) ∙ omega (arith, same, many, arrival_count-append events (Arrive path packet ∷ []))
 
--- how arrivals stand on a path, and one more
+-- the standings of the arrivals on a path, with one arrival more
 pub standings_on-own : (path : ℕ) (standings : List Standing) (s : Standing) → s.path ≡ path → standings_on path (standings ++ s ∷ []) ≡ standings_on path standings ++ s ∷ []
 standings_on-own path [] s is = let same : nat_eq s.path path ≡ true = grind (arith, nat_tests, is) in rw same refl
 standings_on-own path (x ∷ standings) s is = by_test (nat_eq x.path path) (standings_on-own path standings s is)

@@ -69,7 +69,7 @@ pub record IsNextStep (stream : Stream) (old new : MergeState) (a : Anchor) (pat
   pub hears : IsHeardStep old (record old { probations = heard; tracks = noted }) a path packet
   pub puts : IsPutStep stream (room_by stream a old.base old.tracks) (record old { probations = heard; tracks = noted }) new a path packet fate
 
--- an arrival that opens an epoch, where nothing is held: the window begins anew at its number, and every probation and track too
+-- an arrival that opens an epoch, where nothing is held: the window starts at its number, and no path has a probation or a track any more
 pub record IsRestartStep (stream : Stream) (old new : MergeState) (a : Anchor) (path : ℕ) (packet : Packet) (fate : Fate) : Type 0 where
   pub fate_is : fate ≡ Restarted
   pub held : (n : ℕ) → get new.held n ≡ (if nat_eq n (65536 + packet.seq) then Some packet else None)

@@ -44,7 +44,7 @@ pub struct DatagramOrigin {
 #[derive(Drop)]
 pub struct RecordObserver<'a> {
     end: BlockProducer,
-    /// The result of the record, which is told the record's end.
+    /// The result of the record, in which the reason of its end is set.
     recorded: &'a RecordResult,
     /// The studio's opening time, in sampling instants.
     open_at: i64,

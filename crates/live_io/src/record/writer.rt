@@ -55,7 +55,7 @@ pub struct RecordWriter<'a> {
     len: u64,
     /// The number of datagrams that were written.
     datagrams: u64,
-    /// The result of the record, which is told the datagrams so far.
+    /// The result of the record, in which the number of datagrams so far is set.
     recorded: &'a RecordResult,
 }
 
