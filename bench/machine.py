@@ -47,7 +47,8 @@ def save(name, words, before, lines):
         model = re.search(r"model name\s*: (.*)", file.read())
     day = datetime.date.today().isoformat()
     machine = f"{os.cpu_count()} processors, {model.group(1) if model else 'unknown'}"
-    text = "\n".join([f"bench/{name} {words}".strip() + f", {day}, {machine}, load {before} to {load()}", "", *lines]) + "\n"
+    script = os.path.basename(sys.argv[0])
+    text = "\n".join([f"bench/{script} {words}".strip() + f", {day}, {machine}, load {before} to {load()}", "", *lines]) + "\n"
     print(text, end="")
     with open(os.path.join(HERE, "results", f"{name}-{day}.txt"), "w") as file:
         file.write(text)
