@@ -49,7 +49,7 @@ run:
 
 # The scripts drive the program that the gate has built: side by side, but for those that a busy machine would disturb.
 program := crates/studio_main/out/studio_main
-scripts := memory/check tests/captures tests/sdp tests/package diff/run $(addprefix examples/,check faults statuses blocks wav chart)
+scripts := docs/commands memory/check tests/captures tests/sdp tests/package diff/run $(addprefix examples/,check faults statuses blocks wav chart)
 
 try:
 	@gate/try

@@ -1,0 +1,195 @@
+"""What the pages have to say, by the sources: keys, fault lines, metrics, words of the command line, alerts, code, links and words."""
+import re
+
+import sources
+from sources import ROOT
+
+LINK = re.compile(r"\]\(([^)#:\s]*)(?:#([^)\s]+))?\)")
+FENCE = re.compile(r"^(```|~~~).*?^\1\s*$", re.MULTILINE | re.DOTALL)
+# Pages whose words are checked. The changelog keeps what was written at the time.
+OLD = {"CHANGELOG.md"}
+# Words that are never right in a page, outside of code, with the words to write.
+NEVER = {
+    r"want of memory": "out of memory",
+    r"handed over": "inherited, or passed in",
+    r"held[- ]back": "blocked",
+    r"strangers?": "unexpected source",
+    r"spare time": "arrival margin",
+    r"stands? (?:on|at)": "depends on, or is",
+    r"anew": "again",
+    r"beside": "next to",
+    r"len[dt]s?": "borrowed, or returns a reference to",
+    r"a front of": "a prefix of",
+    r"sightings": "what is counted, by name",
+    r"stands as it is": "is unchanged",
+}
+SOURCES = ROOT / "crates"
+ERRORS = "file_commands/src/fault.rt", "studio_main/src/fault.rt", "live_run/src/fault.rt"
+CODE_PAGES = "README.md", "docs/EMBEDDING.md"
+
+
+def page(name):
+    path = ROOT / name
+    return path.read_text() if path.is_file() else ""
+
+
+def all_pages():
+    """The pages of the repository, without what is built."""
+    return [path for path in sorted(ROOT.glob("**/*.md")) if "out" not in path.relative_to(ROOT).parts]
+
+
+def anchors_of(text):
+    """The names by which the headings of a page are linked to."""
+    found = {}
+    for heading in re.findall(r"^#+ (.*)$", FENCE.sub("", text), re.MULTILINE):
+        plain = re.sub(r"\[([^\]]*)\]\([^)]*\)", r"\1", heading).replace("`", "").lower()
+        name = re.sub(r"[^\w\- ]", "", plain).replace(" ", "-")
+        found[name] = found.get(name, -1) + 1
+    return {name if not number else f"{name}-{number}" for name, last in found.items() for number in range(last + 1)}
+
+
+def broken_links():
+    """Links that lead to no file or to no heading."""
+    for path in all_pages():
+        for target, anchor in LINK.findall(FENCE.sub("", path.read_text())):
+            file = path.parent / target if target else path
+            if not file.exists():
+                yield f"{path.relative_to(ROOT)} links to {target}, which isn't there"
+            elif anchor and file.suffix == ".md" and anchor not in anchors_of(file.read_text()):
+                yield f"{path.relative_to(ROOT)} links to {target}#{anchor}, which isn't there"
+
+
+def prose(text):
+    """A page without its code."""
+    text = FENCE.sub("", text)
+    text = re.sub(r"^    .*$", "", text, flags=re.MULTILINE)
+    return re.sub(r"`[^`]*`", "", text)
+
+
+def wrong_words():
+    """Words that are never right."""
+    for path in all_pages():
+        if path.name in OLD:
+            continue
+        text = prose(path.read_text())
+        for wrong, right in NEVER.items():
+            for found in re.findall(rf"\b(?:{wrong})\b", text, re.IGNORECASE):
+                yield f"{path.relative_to(ROOT)} says '{found}'; write {right}"
+
+
+def lacks(name, words, what):
+    """Words that a page lacks as code."""
+    text = page(name)
+    for word in words:
+        if not re.search(rf"`[^`\n]*(?<![\w-]){re.escape(word)}(?![\w])[^`\n]*`", text):
+            yield f"{name} lacks {what} {word}"
+
+
+def keys():
+    return re.findall(r'Key::\w+ => "(\w+)"', (SOURCES / "studio_config/src/config/keys.rt").read_text())
+
+
+def missing_keys():
+    """Keys of the configuration without a row, or without a line in the file that has every key."""
+    example = page("examples/every-key/studio.toml")
+    yield from lacks("docs/CONFIGURATION.md", keys(), "the key")
+    for key in keys():
+        if not re.search(rf"^(?:{key} = |\[\[?(?:\w+\.)?{key}\]?\])", example, re.MULTILINE):
+            yield f"examples/every-key/studio.toml lacks the key {key}"
+    if f"```toml\n{example}```" not in page("docs/CONFIGURATION.md"):
+        yield "docs/CONFIGURATION.md has another file than examples/every-key/studio.toml"
+
+
+def error_lines():
+    """What each fault's line begins with."""
+    for name in ERRORS:
+        for text in re.findall(r'#\[error\("([^"]+)"\)\]', (SOURCES / name).read_text()):
+            begin = text.partition("{")[0].strip()
+            if begin:
+                yield begin
+
+
+def missing_faults():
+    text = page("docs/FORMATS.md") + page("docs/CONFIGURATION.md")
+    yield from (f"docs/FORMATS.md lacks the fault line '{line}'" for line in sorted(set(error_lines())) if line not in text)
+
+
+def command_words():
+    """The commands, and their options."""
+    text = (SOURCES / "command_line/src/commands.rt").read_text()
+    for found in re.finditer(r'(CommandSpec|ArgSpec)(?: = ArgSpec)? \{\s*name: "([\w-]+)"', text):
+        if found[2] not in ("CONFIG", "FILE"):
+            yield found[2] if found[1] == "CommandSpec" else f"--{found[2]}"
+
+
+def metric_names(group, file, counts=()):
+    """The metrics of a group of numbers, by the keys and kinds in its file."""
+    text = (SOURCES / "status_page/src/fields" / file).read_text()
+    named = dict(re.findall(r'Field::(\w+) => "(\w+)"', text))
+    gauges = {name for arm in re.findall(r"((?:\w+Field::\w+(?:\(_\))?\s*\|?\s*)+)=>\s*\{?\s*MetricKind::Gauge", text) for name in re.findall(r"Field::(\w+)", arm)}
+    for name, key in named.items():
+        yield f"darbexum_{group}_{key}{'' if name in gauges else '_total'}"
+    yield from (f"darbexum_{group}_{key}_total" for key in counts)
+
+
+def metrics():
+    counts = re.findall(r'CountField::\w+ => "(\w+)"', (SOURCES / "rtp_stream/src/count_field.rt").read_text().partition("fn word")[0])
+    yield from metric_names("stream", "stream.rt", counts)
+    yield from metric_names("path", "path.rt")
+    yield from metric_names("output", "output.rt")
+    yield from ("darbexum_stream_state", "darbexum_sends_failed_total", "darbexum_record_state", "darbexum_record_datagrams_total")
+
+
+def alerts():
+    return re.findall(r"- alert: (\w+)", page("examples/alerts.yml"))
+
+
+def copied_code():
+    """Blocks of code that differ from the file that they are said to be of. Indents are left out."""
+    plain = lambda text: "\n".join(line.strip() for line in text.splitlines())
+    for name in CODE_PAGES:
+        for before, block in re.findall(r"([^\n]*)\n\n```rust\n(.*?)```", page(name), re.DOTALL):
+            names = re.findall(r"`(crates/[^`]+\.rt)`", before)
+            source = "".join((ROOT / file).read_text() for file in names if (ROOT / file).is_file())
+            if plain(block) not in plain(source):
+                yield f"{name} has code that isn't word for word in {', '.join(names) or 'any file that it names'}"
+
+
+def clauses_by_call():
+    """The clauses of all functions that a crate shows, by the call's name with its type."""
+    found = {}
+    for crate in sources.crates():
+        for call in sources.public_calls_of(crate):
+            found.setdefault(call.path(), set()).update(call.requires + call.ensures)
+    return found
+
+
+def unknown_claims():
+    """Calls and clauses that CLAIMS names and that are gone. A row of its tables is a claim, calls, and clauses as `call: clause`."""
+    known = clauses_by_call()
+    short = {}
+    for path, clauses in known.items():
+        short.setdefault(path.split("::")[-1], set()).update(clauses)
+    for row in re.findall(r"^\|(.*)\|$", page("docs/CLAIMS.md"), re.MULTILINE):
+        cells = [cell.strip() for cell in row.split("|")]
+        if len(cells) != 3 or cells[1] == "Call" or set(cells[1]) == {"-"}:
+            continue
+        calls = re.findall(r"`([\w:]+)`", cells[1])
+        for call in calls:
+            if call not in known:
+                yield f"docs/CLAIMS.md names the call {call}, which isn't there"
+        for clause in re.findall(r"`(\w+)`", cells[2]):
+            if not any(clause in known.get(call, ()) for call in calls):
+                yield f"docs/CLAIMS.md names the clause {clause}, which {', '.join(calls)} doesn't have"
+
+
+def differences():
+    yield from broken_links()
+    yield from wrong_words()
+    yield from missing_keys()
+    yield from missing_faults()
+    yield from lacks("docs/FORMATS.md", command_words(), "the word")
+    yield from lacks("docs/OPERATING.md", metrics(), "the metric")
+    yield from (f"docs/OPERATING.md lacks the alert {alert}" for alert in alerts() if alert not in page("docs/OPERATING.md"))
+    yield from copied_code()
+    yield from unknown_claims()
