@@ -156,31 +156,36 @@ def copied_code():
 
 
 def clauses_by_call():
-    """The clauses of all functions that a crate shows, by the call's name with its type."""
+    """The clauses of all public functions, by the call's name with its type."""
     found = {}
     for crate in sources.crates():
-        for call in sources.public_calls_of(crate):
-            found.setdefault(call.path(), set()).update(call.requires + call.ensures)
+        for call in sources.calls_of(crate):
+            if call.public:
+                found.setdefault(call.path(), set()).update(call.requires + call.ensures)
     return found
 
 
+def claim_rows():
+    """The calls and the clauses of each row in the tables of CLAIMS."""
+    is_claim = False
+    for line in page("docs/CLAIMS.md").splitlines():
+        cells = [cell.strip() for cell in line.strip("|").split("|")]
+        if cells[1:] == ["Call", "Clause"]:
+            is_claim = True
+        elif not line.startswith("|"):
+            is_claim = False
+        elif is_claim and not cells[0].startswith("-"):
+            yield [re.findall(r"`([\w:]+)`", cell) for cell in cells[1:3]]
+
+
 def unknown_claims():
-    """Calls and clauses that CLAIMS names and that are gone. A row of its tables is a claim, calls, and clauses as `call: clause`."""
+    """Calls and clauses that CLAIMS names and that are gone."""
     known = clauses_by_call()
-    short = {}
-    for path, clauses in known.items():
-        short.setdefault(path.split("::")[-1], set()).update(clauses)
-    for row in re.findall(r"^\|(.*)\|$", page("docs/CLAIMS.md"), re.MULTILINE):
-        cells = [cell.strip() for cell in row.split("|")]
-        if len(cells) != 3 or cells[1] == "Call" or set(cells[1]) == {"-"}:
-            continue
-        calls = re.findall(r"`([\w:]+)`", cells[1])
-        for call in calls:
-            if call not in known:
-                yield f"docs/CLAIMS.md names the call {call}, which isn't there"
-        for clause in re.findall(r"`(\w+)`", cells[2]):
+    for calls, clauses in claim_rows():
+        yield from (f"docs/CLAIMS.md names the call {call}, which isn't there" for call in calls if call not in known)
+        for clause in clauses:
             if not any(clause in known.get(call, ()) for call in calls):
-                yield f"docs/CLAIMS.md names the clause {clause}, which {', '.join(calls)} doesn't have"
+                yield f"docs/CLAIMS.md names the clause {clause}, which {', '.join(calls) or 'no call'} doesn't have"
 
 
 def differences():
