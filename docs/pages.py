@@ -188,6 +188,14 @@ def unknown_claims():
                 yield f"docs/CLAIMS.md names the clause {clause}, which {', '.join(calls) or 'no call'} doesn't have"
 
 
+def unknown_outputs():
+    """Lines of a report that MIXING shows and that no example has."""
+    reports = {line for file in ROOT.glob("examples/*/report.txt") for line in file.read_text().splitlines()}
+    for line in re.findall(r"^ +(out [0-9a-f]+)$", page("docs/MIXING.md"), re.MULTILINE):
+        if line not in reports:
+            yield f"docs/MIXING.md has the line {line[:40]}.., which is in no report of examples/"
+
+
 def differences():
     yield from broken_links()
     yield from wrong_words()
@@ -197,4 +205,5 @@ def differences():
     yield from lacks("docs/OPERATING.md", metrics(), "the metric")
     yield from (f"docs/OPERATING.md lacks the alert {alert}" for alert in alerts() if alert not in page("docs/OPERATING.md"))
     yield from copied_code()
+    yield from unknown_outputs()
     yield from unknown_claims()
