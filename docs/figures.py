@@ -259,7 +259,58 @@ def block():
     return figure
 
 
-FIGURES = {"latency": latency, "way": way, "merge": embed_merge, "engine": embed_engine, "workers": embed_workers, "history": history, "block": block}
+RESULTS = ROOT / "bench" / "results"
+
+
+def result_rows(name, columns):
+    """The rows of numbers in a file of results, for each processor that it names. A row has as many words as there are columns."""
+    found, processor = {}, None
+    for line in (RESULTS / name).read_text().splitlines():
+        words = line.replace(" by ", "x").split()
+        if line in ("default", "x86-64-v3"):
+            processor = found.setdefault(line, [])
+        elif processor is not None and len(words) == columns and words[-1].replace(".", "").isdigit():
+            processor.append(words)
+    return found
+
+
+def bars(title, unit, groups, names):
+    """A chart of two bars for each label: ours and C's."""
+    rows = sum(len(rows) + 1 for rows in groups.values())
+    figure = Figure(760, 70 + rows * 40, title)
+    most = max(value for rows in groups.values() for _, *pair in rows for value in pair)
+    figure.text(20, 24, title, "bold")
+    for place, (name, kind) in enumerate(zip(names, ("good", "box"))):
+        figure.box(430 + place * 150, 12, 14, 14, kind)
+        figure.text(450 + place * 150, 24, name, "small")
+    y = 48
+    for group, rows in groups.items():
+        figure.text(20, y + 12, group, "bold")
+        y += 24
+        for label, ours, other in rows:
+            figure.text(130, y + 20, label, "", "end")
+            for place, (value, kind) in enumerate(((ours, "good"), (other, "box"))):
+                length = 500 * value / most
+                figure.box(140, y + place * 16, length, 14, kind)
+                figure.text(146 + length, y + place * 16 + 11, f"{value:g}", "small")
+            y += 40
+    figure.text(140, y + 8, unit, "small")
+    return figure
+
+
+def bench_mix():
+    """Frames mixed a second, by the shape of the matrix, ours next to the best of C's four forms."""
+    rows = {processor: [(words[0].replace("x", " by "), float(words[1]), max(map(float, words[2:6]))) for words in found] for processor, found in result_rows("mix-2026-11-27.txt", 7).items()}
+    return bars("bench/mix, 2026-11-27: outputs by inputs", "millions of frames a second; more is better", rows, ("ours", "the best of C"))
+
+
+def bench_merge():
+    """Instructions an arrival, by the octets of a payload, ours next to C's, with a window of 512 packets."""
+    rows = {processor: [(f"{words[0]} octets", float(words[2]), float(words[3])) for words in found if words[1] == "512"] for processor, found in result_rows("merge-2026-11-27.txt", 8).items()}
+    return bars("bench/merge, 2026-11-27, window 512", "instructions an arrival; less is better", rows, ("ours", "C"))
+
+
+FIGURES = {"latency": latency, "way": way, "merge": embed_merge, "engine": embed_engine, "workers": embed_workers, "history": history, "block": block, "mix": bench_mix, "merge-cost": bench_merge}
 
 
 def differences():
