@@ -188,6 +188,26 @@ def unknown_claims():
                 yield f"docs/CLAIMS.md names the clause {clause}, which {', '.join(calls) or 'no call'} doesn't have"
 
 
+def unlinked_pages():
+    """Pages of docs/ that the README doesn't lead to."""
+    linked = {target for target, _ in LINK.findall(page("README.md"))}
+    for path in sorted((ROOT / "docs").glob("*.md")):
+        if f"docs/{path.name}" not in linked:
+            yield f"README.md has no link to docs/{path.name}"
+
+
+def unknown_names():
+    """Names in the column `In code` of GLOSSARY, and lemma files in PROOFS, that no crate has."""
+    files = [file for kind in ("rt", "antt") for folder in ("src", "specs") for file in SOURCES.glob(f"*/{folder}/**/*.{kind}")]
+    known = set(re.findall(r"\w+", "\n".join(file.read_text() for file in files)))
+    for row in re.findall(r"^\| [^|]* \| [^|]* \|([^|]*)\| [^|]* \|$", page("docs/GLOSSARY.md"), re.MULTILINE):
+        yield from (f"docs/GLOSSARY.md names {name}, which is in no crate" for name in re.findall(r"\w+", " ".join(re.findall(r"`([^`]*)`", row))) if name not in known)
+    lemmas = {file.stem for file in SOURCES.glob("*/proofs/**/*.antt")}
+    for name in re.findall(r"`(\w+(?:Lemmas|Cases))`", page("docs/PROOFS.md")):
+        if name not in lemmas:
+            yield f"docs/PROOFS.md names {name}, which is in no crate"
+
+
 def unknown_outputs():
     """Lines of a report that MIXING shows and that no example has."""
     reports = {line for file in ROOT.glob("examples/*/report.txt") for line in file.read_text().splitlines()}
@@ -205,5 +225,7 @@ def differences():
     yield from lacks("docs/OPERATING.md", metrics(), "the metric")
     yield from (f"docs/OPERATING.md lacks the alert {alert}" for alert in alerts() if alert not in page("docs/OPERATING.md"))
     yield from copied_code()
+    yield from unlinked_pages()
+    yield from unknown_names()
     yield from unknown_outputs()
     yield from unknown_claims()
