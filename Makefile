@@ -49,7 +49,7 @@ run:
 
 # The scripts drive the program that the gate has built: side by side, but for those that a busy machine would disturb.
 program := crates/studio_main/out/studio_main
-scripts := docs/commands memory/check tests/captures tests/sdp tests/package diff/run $(addprefix examples/,check faults statuses blocks wav chart)
+scripts := memory/check tests/captures tests/sdp tests/package diff/run $(addprefix examples/,check faults statuses blocks wav chart)
 
 try:
 	@gate/try
@@ -66,6 +66,9 @@ test:
 
 %.ran:
 	$* $(program)
+
+# The commands that pages show are run with the others.
+scripts += docs/commands
 
 diff/run.ran:
 	DARBEXUM=$(program) diff/run engine 500
