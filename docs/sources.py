@@ -234,8 +234,8 @@ CASE_PLACES = {
     "Gains": [f"{STUDIO}/tests/gains.rt"],
     "Outputs and blocks": [f"{STUDIO}/tests/{name}.rt" for name in ("datagrams", "mixer", "lists")],
     "Traces": [
-        *(f"examples/{name}" for name in ("first", "wrapped", "lost", "arrival-clock", "two-streams", "unlike-packets")),
-        *(f"examples/{name}" for name in ("silent-stream", "long-latency", "gain-change", "restart", "four-paths", "every-key")),
+        *(f"examples/{name}" for name in ("first", "wrapped", "lost", "arrival-clock", "two-streams", "unlike-packets", "every-key")),
+        *(f"examples/{name}" for name in ("silent-stream", "long-latency", "gain-change", "restart", "four-paths")),
         *(f"examples/follow-{name}" for name in ("late", "early", "paths", "early-path", "pause")),
         "examples/capture",
         "examples/blocks",
