@@ -259,6 +259,68 @@ def block():
     return figure
 
 
+def media_slots(example):
+    """The epoch, number and media time of each slot in an example's marks."""
+    for line in (ROOT / "examples" / example / "marks.txt").read_text().splitlines():
+        words = line.split()
+        if words[1] == "slot":
+            epoch, _, number = words[2].rpartition(":")
+            yield int(epoch or 0), int(number), int(words[3])
+
+
+def deadlines():
+    """The media times and deadlines of the first two packets of examples/first, and the number that is due next."""
+    stream = studio("first/studio.toml")["stream"][0]
+    frames, latency, scale, left = stream["frames"], stream["latency"], 24, 120
+    place = lambda time: left + time * scale
+    figure = Figure(760, 232, "Each packet's deadline is the latency after its media time, and the number due next changes at each deadline.")
+    figure.text(20, 24, "time", "bold")
+    for time in range(0, 25, frames):
+        figure.text(place(time), 24, str(time), "small", "middle")
+        figure.line((place(time), 30), (place(time), 205))
+    slots = list(media_slots("first"))
+    for row, (_, number, media) in enumerate(slots):
+        y = 44 + row * 56
+        figure.text(20, y + 18, str(number), "bold")
+        figure.box(place(media), y, frames * scale, 26, "good", f"{frames} frames")
+        figure.arrow((place(media), y + 40), (place(media + latency), y + 40))
+        figure.text(place(media) + frames * scale + 8, y + 36, f"latency {latency}", "small")
+        figure.text(place(media + latency) + 6, y + 18, "deadline", "small")
+    figure.text(20, 184, "next due", "bold")
+    begin = 0
+    for _, number, media in [*slots, (0, slots[-1][1] + 1, slots[-1][2] + frames)]:
+        end = min(media + latency, 24)
+        figure.box(place(begin), 166, (end - begin) * scale - 2, 28, "box", str(number))
+        begin = end
+    figure.text(20, 224, "Once a clock reading has reached its deadline, a copy is late.", "small")
+    return figure
+
+
+def restart():
+    """The slots of examples/restart over media time, and the readings of the clock at which they are produced."""
+    stream = studio("restart/studio.toml")["stream"][0]
+    frames, latency, scale, left = stream["frames"], stream["latency"], 15, 120
+    place = lambda time: left + time * scale
+    figure = Figure(760, 214, "After a restart there is no slot between the end of the last slot of an epoch and the first of the next.")
+    figure.text(20, 50, "media time", "bold")
+    slots = list(media_slots("restart"))
+    figure.box(place(frames), 30, (slots[1][2] - frames) * scale - 1, 32, "box", "no slot")
+    for epoch, number, media in slots:
+        figure.box(place(media), 30, frames * scale - 1, 32, "early" if epoch else "good", str(number))
+        figure.text(place(media), 80, str(media), "small", "middle")
+        figure.arrow((place(media + latency), 150), (place(media + latency), 112))
+        figure.text(place(media + latency), 168, str(media + latency), "small", "middle")
+        figure.text(place(media + latency), 106, f"slot {number}", "small", "middle")
+    for epoch, media in ((0, slots[0][2]), (1, slots[1][2])):
+        figure.text(place(media), 22, f"epoch {epoch}", "small")
+    figure.text(place(frames), 80, str(frames), "small", "middle")
+    figure.text(20, 135, "clock", "bold")
+    figure.text(20, 200, "arrivals", "bold")
+    figure.text(place(0), 200, "A(1, 0) at 0", "small")
+    figure.text(place(12), 200, "the eight and A(508, 26) after the reading of 12", "small")
+    return figure
+
+
 RESULTS = ROOT / "bench" / "results"
 
 
@@ -310,7 +372,7 @@ def bench_merge():
     return bars("bench/merge, 2026-11-27, window 512", "instructions an arrival; less is better", rows, ("ours", "C"))
 
 
-FIGURES = {"latency": latency, "way": way, "merge": embed_merge, "engine": embed_engine, "workers": embed_workers, "history": history, "block": block, "mix": bench_mix, "merge-cost": bench_merge}
+FIGURES = {"latency": latency, "way": way, "merge": embed_merge, "engine": embed_engine, "workers": embed_workers, "history": history, "block": block, "deadlines": deadlines, "restart": restart, "mix": bench_mix, "merge-cost": bench_merge}
 
 
 def differences():
