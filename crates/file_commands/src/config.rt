@@ -1,8 +1,9 @@
 //! The configuration of a command, from its file to the studio that it describes.
+use crate::explanation::{explain_fault, explain_toml};
 use crate::fault::{CommandFault, ConfigFault};
 use crate::host::Host;
 use std::alloc::Global;
-use studio_config::StudioSpec;
+use studio_config::{SpecError, SpecErrorKind, StudioSpec};
 use toml::Table;
 
 // Tested here, since `Host::read_all` may return as many octets as a trace may have.
@@ -35,18 +36,61 @@ pub fn parse_studio(alloc: Global, octets: &[u8]) -> Result<StudioSpec, CommandF
     Ok(StudioSpec::from_table(alloc, &table)?)
 }
 
+/// Returns the studio that the octets of the configuration at a path describe. A fault of the configuration is
+/// explained: `CommandFault::Explained`. Returns `CommandFault::Memory` if an allocation fails.
+pub(crate) fn explained_studio(
+    alloc: Global,
+    path: &str,
+    octets: &[u8],
+) -> Result<StudioSpec, CommandFault> {
+    let text = text_in(octets)?;
+    let table = match toml::table_from_str(alloc, text) {
+        Ok(table) => table,
+        Err(error) if error.is_memory() => return Err(CommandFault::Memory),
+        Err(error) => {
+            let explained = explain_toml(alloc, path, text, &error)?;
+            return Err(CommandFault::Explained(ConfigFault::NotToml, explained));
+        }
+    };
+    match StudioSpec::from_table(alloc, &table) {
+        Ok(studio) => Ok(studio),
+        Err(error) => Err(explained_error(alloc, path, text, &table, error)?),
+    }
+}
+
+/// Returns a configuration's fault as a studio with its explanation, or `CommandFault::Memory` if an allocation failed.
+fn explained_error(
+    alloc: Global,
+    path: &str,
+    text: &str,
+    table: &Table,
+    error: SpecError,
+) -> Result<CommandFault, CommandFault> {
+    if error.kind == SpecErrorKind::Memory {
+        return Ok(CommandFault::Memory);
+    }
+    let explained = explain_fault(alloc, path, text, table, &error)?;
+    Ok(CommandFault::Explained(ConfigFault::Studio(error), explained))
+}
+
 /// Returns the TOML table of a configuration's octets. Returns `ConfigFault::TooLong` for more than 1,048,576 octets,
 /// `ConfigFault::NotToml` if they are not UTF-8 or not TOML, and `CommandFault::Memory` if an allocation fails.
 pub fn table_in(alloc: Global, octets: &[u8]) -> Result<Table, CommandFault> {
+    match toml::table_from_str(alloc, text_in(octets)?) {
+        Ok(table) => Ok(table),
+        Err(error) if error.is_memory() => Err(CommandFault::Memory),
+        Err(_) => Err(CommandFault::Config(ConfigFault::NotToml)),
+    }
+}
+
+/// Returns the text of a configuration's octets. Returns `ConfigFault::TooLong` for more than 1,048,576 octets, and
+/// `ConfigFault::NotToml` if they are not UTF-8.
+fn text_in(octets: &[u8]) -> Result<&str, CommandFault> {
     if octets.len() > MAX_OCTETS {
         return Err(CommandFault::Config(ConfigFault::TooLong));
     }
-    let Ok(text) = str::from_utf8(octets) else {
-        return Err(CommandFault::Config(ConfigFault::NotToml));
-    };
-    match toml::table_from_str(alloc, text) {
-        Ok(table) => Ok(table),
-        Err(error) if error.is_memory() => Err(CommandFault::Memory),
+    match str::from_utf8(octets) {
+        Ok(text) => Ok(text),
         Err(_) => Err(CommandFault::Config(ConfigFault::NotToml)),
     }
 }

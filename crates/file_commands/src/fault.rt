@@ -25,6 +25,10 @@ pub enum CommandFault {
     /// The configuration was not read, or has a fault.
     #[error("{0}")]
     Config(ConfigFault),
+    /// The configuration has a fault, which `check` explains below the fault's line: where it is, what stands there,
+    /// and what is allowed.
+    #[error("{0}\n{1}")]
+    Explained(ConfigFault, String),
     /// A trace was not run to its end, or its text was not written.
     #[error("{0}")]
     Play(#[from] PlayFault),
@@ -134,7 +138,7 @@ impl CommandFault {
             CommandFault::Config(ConfigFault::Unread) => 5,
             CommandFault::Capture(CaptureInputFault::Unread) => 5,
             CommandFault::Capture(_) => 1,
-            CommandFault::Config(_) => 3,
+            CommandFault::Config(_) | CommandFault::Explained(..) => 3,
             CommandFault::Play(fault) => play_status(fault),
             CommandFault::Replay(fault) => replay_status(fault),
             CommandFault::Memory => 4,

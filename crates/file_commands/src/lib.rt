@@ -13,6 +13,7 @@
 mod capture_flows;
 mod config;
 mod config_summary;
+mod explanation;
 mod fault;
 mod host;
 mod import_command;

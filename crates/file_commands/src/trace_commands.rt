@@ -1,5 +1,5 @@
 //! The commands over a trace on standard input, with or without a WAV file of the mix or of one stream, and `check`.
-use crate::config::{quick_start_studio, studio_of};
+use crate::config::{explained_studio, quick_start_studio, read_config, studio_of};
 use crate::config_summary::write_summary;
 use crate::fault::{CommandFault, output_result};
 use crate::host::{Host, NamedFile, STDIN_PATH, begin_fault_line, refuse_inputs};
@@ -70,14 +70,15 @@ pub fn run_chart<H: Host>(
     Ok(chart(alloc, &studio, input, output)?)
 }
 
-/// Writes the summary of the configuration at a path.
+/// Writes the summary of the configuration at a path. A fault of the configuration is explained.
 pub fn run_check<H: Host>(
     host: &H,
     alloc: Global,
     path: &str,
     output: &mut H::Stdout,
 ) -> Result<(), CommandFault> {
-    let studio = studio_of(host, alloc, path)?;
+    let octets = read_config(host, alloc, path)?;
+    let studio = explained_studio(alloc, path, octets.as_slice())?;
     output_result(write_summary(&studio, output))
 }
 

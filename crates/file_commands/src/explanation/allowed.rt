@@ -1,0 +1,144 @@
+//! The keys of each table of a configuration, with what each may be, as a person reads it.
+use studio_config::{ConfigTable, Key};
+
+/// All keys of configurations.
+const KEYS: [Key; 38] = [
+    Key::OpenAt,
+    Key::Stream,
+    Key::Output,
+    Key::Encoding,
+    Key::Channels,
+    Key::Frames,
+    Key::Pt,
+    Key::Ssrc,
+    Key::Clock,
+    Key::Offset,
+    Key::Latency,
+    Key::Window,
+    Key::Paths,
+    Key::PortA,
+    Key::PortB,
+    Key::PortC,
+    Key::PortD,
+    Key::AddressA,
+    Key::AddressB,
+    Key::AddressC,
+    Key::AddressD,
+    Key::SourceA,
+    Key::SourceB,
+    Key::SourceC,
+    Key::SourceD,
+    Key::Name,
+    Key::Seq,
+    Key::Start,
+    Key::Gains,
+    Key::Change,
+    Key::ToA,
+    Key::ToB,
+    Key::FromA,
+    Key::FromB,
+    Key::ToAddressA,
+    Key::ToAddressB,
+    Key::Ttl,
+    Key::At,
+];
+
+/// A sampling instant, as text.
+const TIME: &str = "0 to 1152921504606846976 sampling instants";
+/// The frames of a packet, as text.
+const FRAMES: &str = "6, 12, 16, 48 and 192, and only 6 for more than 8 channels";
+/// A 32-bit number, as text.
+const NUMBER: &str = "0 to 4294967295";
+/// A UDP port, as text.
+const PORT: &str = "1 to 65535";
+/// An IPv4 address, as text.
+const ADDRESS: &str = "IPv4 addresses, such as \"192.0.2.1\"";
+/// Gains, as text.
+const GAINS: &str =
+    "a row for each output channel, with a gain from -1048576 to 1048576 for each channel of the streams";
+
+/// Returns true if a table at this place has a key of this name.
+pub(crate) fn is_known(place: ConfigTable, name: &str) -> bool {
+    for key in KEYS.iter() {
+        if key.name() == name && allowed_at(place, *key).is_some() {
+            return true;
+        }
+    }
+    false
+}
+
+/// Returns what a key of a table at this place may be, or `None` if the table has no such key. The text follows the
+/// words "allowed are".
+pub(crate) fn allowed_at(place: ConfigTable, key: Key) -> Option<&'static str> {
+    match place {
+        ConfigTable::Top => allowed_at_top(key),
+        ConfigTable::Stream(_) => allowed_in_stream(key),
+        ConfigTable::Output => allowed_in_output(key),
+        ConfigTable::Change(_) => allowed_in_change(key),
+    }
+}
+
+/// Returns what a key of the document may be.
+fn allowed_at_top(key: Key) -> Option<&'static str> {
+    match key {
+        Key::OpenAt => Some(TIME),
+        Key::Stream => Some("1 to 16 tables [[stream]]"),
+        Key::Output => Some("one table [output]"),
+        _ => None,
+    }
+}
+
+/// Returns what a key of a stream's table may be.
+fn allowed_in_stream(key: Key) -> Option<&'static str> {
+    match key {
+        Key::Channels => Some("1 to 64"),
+        Key::Clock => Some("\"media\", \"arrival\" and \"follow\""),
+        Key::Latency => Some(
+            "1 to 4294967295 sampling instants that, with two packets, are at most what the window spans",
+        ),
+        Key::Window => Some("8, 16, 32 and so on, doubled up to 16384 packets"),
+        Key::Paths => Some("1 to 4"),
+        Key::PortA | Key::PortB | Key::PortC | Key::PortD => Some(PORT),
+        Key::AddressA | Key::AddressB | Key::AddressC | Key::AddressD => Some(ADDRESS),
+        Key::SourceA | Key::SourceB | Key::SourceC | Key::SourceD => Some(ADDRESS),
+        Key::Name => Some("texts of at most 64 octets"),
+        _ => allowed_in_packets(key),
+    }
+}
+
+/// Returns what a key of the output's table may be.
+fn allowed_in_output(key: Key) -> Option<&'static str> {
+    match key {
+        Key::Channels => Some("1 to 8"),
+        Key::Seq => Some("0 to 65535"),
+        Key::Start => Some(TIME),
+        Key::Gains => Some(GAINS),
+        Key::Change => Some(
+            "at most 64 tables [[output.change]], each at a later time than the one before",
+        ),
+        Key::ToA | Key::ToB => Some(PORT),
+        Key::FromA | Key::FromB | Key::ToAddressA | Key::ToAddressB => Some(ADDRESS),
+        Key::Ttl => Some("1 to 255"),
+        _ => allowed_in_packets(key),
+    }
+}
+
+/// Returns what a key that streams and the output share may be.
+fn allowed_in_packets(key: Key) -> Option<&'static str> {
+    match key {
+        Key::Encoding => Some("\"L16\" and \"L24\""),
+        Key::Frames => Some(FRAMES),
+        Key::Pt => Some("96 to 127"),
+        Key::Ssrc | Key::Offset => Some(NUMBER),
+        _ => None,
+    }
+}
+
+/// Returns what a key of a change of gains may be.
+fn allowed_in_change(key: Key) -> Option<&'static str> {
+    match key {
+        Key::At => Some(TIME),
+        Key::Gains => Some(GAINS),
+        _ => None,
+    }
+}
