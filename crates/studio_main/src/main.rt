@@ -4,13 +4,14 @@
 //! by `command_line`, runs the command, and returns the exit status. `file_commands` runs a command
 //! over files, and `live_command` the live command. A `ProgramFault` has the line and the exit
 //! status of every fault. `SystemHost` opens files by path. `std_fds` opens the standard descriptors
-//! that are closed, before anything else.
+//! that are closed, before anything else. `terminal_help` has the help for a start without words.
 #![tactic(auto)]
 
 mod fault;
 mod live_command;
 mod program;
 mod std_fds;
+mod terminal_help;
 
 use crate::fault::ProgramFault;
 use crate::program::run;

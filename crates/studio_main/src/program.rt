@@ -1,6 +1,7 @@
 //! The program: from the words of its command line to its exit status, with help, the version and usage faults.
 use crate::fault::ProgramFault;
 use crate::live_command::run_live;
+use crate::terminal_help::write_terminal_help;
 use clap::Error;
 use clap::error::ErrorKind;
 use command_line::{CliCommand, FileCommand, parse_args};
@@ -88,7 +89,10 @@ fn run_file_command<H: Host>(
     faults: &mut H::Stderr,
 ) -> Result<(), CommandFault> {
     match command {
-        FileCommand::QuickStart => run_quick_start(alloc, input, output),
+        FileCommand::QuickStart => {
+            write_terminal_help(alloc, faults)?;
+            run_quick_start(alloc, input, output)
+        }
         FileCommand::Marks(path) => run_marks(host, alloc, path, input, output),
         FileCommand::MarksAndCounts(path) => {
             run_marks_with_counts(host, alloc, path, input, output, faults)

@@ -1,0 +1,35 @@
+//! The help for whoever starts the program by hand without words.
+use clap::Error;
+use command_line::parse_args;
+use std::alloc::{AllocError, Global};
+use std::io::Write;
+
+/// The descriptor of standard input.
+const STDIN: i32 = 0;
+
+/// The line behind the help.
+const READS: &str =
+    "\nReading a trace for examples/first/studio.toml from this terminal. Ctrl-D ends it.\n";
+
+/// Writes the program's help to `faults`, and that a trace is being read, if standard input is a terminal. Errors of
+/// the writes are ignored. Returns `AllocError` if an allocation fails.
+// A run without words reads a trace. Typed at a terminal it would wait for one and say nothing.
+pub(crate) fn write_terminal_help<E: Write>(
+    alloc: Global,
+    faults: &mut E,
+) -> Result<(), AllocError> {
+    if libc::isatty(STDIN) == 1 {
+        if let Some(help) = help_of(alloc)? {
+            let _ = write!(faults, "{help}");
+        }
+        let _ = faults.write_all(READS.as_bytes());
+    }
+    Ok(())
+}
+
+/// Returns the program's help, as the command line gives it for `--help`.
+fn help_of(alloc: Global) -> Result<Option<Error>, AllocError> {
+    let mut words = Vec::new(alloc);
+    words.push(String::from_str(alloc, "--help")?)?;
+    Ok(parse_args(alloc, words.as_slice()).err())
+}
