@@ -1,8 +1,8 @@
 """Tries edits of a crate together: those that change different functions, in one check.
 
 A contract is not changed by an edit, so whether a function meets its own says nothing of another function. Of a check with several edits
-those are refused whose own functions the prover refuses, by a message that points into the function or into its proofs. What such a
-check does not decide is left to a try of its own.
+those are refused whose own functions the prover says are not proved, with a message that points into the function or into its proofs.
+What such a check does not decide is left to a try of its own.
 """
 import re
 import subprocess
@@ -12,6 +12,8 @@ from typing import NamedTuple
 FUNCTION = re.compile(r"(?:    )?(?:pub(?:\(\w+\))? )?(?:const )?(?:unsafe )?fn (\w+)")
 # What the prover says of a place: an error of a proof, or a goal of a function that it could not prove.
 MESSAGE = re.compile(r"(?:note: )?(?:\./)?(src|proofs)/(\S+?):(\d+):\d+: (error|warning|it is not proved)?")
+# The function of a crate that is not proved, by its path. A message's file alone may be of a crate below.
+UNPROVED = re.compile(r"fn (\w+)::(\S+): (?:not proved|no proof)")
 # A proof names what an edit took away: that says nothing of a contract.
 NAMES = re.compile(r"has no field|is not in scope|has no `|was not admitted")
 # The front end did not take the code.
@@ -121,8 +123,18 @@ def points_into(line, places, texts, home):
             return False
         lines = (texts.get(file) or (home / file).read_text()).splitlines()
         return Place(module_of(file), function_at(lines, number - 1) or "") in places
-    parts = Path(path).parts[:-1]
+    return holds(Path(path).parts[:-1], places)
+
+
+def holds(parts, places):
+    """Whether a path in a crate, as its names, is that of one of these functions, or of a part of it."""
     return any(parts[: len(it.module)] == it.module and it.name in parts[len(it.module) :] for it in places)
+
+
+def is_unproved(lines, places, crate):
+    """Whether the prover says of one of these functions of a crate that it is not proved."""
+    found = filter(None, map(UNPROVED.match, lines))
+    return any(it[1] == crate and holds(tuple(it[2].split("::")), places) for it in found)
 
 
 def check(home, texts):
@@ -147,8 +159,12 @@ def refused_in(home, edits):
     if ran.returncode != 1 or UNREAD.search(said):
         half = len(edits) // 2
         return refused_in(home, edits[:half]) + refused_in(home, edits[half:]) if half else []
-    lines = said.splitlines()
-    return [edit for edit in edits if any(points_into(line, applied({}, edit, home)[1], texts, home) for line in lines)]
+    lines, found = said.splitlines(), []
+    for edit in edits:
+        places = applied({}, edit, home)[1]
+        if is_unproved(lines, places, home.name) and any(points_into(line, places, texts, home) for line in lines):
+            found.append(edit)
+    return found
 
 
 def refused(home, files):
