@@ -50,6 +50,18 @@ ended_all stream whole marks list first ended =
     let none : drop k whole ≡ [] = end_stays (format_of stream) marks (drop k whole) (ap (is_mark_list (format_of stream)) split ∙ list) ended in
     sym (append-nil marks) ∙ ap (λ l. marks ++ l) (sym none) ∙ split
 
+-- a stream of the engine is the studio's
+pub stream_is : (studio : Studio) (engine : EngineState) (events : List TraceEvent) (datagrams : List (List ℕ)) (i : ℕ) (cursor : CursorState) (spec : Stream)
+    → HasSession studio engine events datagrams → slice_get engine.cursors i ≡ Some cursor → slice_get studio.streams i ≡ Some spec → cursor.spec ≡ spec
+stream_is studio engine events datagrams i cursor spec s at there =
+    let played = s.given.played in
+    let within : i < length engine.cursors = slice_get_within engine.cursors i cursor at in
+    let count = played.count in
+    let found = feed_at played.feeds i (omega (arith, within, count)) in
+    let feed : Feed = found.0 in
+    (played.given i cursor feed at found.1).pulled.spec
+    ∙ one feed.stream spec (sym (stream_at studio engine.mixer played.feeds (length datagrams) i feed played.fed found.1) ∙ there)
+
 -- the counts of a merge that gave all its marks
 pub counts_whole : (studio : Studio) (engine : EngineState) (events : List TraceEvent) (datagrams : List (List ℕ)) (i : ℕ) (cursor : CursorState) (spec : Stream)
     → IsEngine engine → HasSession studio engine events datagrams → slice_get engine.cursors i ≡ Some cursor → slice_get studio.streams i ≡ Some spec → HasAllMarks engine

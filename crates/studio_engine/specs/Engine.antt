@@ -1,5 +1,6 @@
 -- What contracts see of an engine.
 use Rattle.std.specs.Prelude.{◌≡◌, ℕ, ◌^◌, Bool, true, false, nat_lt, List, length, slice_get, ℤ, pos, ◌+ℤ◌, ◌≤ℤ◌, Option, Some, None, All, if◌then◌else◌}
+use Rattle.rtp_stream.specs.declared.stream_spec.Stream.{Stream}
 use Rattle.path_merge.specs.Steps.{next_deadline_of}
 use Rattle.studio_mix.specs.Mixer.{MixerState}
 use Rattle.studio_session.specs.Cursor.{CursorState}
@@ -56,6 +57,11 @@ stream_fault_of count path (Some cursor) = path_fault_of count path cursor.spec.
 -- why a datagram for a stream and a path isn't taken: the first of these
 abbrev pub arrive_fault_of : EngineState → ℕ → ℕ → Option ArriveFault
 arrive_fault_of engine stream path = if engine.turning then Some Unfinished else stream_fault_of engine.count path (slice_get engine.cursors stream)
+
+-- what is fixed of a stream, if there is the stream
+abbrev pub stream_spec_of : Option CursorState → Option Stream
+stream_spec_of None = None
+stream_spec_of (Some cursor) = Some cursor.spec
 
 -- when the next slot of a stream is due, if there is the stream
 abbrev pub stream_deadline_of : Option CursorState → Option ℤ

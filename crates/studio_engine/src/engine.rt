@@ -40,7 +40,13 @@ ghost use Rattle.studio_session.specs.Run.{blocks_left};
 ghost use Rattle.rtp_stream.specs.Counts.{tally_of};
 ghost use Rattle.rtp_stream.specs.PathCounts.{path_tally_of};
 ghost use Rattle.studio_engine.specs.Deadline.{IsUnreadyBefore};
-ghost use Rattle.studio_engine.specs.Engine.{HasAllMarks, arrive_fault_of, path_fault_of, stream_deadline_of};
+ghost use Rattle.studio_engine.specs.Engine.{
+  HasAllMarks,
+  arrive_fault_of,
+  path_fault_of,
+  stream_deadline_of,
+  stream_spec_of,
+};
 ghost use Rattle.studio_engine.specs.Session.{Gives, HasGivenReady, HasSession, shut, turned};
 
 use crate::deadline::reading_past;
@@ -49,7 +55,7 @@ use crate::early_marks::keep_early_marks;
 use crate::fault::{ArriveFault, Unfinished};
 use crate::next_block::next_datagram;
 use mix_packets::OutSpec;
-use path_merge::{ClockFault, Counts, Path, clock_fault};
+use path_merge::{ClockFault, Counts, Path, StreamSpec, clock_fault};
 use rtp_stream::PathCounts;
 use std::alloc::{AllocError, Global};
 use std::marker::Model;
@@ -63,7 +69,7 @@ const MAX_EVENTS: usize = 4_611_686_018_427_387_904;
 
 /// A studio as one object.
 ///
-/// `arrive`, `turn` and `close` take input. `turn`, and `drain` after a close, return datagrams. `time`,
+/// `arrive`, `turn` and `close` take input. `turn`, and `drain` after a close, return datagrams. `time`, `stream`,
 /// `next_deadline`, `stream_deadline`, `counts`, `path_counts`, `saturated` and `settled` read. Only `new` allocates.
 #[derive(Drop)]
 pub struct Engine {
@@ -359,6 +365,18 @@ impl Engine {
         ensures { result ≡ length self.now.cursors }
     {
         self.cursors.len()
+    }
+
+    /// Returns the specification of a stream, or `None` if there is no such stream.
+    pub fn stream(&self, stream: usize) -> Option<StreamSpec>
+        ensures value { result ≡ stream_spec_of (slice_get self.now.cursors stream) }
+        ensures stands { IfSome result
+            (λ found. (studio : Studio) (events : List TraceEvent) (datagrams : List (List ℕ)) (spec : Stream)
+            → HasSession studio self.now events datagrams → slice_get studio.streams stream ≡ Some spec
+            → found ≡ spec) }
+    {
+        let cursor = self.cursors.get(stream)?;
+        Some(cursor.spec())
     }
 
     /// Returns the number of saturated samples of each output channel in the datagrams so far.
