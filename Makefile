@@ -13,12 +13,13 @@ names := $(wordlist 2,$(words $(MAKECMDGOALS)),$(MAKECMDGOALS))
 $(names): ;@:
 endif
 
-.PHONY: help build run try test test-memory check mutants fmt install deb clean
+.PHONY: help build lib run try test test-memory check mutants fmt install deb clean
 
 help:
 	@echo "make run      the program on its stored example; not proved if it is not built"
 	@echo "make try      the worked traces and the tests of reception; nothing is proved"
 	@echo "make build    prove and build bin/darbexum, with bin/darbexum-live and -sdp; with CPU=v3, for x86-64-v3"
+	@echo "make lib      prove and build libdarbexum for C, in bin/library: archive, shared library, header, pkg-config's file"
 	@echo "make test     the gate: pages, every proof from nothing, the gate's wrong bodies, tests, stored runs"
 	@echo "make check    every crate's proofs, over what earlier checks kept"
 	@echo "make mutants [CRATE ..]  all wrong bodies of these crates, or of all, and their record mutants/refused.txt"
@@ -39,6 +40,12 @@ bin/.x86-64-%:
 	mkdir -p bin
 	rm -f bin/.x86-64-*
 	touch $@
+
+lib: bin/library/lib/libdarbexum.a
+
+# Proves what no earlier run on this machine proved, and builds the library.
+bin/library/lib/libdarbexum.a: $(sources) bindings/c/darbexum.h bindings/cpp/darbexum.hpp packaging/library packaging/darbexum.pc.in
+	gate/build --library bin/library
 
 bin/darbexum-live bin/darbexum-sdp: bin/%: %
 	install -D $* $@

@@ -5,11 +5,12 @@ from pathlib import Path
 from typing import NamedTuple
 
 ROOT = Path(__file__).resolve().parent.parent
-FUNCTION = re.compile(r"^(?:    )?(pub |pub\(\w+\) )?fn (\w+)", re.MULTILINE)
+FUNCTION = re.compile(r"^(?:    )?(pub |pub\(\w+\) )?(?:extern \"C\" )?fn (\w+)", re.MULTILINE)
 OWNER = re.compile(r"^(?:pub |pub\(\w+\) )?(impl|trait|struct|enum)\b([^{;]*?) ?\{\n(.*?)^\}", re.MULTILINE | re.DOTALL)
 GENERICS = re.compile(r"<[^<>]*>")
 CLAUSE = re.compile(r"\b(requires|ensures)(?: (\w+))? $")
 FIELD = re.compile(r"^    (?:pub )?ghost (\w+):", re.MULTILINE)
+TO_C = "#[unsafe(no_mangle)]"
 EXPORT = re.compile(r"^pub use (\w+)::(?:\{([^}]*)\}|(\w+));", re.MULTILINE)
 COMMENT = re.compile(r"$|//|--(?!\S)")
 HEAD_LINE = re.compile(r"^//! ?(.*)$", re.MULTILINE)
@@ -62,7 +63,7 @@ class Edit(NamedTuple):
 
 @cache
 def crate_lines():
-    """The lines of crates.txt that name a crate: its section, its name and what it depends on. A line `# TITLE` begins a section."""
+    """The lines of crates.txt that name a crate: its section, its name with its kind, and what it depends on. A line `# TITLE` begins a section."""
     lines, section = [], ""
     for line in (ROOT / "crates.txt").read_text().splitlines():
         code, sign, comment = line.partition("#")
@@ -77,7 +78,12 @@ def crate_lines():
 @cache
 def dependencies():
     """The crates and libraries that each crate names in crates.txt, the lowest first."""
-    return {name: below for _, name, below in crate_lines()}
+    return {name.split()[0]: below for _, name, below in crate_lines()}
+
+
+def heading(crate):
+    """The name of a crate as crates.txt has it: with `staticlib` behind it if it is a static library."""
+    return next(name for _, name, _ in crate_lines() if name.split()[0] == crate)
 
 
 def crates():
@@ -89,7 +95,7 @@ def sections():
     """The crates of each section of crates.txt, by its title."""
     found = {}
     for section, name, _ in crate_lines():
-        found.setdefault(section, []).append(name)
+        found.setdefault(section, []).append(name.split()[0])
     return found
 
 
@@ -206,9 +212,9 @@ def exports_of(crate):
 
 
 def public_calls_of(crate):
-    """Each call that a library gives out, with its contract."""
+    """Each call that a library gives out, to crates or to C, with its contract."""
     exports = exports_of(crate)
-    return [call for call in calls_of(crate) if call.public and (call.owner or call.name) in exports]
+    return [call for call in calls_of(crate) if call.public and ((call.owner or call.name) in exports or TO_C in call.attributes)]
 
 
 def tests_of(crate):

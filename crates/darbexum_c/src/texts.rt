@@ -1,0 +1,52 @@
+//! Texts for C: each ends in a 0.
+ghost use Rattle.std.specs.Prelude.{◌≡◌};
+ghost use Rattle.darbexum_c.specs.Texts.{fault_text_of, room_after, unnamed_text_of};
+
+use crate::codes::{
+    CLOSED, FULL, NO_ENGINE, NO_MEMORY, NO_PATH, NO_STREAM, NO_STUDIO, NO_TOML, NONE, SHORT_ROOM,
+    TOO_FAR, UNFINISHED, WENT_BACK,
+};
+
+/// Writes a text to the front of a room, cut so that a 0 fits behind it. An empty room stays empty.
+pub(crate) fn write_text(text: &[u8], room: &mut [u8])
+    ensures { room.new ≡ room_after text.now room.old }
+{
+    let Some(last) = room.len().checked_sub(1) else {
+        return;
+    };
+    let len = text.len().min(last);
+    room[..len].copy_from_slice(&text[..len]);
+    room[len] = 0;
+}
+
+/// Returns the text of a code.
+pub(crate) fn fault_text(code: i32) -> &'static str
+    ensures { result.now ≡ fault_text_of code }
+{
+    match code {
+        NO_ENGINE => "the handle has no engine",
+        UNFINISHED => "the turn isn't finished",
+        NO_STREAM => "there is no such stream",
+        NO_PATH => "the stream lacks the path",
+        FULL => "the engine has taken 2^62 events",
+        WENT_BACK => "the clock went back",
+        TOO_FAR => "the clock is past 2^60",
+        CLOSED => "the engine is closed",
+        SHORT_ROOM => "the room is too short",
+        NO_TOML => "the configuration is not TOML, or has more than 1048576 octets",
+        NO_STUDIO => "the configuration describes no studio",
+        NO_MEMORY => "out of memory",
+        NONE => "there is none",
+        _ => unnamed_text(code),
+    }
+}
+
+/// Returns the text of a number that is no code of a fault.
+fn unnamed_text(code: i32) -> &'static str
+    ensures { result.now ≡ unnamed_text_of code }
+{
+    if code >= 0 {
+        return "no fault";
+    }
+    "unknown code"
+}
