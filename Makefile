@@ -25,7 +25,7 @@ help:
 	@echo "make mutants [CRATE ..]  all wrong bodies of these crates, or of all, and their record mutants/refused.txt"
 	@echo "make test-memory  what the gate has built, with each allocation refused in turn"
 	@echo "make fmt      lay out every file"
-	@echo "make install  programs, man pages, completions, service and alerts below PREFIX (/usr/local), and DESTDIR before it"
+	@echo "make install  programs, library, man pages, completions, service and alerts below PREFIX (/usr/local), and DESTDIR before it"
 	@echo "make deb      the same as a Debian package, in bin/"
 	@echo "make clean    what was built and kept"
 
@@ -56,7 +56,7 @@ run:
 
 # The scripts drive the program that the gate has built: side by side, but for those that a busy machine would disturb.
 program := crates/studio_main/out/studio_main
-scripts := memory/check tests/captures tests/sdp tests/package diff/run $(addprefix examples/,check faults statuses blocks wav chart)
+scripts := memory/check tests/captures tests/sdp tests/package tests/library diff/run $(addprefix examples/,check faults statuses blocks wav chart)
 
 try:
 	@gate/try
@@ -69,7 +69,8 @@ test:
 	tests/sockets $(program)
 	tests/page $(program)
 	tests/networks $(program)
-	@echo "gate: pages, proofs, edits, tests, examples, faults, statuses, blocks, WAV files, charts, captures, SDP files, package, engine, memory, live runs, pages and networks passed"
+	tests/library $(program) live
+	@echo "gate: pages, proofs, edits, tests, examples, faults, statuses, blocks, WAV files, charts, captures, SDP files, package, library, engine, memory, live runs, pages and networks passed"
 
 %.ran:
 	$* $(program)
@@ -79,6 +80,10 @@ scripts += docs/commands
 
 diff/run.ran:
 	DARBEXUM=$(program) diff/run engine 500
+
+# What the gate has proved makes the library in a minute.
+tests/library.ran: lib
+	tests/library $(program) still
 
 memory/check.ran:
 	memory/check
@@ -95,8 +100,9 @@ mutants:
 fmt:
 	for crate in crates/*/; do (cd "$$crate" && rt fmt) || exit 1; done
 
-install: build
+install: build lib
 	DESTDIR=$(DESTDIR) PREFIX=$(PREFIX) packaging/install bin/darbexum
+	DESTDIR=$(DESTDIR) PREFIX=$(PREFIX) packaging/install --library bin/library
 
 deb: build
 	packaging/deb bin/darbexum bin

@@ -1,0 +1,176 @@
+#!/usr/bin/env python3
+"""check.py FOLDER: tests the element darbexummix, whose plugin is in FOLDER, against what a sender sent on 127.0.0.1.
+
+One path loses a fifth of its packets, and nothing is missing; then both do, and only what both lost is silence. Two elements stand
+in one pipeline. It prints what came out, and fails where it differs.
+"""
+import os
+import re
+import signal
+import socket
+import subprocess
+import sys
+import tempfile
+import time
+from pathlib import Path
+
+FOLDER = os.path.realpath(sys.argv[1])
+PACKETS = int(os.environ.get("PACKETS", "1500"))
+FRAME = 6
+CONFIG = """open_at = 0
+[[stream]]
+encoding = "L24"
+channels = 2
+frames = 48
+pt = 96
+clock = "arrival"
+latency = 2400
+window = 128
+[output]
+encoding = "L24"
+channels = 2
+frames = 48
+pt = 97
+ssrc = 2
+seq = 0
+start = 0
+gains = [[65536, 0], [0, 65536]]
+"""
+ENVIRONMENT = {**os.environ, "GST_PLUGIN_PATH": FOLDER, "GST_REGISTRY": f"{FOLDER}/registry.bin"}
+
+
+def expect(what, holds, found):
+    if not holds:
+        sys.exit(f"check.py: {what}: {str(found)[:1500]}")
+
+
+def run(*words, seconds=60):
+    return subprocess.run(words, capture_output=True, text=True, timeout=seconds, env=ENVIRONMENT, check=False)
+
+
+def free_ports(count):
+    holders = [socket.socket(socket.AF_INET, socket.SOCK_DGRAM) for _ in range(count)]
+    for holder in holders:
+        holder.bind(("127.0.0.1", 0))
+    ports = [holder.getsockname()[1] for holder in holders]
+    for holder in holders:
+        holder.close()
+    return ports
+
+
+def launch(*words, **environment):
+    return subprocess.Popen(["gst-launch-1.0", "-e", *words], stdout=subprocess.PIPE, stderr=subprocess.STDOUT, text=True, env={**ENVIRONMENT, **environment})
+
+
+def ended(child):
+    """Ends a pipeline by SIGINT, which `-e` makes an EOS of, and returns what it printed."""
+    child.send_signal(signal.SIGINT)
+    try:
+        text, _ = child.communicate(timeout=20)
+    finally:
+        if child.poll() is None:
+            child.kill()
+            child.wait()
+    return text
+
+
+def receiver(room, name, ports):
+    """The words of a pipeline's part: an element that mixes what comes in at two ports into a file."""
+    config = Path(room) / "studio.toml"
+    config.write_text(CONFIG)
+    return [
+        *f"darbexummix name={name} location={config}".split(),
+        *f"udpsrc port={ports[0]} address=127.0.0.1 ! {name}.sink_0_0 udpsrc port={ports[1]} address=127.0.0.1 ! {name}.sink_0_1".split(),
+        *f"{name}.src ! rtpL24depay ! filesink location={room}/{name}.raw".split(),
+    ]
+
+
+def sender(room, ports, losses):
+    """Sends a sine on both paths, each of which loses a share, and keeps it in a file."""
+    words = f"""audiotestsrc is-live=true wave=sine freq=437 samplesperbuffer=48 num-buffers={PACKETS} ! audioconvert dithering=none
+        ! audio/x-raw,format=S24BE,rate=48000,channels=2 ! tee name=r ! queue ! filesink location={room}/sent.raw r. ! queue
+        ! rtpL24pay pt=96 min-ptime=1000000 max-ptime=1000000 ! tee name=t"""
+    for port, loss in zip(ports, losses):
+        words += f" t. ! queue ! identity drop-probability={loss} ! udpsink host=127.0.0.1 port={port} sync=false"
+    done = run("gst-launch-1.0", "-q", *words.split(), seconds=60 + PACKETS // 500)
+    expect("the sender", done.returncode == 0, done.stdout + done.stderr)
+
+
+def compared(sent, got):
+    """How many frames are as sent, silent, and other, from the first that came on."""
+    frames = lambda octets: [octets[at : at + FRAME] for at in range(0, len(octets) - FRAME + 1, FRAME)]
+    sent, got = frames(sent), frames(got)
+    silence = bytes(FRAME)
+    place = next((at for at, frame in enumerate(got) if frame != silence), None)
+    expect("sound", place is not None, f"{len(got)} silent frames")
+    # The sine begins at 0, and no 20 of its frames are alike.
+    first = next((at for at in range(len(sent)) if sent[at : at + 20] == got[place : place + 20]), None)
+    expect("a place in what was sent", first is not None, got[place : place + 20])
+    pairs = list(zip(sent[first:], got[place:]))
+    same = sum(a == b for a, b in pairs)
+    silent = sum(a != b and b == silence for a, b in pairs)
+    return first, len(pairs), same, silent
+
+
+def losses(room, shares):
+    """A receiver with one element, and what came out of it."""
+    ports = free_ports(2)
+    child = launch(*receiver(room, "mix", ports))
+    time.sleep(1.5)
+    sender(room, ports, shares)
+    time.sleep(1)
+    text = ended(child)
+    expect("the receiver", "ERROR" not in text and child.returncode == 0, text)
+    return compared(*((Path(room) / f"{name}.raw").read_bytes() for name in ("sent", "mix")))
+
+
+def inspect(_):
+    done = run("gst-inspect-1.0", "darbexummix")
+    words = "sink_%u_%u", "Availability: On request", "application/x-rtp", "config", "location", "media-clock", "offset", "stats", "Mixer/Network/RTP/Audio"
+    lacking = [word for word in words if word not in done.stdout]
+    expect("gst-inspect", done.returncode == 0 and not lacking, (lacking, done.stdout, done.stderr))
+
+
+def refused(_):
+    """A configuration with a fault is an error of the pipeline, and its text names the place."""
+    done = run("gst-launch-1.0", "darbexummix", "config=open_at = 0", "!", "fakesink")
+    expect("a fault of the configuration", done.returncode != 0 and "config: stream: missing" in done.stdout + done.stderr, done.stdout + done.stderr)
+
+
+def one_path(room):
+    first, frames, same, silent = losses(room, (0.2, 0))
+    expect("frames of one lossy path", (same, silent) == (frames, 0) and frames >= 48 * (PACKETS - 100), (first, frames, same, silent))
+    print(f"check.py: one path loses a fifth: {same} of {frames} frames as sent")
+
+
+def both_paths(room):
+    first, frames, same, silent = losses(room, (0.2, 0.2))
+    expect("frames of two lossy paths", same + silent == frames and 0.01 < silent / frames < 0.08, (first, frames, same, silent))
+    print(f"check.py: both paths lose a fifth: {same} of {frames} frames as sent, {silent} silent, none other")
+
+
+def two_elements(room):
+    """Two elements in one pipeline, and caps and latency as gst-launch prints them: 2,400 instants, a packet and a block are 52 ms."""
+    ports = free_ports(4)
+    child = launch("-v", *receiver(room, "mix", ports[:2]), *receiver(room, "other", ports[2:]), GST_DEBUG="pipeline:5,bin:5", GST_DEBUG_FILE=f"{room}/debug.txt")
+    time.sleep(1.5)
+    sender(room, ports[:2], (0, 0))
+    sender(room, ports[2:], (0, 0.2))
+    time.sleep(1)
+    text = ended(child)
+    expect("two elements", "ERROR" not in text and child.returncode == 0, text)
+    caps = re.findall(r"GstDarbexumMix:(\w+)\.GstPad:src: caps = (.*)", text)
+    expect("caps", {name for name, _ in caps} == {"mix", "other"} and all("L24" in line and "payload=(int)97" in line for _, line in caps), caps)
+    noted = [line for line in (Path(room) / "debug.txt").read_text().splitlines() if "latency" in line]
+    expect("the latency", any("0:00:00.052000000" in line for line in noted), noted[:10])
+    _, frames, same, silent = compared(*((Path(room) / f"{name}.raw").read_bytes() for name in ("sent", "other")))
+    expect("frames of the second element", (same, silent) == (frames, 0), (frames, same, silent))
+
+
+def main():
+    for part in (inspect, refused, one_path, both_paths, two_elements):
+        with tempfile.TemporaryDirectory(prefix="darbexum-gstreamer-") as room:
+            part(room)
+
+
+main()
