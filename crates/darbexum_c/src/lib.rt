@@ -22,6 +22,8 @@ mod raw_box;
 mod readers;
 mod record_calls;
 mod records;
+#[cfg(test)]
+mod tests;
 mod texts;
 mod version;
 
