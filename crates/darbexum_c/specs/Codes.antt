@@ -1,5 +1,5 @@
 -- The numbers that stand for results.
-use Rattle.std.specs.Prelude.{ℕ, ℤ, pos, negsuc, nat_lt, List, length, slice_get, Option, Some, None, if◌then◌else◌, option_map}
+use Rattle.std.specs.Prelude.{ℕ, ℤ, pos, negsuc, nat_lt, length, slice_get, Option, Some, None, if◌then◌else◌, option_map}
 use Rattle.mix_packets.specs.OutSpec.{datagram_length}
 use Rattle.path_merge.specs.Clock.{clock_fault_of}
 use Rattle.path_merge.specs.declared.clock.ClockFault.{ClockFault}

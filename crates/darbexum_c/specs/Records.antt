@@ -1,5 +1,5 @@
 -- What the structs of C say.
-use Rattle.std.specs.Prelude.{ℕ, ℤ, pos}
+use Rattle.std.specs.Prelude.{ℕ}
 use Rattle.rtp_wire.specs.Sample.{octets_per_sample}
 use Rattle.rtp_stream.specs.CountsFacts.{Tally}
 use Rattle.rtp_stream.specs.PathCounts.{PathTally}
