@@ -1,15 +1,15 @@
-// What the receives and sends of a live run in one thread cost by themselves: each millisecond every socket that has a
-// datagram is asked for one, until none has, and a datagram is sent to each port of the mix. Nothing is merged or mixed. It
-// notes which packets came later after their stream's first one than the latency allows, by the clock as it was read before
-// they were taken.
+// What the receives and sends of a live run in one thread cost by themselves: after each rest every socket that has a
+// datagram is read until it is empty, and a datagram is sent to each port of the mix for each millisecond. Nothing is
+// merged or mixed. It notes which packets came later after their stream's first one than the latency allows, by the clock
+// as it was read before the rest.
 //
-// With the word `mix` it does beside that what no receiver can leave out: it keeps each packet's first copy, compares the other
-// one with it, reads it once the latency is over, and mixes all streams into the datagram that it sends. By no rule is a packet
-// refused, and nothing more is counted.
+// With the word `mix` it does beside that what no receiver can leave out: it keeps each packet's first copy, compares the
+// others with it, reads it once the latency is over, and mixes all streams into the datagram that it sends. By no rule is
+// a packet refused, and nothing more is counted.
 //
-// Words: receive|mix SIZE LATENCY FRAMES MIX_A MIX_B PORT.., on 127.0.0.1, two ports a stream; latency and a packet's frames
-// are in sampling instants. Streams are of L24 in two channels, the mix of 8. It ends by SIGTERM, and then prints how many
-// datagrams it received, and how many were late.
+// Words: receive|mix SIZE LATENCY FRAMES REST PATHS MIX_A MIX_B PORT.., on 127.0.0.1, PATHS ports a stream; latency and a
+// packet's frames are in sampling instants, the rest in microseconds. Streams are of L24 in two channels, the mix of 8. It
+// ends by SIGTERM, and then prints how many datagrams it received, and how many were late.
 #include <arpa/inet.h>
 #include <poll.h>
 #include <signal.h>
@@ -20,8 +20,8 @@
 #include <sys/socket.h>
 #include <time.h>
 
-enum { MOST_SOCKETS = 64, MOST_OCTETS = 1452, ROOM = 8 << 20, HEAD = 12, BLOCK = 48 };
-enum { SLOTS = 128, CHANNELS = 2, OUTS = 8, SAMPLE = 3, MOST_INS = MOST_SOCKETS / 2 * CHANNELS };
+enum { MOST_SOCKETS = 64, MOST_OCTETS = 1452, ROOM = 8 << 20, HEAD = 12, BLOCK = 48, FIXED = 9 };
+enum { SLOTS = 1024, CHANNELS = 2, OUTS = 8, SAMPLE = 3, MOST_INS = MOST_SOCKETS * CHANNELS };
 static const uint64_t MILLISECOND = 1000000;
 static volatile sig_atomic_t is_over;
 
@@ -84,13 +84,16 @@ static void keep(struct stream *stream, const uint8_t *octets, size_t size, stru
   memcpy(slot->samples, octets, size);
 }
 
-static void take_one(int s, struct stream *stream, uint64_t at, int frames, int latency, struct counts *counts) {
+// Takes a datagram, and returns false if there was none.
+static int take_one(int s, struct stream *stream, uint64_t at, int frames, int latency, struct counts *counts) {
   static uint8_t octets[2048];
   ssize_t size = recv(s, octets, sizeof octets, 0);
-  if (size < HEAD || size > MOST_OCTETS) return;
+  if (size < 0) return 0;
+  if (size < HEAD || size > MOST_OCTETS) return 1;
   counts->received++;
   counts->late += is_late(stream, octets, at, frames, latency);
   if (stream->slots) keep(stream, octets + HEAD, size - HEAD, counts);
+  return 1;
 }
 
 // Lays the samples of a stream's packets whose latency is over beside those of the others.
@@ -127,26 +130,28 @@ static void mix_all(const struct stream *streams, int count, int frames, int lat
 
 int main(int count, char **words) {
   static uint8_t datagram[MOST_OCTETS];
-  struct pollfd sockets[MOST_SOCKETS];
-  static struct stream streams[MOST_SOCKETS / 2];
-  int paths = count - 7, mixer = socket(AF_INET, SOCK_DGRAM, 0);
-  if (paths < 1 || paths > MOST_SOCKETS || atoi(words[2]) > MOST_OCTETS) return 2;
+  struct pollfd polled[MOST_SOCKETS];
+  static struct stream streams[MOST_SOCKETS];
+  int sockets = count - FIXED, mixer = socket(AF_INET, SOCK_DGRAM, 0);
+  if (sockets < 1 || sockets > MOST_SOCKETS || atoi(words[2]) > MOST_OCTETS) return 2;
   int is_mixed = strcmp(words[1], "mix") == 0, size = atoi(words[2]), latency = atoi(words[3]), frames = atoi(words[4]);
+  uint64_t rest = atol(words[5]) * 1000, paths = atoi(words[6]);
   if (is_mixed && (size < HEAD + SAMPLE * BLOCK * OUTS || BLOCK % frames != 0)) return 2;
-  struct sockaddr_in to[2] = {at(atoi(words[5])), at(atoi(words[6]))};
-  for (int i = 0; i < paths; i++) sockets[i] = (struct pollfd){receiver(atoi(words[7 + i])), POLLIN, 0};
-  for (int i = 0; is_mixed && i < paths / 2; i++) streams[i].slots = calloc(SLOTS, sizeof(struct slot));
+  if (rest == 0 || paths == 0 || sockets % paths != 0) return 2;
+  struct sockaddr_in to[2] = {at(atoi(words[7])), at(atoi(words[8]))};
+  for (int i = 0; i < sockets; i++) polled[i] = (struct pollfd){receiver(atoi(words[FIXED + i])), POLLIN, 0};
+  for (uint64_t i = 0; is_mixed && i < sockets / paths; i++) streams[i].slots = calloc(SLOTS, sizeof(struct slot));
   signal(SIGTERM, end);
   struct counts counts = {0, 0, 0};
   for (uint64_t sent = now() / MILLISECOND; !is_over;) {
     uint64_t before = now();
-    nanosleep(&(struct timespec){0, MILLISECOND - before % MILLISECOND}, NULL);
-    uint64_t after = now(), judged = after - before <= MILLISECOND ? before : after;
-    while (poll(sockets, paths, 0) > 0)
-      for (int i = 0; i < paths; i++)
-        if (sockets[i].revents) take_one(sockets[i].fd, &streams[i / 2], judged, frames, latency, &counts);
+    nanosleep(&(struct timespec){0, rest - before % rest}, NULL);
+    if (poll(polled, sockets, 0) > 0)
+      for (int i = 0; i < sockets; i++)
+        if (polled[i].revents)
+          while (take_one(polled[i].fd, &streams[i / paths], before, frames, latency, &counts)) {}
     for (uint64_t due = now() / MILLISECOND; sent < due; sent++) {
-      if (is_mixed) mix_all(streams, paths / 2, frames, latency, datagram);
+      if (is_mixed) mix_all(streams, sockets / paths, frames, latency, datagram);
       for (int i = 0; i < 2; i++) sendto(mixer, datagram, size, 0, (void *)&to[i], sizeof to[i]);
     }
   }

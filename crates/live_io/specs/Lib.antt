@@ -4,6 +4,7 @@ pub mod Clock
 pub mod Inherited
 pub mod Names
 pub mod Ports
+pub mod ReceivePace
 pub mod RecordBlocks
 pub mod RecordWriter
 pub mod Sharing

@@ -4,10 +4,14 @@ ghost use Rattle.std.specs.Duration.{as_nanos};
 ghost use Rattle.studio_io.specs.Clocks.{TellsTime};
 ghost use Rattle.live_io.specs.Clock.{instants_in};
 
-use std::time;
 use std::time::Duration;
+use std::{thread, time};
 use studio_config::StudioSpec;
 use studio_io::Clock;
+
+/// The number of nanoseconds in three sampling instants.
+// One sampling instant is no whole number of nanoseconds.
+const THREE_INSTANTS: u64 = 62_500;
 
 /// Returns the reading of a clock `elapsed` after it started at `open_at`, in sampling instants at 48 kHz, rounded
 /// down. A reading past the greatest `i64` is the greatest `i64`.
@@ -78,6 +82,19 @@ impl<R: time::Clock> Clock for SystemClock<'_, R> {
             self.last = self.last.max(reading);
         }
         self.last
+    }
+}
+
+/// A clock by which a thread can rest.
+pub(crate) trait RestClock: Clock {
+    /// Rests for so many sampling instants at 48 kHz. The system may make the rest longer.
+    fn rest(&mut self, instants: u32);
+}
+
+impl<R: time::Clock> RestClock for SystemClock<'_, R> {
+    fn rest(&mut self, instants: u32) {
+        let nanoseconds = u64::from(instants) * THREE_INSTANTS / 3;
+        thread::sleep(self.rt, Duration::from_nanos(nanoseconds));
     }
 }
 

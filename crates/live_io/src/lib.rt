@@ -7,8 +7,9 @@
 //! 2. `tai_now` returns the present International Atomic Time, at which a studio can be opened.
 //!    `RunPeriod` has the clock of the run, and decides when the feeds end.
 //! 3. `open_sockets` binds a socket for each path and two for the output, by a `SocketConfig`, except
-//!    those that are inherited. `udp_feeds` makes a `Feed` of each receiving socket. `UdpSink` is the `Sink` of the
-//!    two sending sockets.
+//!    those that are inherited. `udp_feeds` makes a `Feed` of each receiving socket. A feed takes what
+//!    its socket has, and waits by a `ReceivePace`, unless flags say which sockets are to be read.
+//!    `UdpSink` is the `Sink` of the two sending sockets.
 //! 4. A `RecordChannel` has two ends of a ring. The thread of the run passes each datagram to its
 //!    `RecordObserver`, which pushes whole blocks and never waits. `write_record`, in another thread,
 //!    writes them to the file. If the file is too slow and the ring is full, or a write fails, the
@@ -34,6 +35,7 @@ pub use sockets::feed::{FeedFlags, UdpFeed, udp_feeds};
 pub use sockets::health::{RunHealth, SendHealth, SocketHealth};
 pub use sockets::inherited::{InheritedSocketFault, InheritedSockets};
 pub use sockets::names::SocketRole;
+pub use sockets::pace::{ReceivePace, ReceiveWait, common_rest, rest_of};
 pub use sockets::ports::LivePorts;
 pub use sockets::receiver::Receiver;
 pub use sockets::sharing::{PathPlace, have_collision};

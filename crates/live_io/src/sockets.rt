@@ -1,11 +1,13 @@
 //! The sockets of a run. `ports` and `addresses` find where they are bound, `inherited` has those that were passed in,
 //! and `receiver` and `sink` those that receive and send. `feed` makes a feed of a receiver; `unexpected` tests and
 //! counts the sources of datagrams. `sharing` says which paths can be at one place. A socket that fails is read by
-//! `retrying`, as `backoff` says. `health` has what the sockets count, and `udp_table` what the kernel counts.
+//! `retrying`, as `backoff` says, and one that is empty as `pace` says. `health` has what the sockets count, and
+//! `udp_table` what the kernel counts.
 
 use crate::sockets::addresses::{PathAddress, addresses_of};
 use crate::sockets::health::RunHealth;
 use crate::sockets::inherited::InheritedSockets;
+use crate::sockets::pace::rest_of;
 use crate::sockets::ports::LivePorts;
 use crate::sockets::receiver::{Receiver, inherited_socket, receiving_socket};
 use crate::sockets::sharing::{PathPlace, have_collision};
@@ -23,6 +25,7 @@ pub(crate) mod feed;
 pub(crate) mod health;
 pub(crate) mod inherited;
 pub(crate) mod names;
+pub(crate) mod pace;
 pub(crate) mod ports;
 pub(crate) mod receiver;
 pub(crate) mod retrying;
@@ -69,11 +72,12 @@ pub fn open_sockets<'a, R: Net>(
     Ok(Sockets { receiving, sink })
 }
 
-/// The places of the paths of a run, and the descriptors of their inherited sockets, both ordered by stream and then by
-/// path.
+/// The places of the paths of a run, their rests in sampling instants, and the descriptors of their inherited sockets,
+/// all ordered by stream and then by path.
 #[derive(Drop)]
 struct ReceiverPlan<'a> {
     places: Vec<PathPlace>,
+    rests: Vec<u32>,
     descriptors: Vec<Option<i32>>,
     config: SocketConfig<'a>,
 }
@@ -88,6 +92,7 @@ fn open_receivers<'a, R: Net>(
 ) -> io::Result<Vec<Receiver<'a>>> {
     let plan = ReceiverPlan {
         places: places_of(alloc, studio, config.ports)?,
+        rests: rests_of(alloc, studio)?,
         descriptors: config.inherited.descriptors(alloc, studio.streams())?,
         config,
     };
@@ -116,6 +121,18 @@ fn places_of(
         }
     }
     Ok(places)
+}
+
+/// Returns the rests of all paths while packets flow, in sampling instants. Returns `AllocError` if an allocation
+/// fails.
+fn rests_of(alloc: Global, studio: &StudioSpec) -> Result<Vec<u32>, AllocError> {
+    let mut rests = Vec::new(alloc);
+    for stream in studio.streams() {
+        for _ in 0..stream.paths() {
+            rests.push(rest_of(stream))?;
+        }
+    }
+    Ok(rests)
 }
 
 /// Returns the place of the path at an index, or `None` if there is no such path.
@@ -150,12 +167,13 @@ impl<'a> ReceiverPlan<'a> {
 
     /// Returns the socket of the path at an index.
     fn receiver<R: Net>(&self, rt: &R, index: usize) -> io::Result<Receiver<'a>> {
-        let Some(place) = self.places.get(index) else {
+        let (Some(place), Some(rest)) = (self.places.get(index), self.rests.get(index)) else {
             return Err(io::Error::from(ErrorKind::InvalidInput));
         };
         let socket = self.socket(rt, index, place)?;
         let source = self.config.unexpected.source(index, place.from);
-        let receiver = Receiver::new(socket, source, SocketAddrV4::new(place.at, place.port));
+        let address = SocketAddrV4::new(place.at, place.port);
+        let receiver = Receiver::new(socket, *rest, source, address);
         if let Some(health) = self.config.health.paths().get(index) {
             receiver.show_inode(health);
         }

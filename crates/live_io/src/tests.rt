@@ -1,8 +1,11 @@
-//! Tests of what no clause says: the attempts of a socket that fails, over a socket and a clock of the test's own; the
-//! kernel's table of UDP sockets; the opening by International Atomic Time; paths at one place.
+//! Tests of what no clause says: the attempts of a socket that fails, and the waits of one that is empty, over a socket
+//! and a clock of the test's own; the kernel's table of UDP sockets; the opening by International Atomic Time; paths at
+//! one place.
 ghost use Rattle.std.specs.Prelude.{[]};
 
+use crate::clock::RestClock;
 use crate::sockets::health::SocketHealth;
+use crate::sockets::pace::ReceivePace;
 use crate::sockets::retrying::{DatagramSocket, RetryingSocket};
 use crate::sockets::sharing::{PathPlace, have_collision};
 use crate::sockets::udp_table::drops_in;
@@ -17,6 +20,9 @@ use studio_io::{Clock, FeedAnswer};
 
 /// A millisecond, in sampling instants.
 const MILLISECOND: i64 = 48;
+
+/// The rest of a socket while packets flow, in sampling instants: 4 ms.
+const REST: u32 = 192;
 
 /// The result of a receive of a `TestSocket`.
 #[derive(Clone, Copy, PartialEq, Eq, Debug)]
@@ -52,9 +58,13 @@ impl DatagramSocket for TestSocket {
             Receive::Unexpected => Ok(None),
         }
     }
+
+    fn wait(&mut self, _milliseconds: i32) -> bool {
+        false
+    }
 }
 
-/// A clock that reads what the test sets, in sampling instants.
+/// A clock that reads what the test sets, in sampling instants, and that a rest sets forward.
 #[derive(Drop)]
 struct TestClock {
     now: i64,
@@ -68,7 +78,13 @@ impl Clock for TestClock {
     }
 }
 
-/// A socket under test, whose receives do not wait.
+impl RestClock for TestClock {
+    fn rest(&mut self, instants: u32) {
+        self.now = self.now.saturating_add(i64::from(instants));
+    }
+}
+
+/// A socket under test, with a flag that says when it is to be read.
 type Retrying<'a> = RetryingSocket<'a, TestSocket, TestClock>;
 
 impl Retrying<'_> {
@@ -83,7 +99,14 @@ fn failing_socket<'a>(health: &'a SocketHealth, ready: &'a AtomicBool) -> Retryi
         result: Receive::Fault,
         receives: 0,
     };
-    RetryingSocket::new(socket, TestClock { now: 0 }, Some(health), Some(ready))
+    let pace = ReceivePace::new(REST);
+    RetryingSocket::new(
+        socket,
+        TestClock { now: 0 },
+        pace,
+        Some(health),
+        Some(ready),
+    )
 }
 
 /// A socket that always fails is tried after 1, 2, 4, .. 512 ms and each second, and ends after 1,000 faults.
@@ -178,6 +201,112 @@ fn a_datagram_ends_the_back_off(rt: HostRuntime) {
             "{result:?}"
         );
     }
+}
+
+/// A socket that has so many datagrams, and is then empty.
+#[derive(Drop)]
+struct QueueSocket {
+    queued: u32,
+    /// The number of waits for a datagram so far.
+    waits: u32,
+    /// The number of datagrams that come during the next wait.
+    coming: u32,
+}
+
+impl DatagramSocket for QueueSocket {
+    fn receive(&mut self, buf: &mut [u8]) -> io::Result<Option<usize>> {
+        if self.queued == 0 {
+            return Err(io::Error::from(ErrorKind::WouldBlock));
+        }
+        self.queued = self.queued.saturating_sub(1);
+        Ok(Some(buf.len().min(1)))
+    }
+
+    fn wait(&mut self, _milliseconds: i32) -> bool {
+        self.waits = self.waits.saturating_add(1);
+        let has_come = self.coming > 0;
+        self.queued = self.queued.saturating_add(self.coming);
+        self.coming = 0;
+        has_come
+    }
+}
+
+/// A socket is read until it is empty. While packets flow a rest follows, and 20 ms after the last lot a wait for a
+/// datagram. Packets flow from the first datagram of that wait on.
+#[test]
+fn an_empty_socket_rests_while_packets_flow(rt: HostRuntime) {
+    // The datagrams that come before each step, and those that come during its wait, if there is one; then the
+    // datagrams that are read until there is nothing, the clock after that in milliseconds, and the waits so far.
+    let steps = [
+        ("nothing came yet", 0, 0, 0, 0, 1),
+        ("a wait ends with a datagram", 0, 1, 0, 0, 2),
+        ("packets flow from it on", 0, 0, 1, 4, 2),
+        ("a lot is read whole", 32, 0, 32, 8, 2),
+        ("another", 1, 0, 1, 12, 2),
+        ("4 ms after the last lot", 0, 0, 0, 16, 2),
+        ("8 ms", 0, 0, 0, 20, 2),
+        ("12 ms", 0, 0, 0, 24, 2),
+        ("16 ms", 0, 0, 0, 28, 2),
+        ("20 ms", 0, 0, 0, 28, 3),
+        ("a wait follows a wait", 0, 0, 0, 28, 4),
+        ("a lot after a wait", 2, 0, 2, 32, 4),
+    ];
+    let socket = QueueSocket {
+        queued: 0,
+        waits: 0,
+        coming: 0,
+    };
+    let pace = ReceivePace::new(REST);
+    let mut retrying = RetryingSocket::new(socket, TestClock { now: 0 }, pace, None, None);
+    assert!(rt; retrying.waits());
+    let mut buf = [0u8; 4];
+    for (shows, queued, coming, wanted, milliseconds, waits) in steps {
+        retrying.socket.queued = queued.max(retrying.socket.queued);
+        retrying.socket.coming = coming;
+        let mut read = 0u32;
+        for _ in 0..100 {
+            if retrying.next(&mut buf) == Some(FeedAnswer::Nothing) {
+                break;
+            }
+            read = read.saturating_add(1);
+        }
+        assert_eq!(rt; read, wanted, "{shows}");
+        assert_eq!(rt;
+            retrying.clock.now,
+            MILLISECOND.saturating_mul(milliseconds),
+            "{shows}"
+        );
+        assert_eq!(rt; retrying.socket.waits, waits, "{shows}");
+    }
+}
+
+/// With a flag a socket is read until it is empty. That clears the flag, and nothing waits.
+#[test]
+fn a_flag_is_cleared_by_an_empty_socket(rt: HostRuntime) {
+    let ready = AtomicBool::new(false);
+    let socket = QueueSocket {
+        queued: 2,
+        waits: 0,
+        coming: 0,
+    };
+    let pace = ReceivePace::new(REST);
+    let mut retrying = RetryingSocket::new(socket, TestClock { now: 0 }, pace, None, Some(&ready));
+    let mut buf = [0u8; 4];
+    assert!(rt; !retrying.waits());
+    assert_eq!(rt;
+        retrying.next(&mut buf),
+        Some(FeedAnswer::Nothing),
+        "not ready"
+    );
+    ready.store(true, Ordering::SeqCst);
+    for left in [1, 0] {
+        assert_eq!(rt; retrying.next(&mut buf), Some(FeedAnswer::Datagram(1)));
+        assert_eq!(rt; retrying.socket.queued, left);
+        assert!(rt; ready.load(Ordering::SeqCst), "{left} left");
+    }
+    assert_eq!(rt; retrying.next(&mut buf), Some(FeedAnswer::Nothing), "empty");
+    assert!(rt; !ready.load(Ordering::SeqCst));
+    assert_eq!(rt; (retrying.clock.now, retrying.socket.waits), (0, 0));
 }
 
 /// The kernel's table as Linux 6.1 prints it, with two sockets.

@@ -3,6 +3,7 @@ ghost use Rattle.std.specs.Prelude.{◌≡◌, [], length, IfOk};
 
 use crate::clock::{RunPeriod, SystemClock};
 use crate::sockets::health::SocketHealth;
+use crate::sockets::pace::ReceivePace;
 use crate::sockets::receiver::Receiver;
 use crate::sockets::retrying::RetryingSocket;
 use std::alloc::{AllocError, Global};
@@ -20,13 +21,15 @@ const MAX_UNEXPECTED: u32 = 64;
 pub struct FeedFlags<'a> {
     /// True once each feed is to end.
     pub stop: &'a AtomicBool,
-    /// For each path a flag that is true if its socket is to be read once. Empty if receives wait.
+    /// For each path a flag that is true if its socket is to be read until it is empty. Its feed clears the flag. Empty
+    /// if the feeds wait.
     pub ready: &'a [AtomicBool],
     /// The health of each path's socket, which its feed writes.
     pub health: &'a [SocketHealth],
 }
 
-/// A feed from a socket. Its receives wait, or they have a flag that says if one is tried. It ends once the flag `stop`
+/// A feed from a socket. It waits once the socket is empty, or it has a flag that says if the socket is read. It ends
+/// once the flag `stop`
 /// is set, once its clock has reached a time, or after 1,000 faults of the socket without a datagram.
 #[derive(Drop)]
 pub struct UdpFeed<'a, R: Clock> {
@@ -49,8 +52,9 @@ impl<'a, R: Clock> UdpFeed<'a, R> {
     ) -> UdpFeed<'a, R> {
         let health = flags.health.get(path_index);
         let ready = flags.ready.get(path_index);
+        let pace = ReceivePace::new(receiver.rest);
         UdpFeed {
-            retrying: RetryingSocket::new(receiver, period.clock(rt), health, ready),
+            retrying: RetryingSocket::new(receiver, period.clock(rt), pace, health, ready),
             until: period.until(),
             stop: flags.stop,
             path_index: u32::try_from(path_index).unwrap_or(u32::MAX),
@@ -125,7 +129,7 @@ impl<R: Clock> Feed for UdpFeed<'_, R> {
         FeedAnswer::Nothing
     }
 
-    /// Returns true if receives wait for a datagram, because no flag says if there may be one.
+    /// Returns true if the feed waits at an empty socket, because no flag says if it has a datagram.
     fn waits(&self) -> bool {
         self.retrying.waits()
     }

@@ -3,26 +3,24 @@ use crate::sockets::health::SocketHealth;
 use crate::sockets::retrying::DatagramSocket;
 use crate::sockets::socket_kind::inode_of;
 use crate::sockets::unexpected::ExpectedSource;
+use libc::net::POLLIN;
+use libc::types::pollfd;
 use os::FromRawFd;
 use std::io;
 use std::io::ErrorKind;
 use std::net::{Ipv4Addr, Net, SocketAddr, SocketAddrV4, UdpSocket};
 use std::os::fd::AsRawFd;
-use std::time::Duration;
-
-/// The longest wait of a receive, in milliseconds. The system rounds it up to its ticks.
-// A feed tests its end between two receives, so the wait bounds how late the feed ends. A receive that waits takes one
-// call for each datagram; waiting by `Poll` takes three.
-const RECEIVE_WAIT: u64 = 100;
 
 /// The receive buffer of a socket, in octets. The system gives less if its own limit is lower.
 // 8 MiB, so that a burst after a delayed sender is not dropped.
 const RECEIVE_BUFFER: u32 = 8 << 20;
 
-/// The socket that receives a path.
+/// The socket that receives a path. Its receives do not wait.
 #[derive(Drop)]
 pub struct Receiver<'a> {
     socket: UdpSocket,
+    /// The rest between two reads of the socket while packets flow, in sampling instants.
+    pub(crate) rest: u32,
     /// The path's source, if only its datagrams are taken.
     source: Option<ExpectedSource<'a>>,
     /// The address to which the path's datagrams are sent.
@@ -38,6 +36,7 @@ impl<'a> Receiver<'a> {
     /// if that is 0.0.0.0 or not known.
     pub(crate) fn new(
         socket: UdpSocket,
+        rest: u32,
         source: Option<ExpectedSource<'a>>,
         address: SocketAddrV4,
     ) -> Receiver<'a> {
@@ -48,6 +47,7 @@ impl<'a> Receiver<'a> {
         };
         Receiver {
             socket,
+            rest,
             source,
             address,
             last_source: SocketAddrV4::new(Ipv4Addr::UNSPECIFIED, 0),
@@ -60,11 +60,9 @@ impl<'a> Receiver<'a> {
         self.keeps_sources = true;
     }
 
-    /// Makes receives return at once from now on, and returns the socket's descriptor, by which its readiness is
-    /// polled. Returns the system's error if it refuses.
-    pub fn nonblocking_fd(&self) -> io::Result<i32> {
-        self.socket.set_nonblocking(true)?;
-        Ok(self.socket.as_raw_fd())
+    /// Returns the socket's descriptor, by which its readiness is polled.
+    pub fn descriptor(&self) -> i32 {
+        self.socket.as_raw_fd()
     }
 
     /// Returns the address to which the path's datagrams are sent.
@@ -94,10 +92,19 @@ impl DatagramSocket for Receiver<'_> {
             _ => Ok(Some(count)),
         }
     }
+
+    fn wait(&mut self, milliseconds: i32) -> bool {
+        let mut polled = [pollfd {
+            fd: self.socket.as_raw_fd(),
+            events: POLLIN,
+            revents: 0,
+        }];
+        libc::net::poll(&mut polled, milliseconds) != 0
+    }
 }
 
-/// Returns a socket that is bound to an address and a port, whose receives wait 100 ms at most. A shared one may be
-/// bound next to others at the same group and port. Returns the system's error if it refuses.
+/// Returns a socket that is bound to an address and a port, whose receives do not wait. A shared one may be bound next
+/// to others at the same group and port. Returns the system's error if it refuses.
 pub(crate) fn receiving_socket<R: Net>(
     rt: &R,
     address: Ipv4Addr,
@@ -109,7 +116,7 @@ pub(crate) fn receiving_socket<R: Net>(
     } else {
         UdpSocket::bind(rt, SocketAddr::from((address, port)))?
     };
-    socket.set_read_timeout(Some(Duration::from_millis(RECEIVE_WAIT)))?;
+    socket.set_nonblocking(true)?;
     set_receive_buffer(&socket);
     Ok(socket)
 }
@@ -144,16 +151,15 @@ fn raw_address(address: Ipv4Addr, port: u16) -> [u8; 128] {
     raw
 }
 
-/// Returns the socket of an inherited descriptor, whose receives wait 100 ms at most. Its receive buffer stays as its
-/// opener set it. Returns an error if the descriptor is below 0, or the system's if it refuses.
+/// Returns the socket of an inherited descriptor, whose receives do not wait from then on. Its receive buffer stays as
+/// its opener set it. Returns an error if the descriptor is below 0, or the system's if it refuses.
 pub(crate) fn inherited_socket(descriptor: i32) -> io::Result<UdpSocket> {
     if descriptor < 0 {
         return Err(io::Error::from(ErrorKind::InvalidInput));
     }
     // Nobody else owns an inherited descriptor: `InheritedSockets` gives each to one use.
     let socket = unsafe { UdpSocket::from_raw_fd(descriptor) };
-    socket.set_nonblocking(false)?;
-    socket.set_read_timeout(Some(Duration::from_millis(RECEIVE_WAIT)))?;
+    socket.set_nonblocking(true)?;
     Ok(socket)
 }
 

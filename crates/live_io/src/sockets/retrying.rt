@@ -1,29 +1,40 @@
-//! A socket that is read again and again, and less often while it fails.
+//! A socket that is read again and again: until it is empty, after each wait, and less often while it fails.
 ghost use Rattle.std.specs.Prelude.{◌≤◌, ℕ, length, IfOk, IfSome};
 ghost use Rattle.studio_io.specs.Answers.{IsWithin};
 
+use crate::clock::RestClock;
 use crate::sockets::backoff::FaultBackoff;
 use crate::sockets::health::SocketHealth;
+use crate::sockets::pace::{ReceivePace, ReceiveWait};
 use std::io;
 use std::io::ErrorKind;
 use std::sync::atomic::{AtomicBool, Ordering};
-use studio_io::{Clock, FeedAnswer};
+use studio_io::FeedAnswer;
 
-/// The longest rest of a socket that fails, in milliseconds.
-// As long as a receive waits at most, so that the end of the feed is found as soon.
-const LONGEST_REST: i64 = 100;
+/// The longest wait for a datagram, in milliseconds.
+// A feed tests its end after each wait, so the wait bounds how late the feed ends.
+const LONGEST_WAIT: i32 = 100;
 
-/// A millisecond, in sampling instants.
-const MILLISECOND: i64 = 48;
+/// The longest rest of a socket that fails, in sampling instants: 100 ms.
+// As long as the wait for a datagram, so that the end of the feed is found as soon.
+const LONGEST_REST: i64 = 4_800;
 
 /// A socket that receives the datagrams of a path.
 pub(crate) trait DatagramSocket: Drop {
     /// Receives a datagram into `buf`, and returns its length in octets, or `None` if it is from an unexpected source.
+    /// Returns `ErrorKind::WouldBlock` at once if the socket is empty.
     fn receive(&mut self, buf: &mut [u8]) -> io::Result<Option<usize>>
         ensures within { IfOk result (λ own. IfSome own (λ count. count ≤ length buf.old)) };
+
+    /// Waits for a datagram, but for at most so many milliseconds. Returns false if none came in that time, and true if
+    /// one may have come.
+    fn wait(&mut self, milliseconds: i32) -> bool;
 }
 
 /// A socket that is read again and again, and less often while it fails.
+///
+/// An attempt at an empty socket waits by `ReceivePace`: it rests while packets flow, and waits for a datagram while
+/// none come. If a flag says when the socket is to be read, it clears the flag instead.
 ///
 /// An attempt that fails is a fault. The next attempt follows after the delay of `FaultBackoff`, and there is nothing
 /// until then. After 1,000 faults without a datagram the socket has ended.
@@ -32,17 +43,19 @@ pub(crate) struct RetryingSocket<'a, S, C> {
     pub(crate) socket: S,
     pub(crate) clock: C,
     backoff: FaultBackoff,
+    pace: ReceivePace,
     /// The health that the attempts set, if other threads read it.
     health: Option<&'a SocketHealth>,
-    /// A flag that is true if the socket is to be read once. `None` if receives wait.
+    /// A flag that is true if the socket is to be read until it is empty. `None` if attempts at an empty one wait.
     ready: Option<&'a AtomicBool>,
 }
 
-impl<'a, S: DatagramSocket, C: Clock> RetryingSocket<'a, S, C> {
-    /// Returns a socket that has not failed.
+impl<'a, S: DatagramSocket, C: RestClock> RetryingSocket<'a, S, C> {
+    /// Returns a socket that has not failed, and that is read at this pace.
     pub(crate) fn new(
         socket: S,
         clock: C,
+        pace: ReceivePace,
         health: Option<&'a SocketHealth>,
         ready: Option<&'a AtomicBool>,
     ) -> RetryingSocket<'a, S, C> {
@@ -50,12 +63,13 @@ impl<'a, S: DatagramSocket, C: Clock> RetryingSocket<'a, S, C> {
             socket,
             clock,
             backoff: FaultBackoff::new(),
+            pace,
             health,
             ready,
         }
     }
 
-    /// Returns true if receives wait for a datagram, because no flag says if there may be one.
+    /// Returns true if attempts at an empty socket wait, because no flag says if it has a datagram.
     pub(crate) fn waits(&self) -> bool {
         self.ready.is_none()
     }
@@ -79,10 +93,10 @@ impl<'a, S: DatagramSocket, C: Clock> RetryingSocket<'a, S, C> {
         }
     }
 
-    /// Returns true if the socket is to be read now. While it rests and receives would wait, it rests here.
+    /// Returns true if the socket is to be read now. While it rests and attempts would wait, it rests here.
     fn is_attempt_due(&mut self) -> bool {
         let Some(at) = self.backoff.next_at() else {
-            return self.take_ready();
+            return self.is_ready();
         };
         let now = self.clock.now();
         if self.backoff.is_due(now) {
@@ -90,15 +104,15 @@ impl<'a, S: DatagramSocket, C: Clock> RetryingSocket<'a, S, C> {
         }
         // Without this rest the path's worker would ask again at once.
         if self.waits() {
-            rest(at.saturating_sub(now));
+            self.clock.rest(rest_until(at, now));
         }
         false
     }
 
-    /// Returns true if the socket is to be read, and clears the flag that says so.
-    fn take_ready(&self) -> bool {
+    /// Returns true if the socket is to be read, as far as a flag says so.
+    fn is_ready(&self) -> bool {
         match self.ready {
-            Some(ready) => ready.swap(false, Ordering::SeqCst),
+            Some(ready) => ready.load(Ordering::SeqCst),
             None => true,
         }
     }
@@ -107,6 +121,29 @@ impl<'a, S: DatagramSocket, C: Clock> RetryingSocket<'a, S, C> {
     fn note_datagram(&mut self) {
         self.note_success();
         self.backoff.note_datagram();
+        self.pace.note_datagram();
+    }
+
+    /// Waits after an attempt at an empty socket, or clears the flag that says if it has a datagram.
+    fn wait_after_empty(&mut self) {
+        if let Some(ready) = self.ready {
+            ready.store(false, Ordering::SeqCst);
+            return;
+        }
+        let now = self.clock.now();
+        match self.pace.next_wait(now) {
+            ReceiveWait::Rest(instants) => self.clock.rest(until_multiple(instants, now)),
+            ReceiveWait::Datagram => self.wait_for_datagram(),
+        }
+    }
+
+    /// Waits until the socket has a datagram or an error, for at most `LONGEST_WAIT`.
+    fn wait_for_datagram(&mut self) {
+        if self.socket.wait(LONGEST_WAIT) {
+            // Packets flow again from the first one on. Otherwise each of them would be waited for, and wake this
+            // thread on the sender's time. It also follows a wait that failed, so that a rest comes before the next.
+            self.pace.note_datagram();
+        }
     }
 
     /// Notes an attempt that failed with this error, and returns the feed's result.
@@ -114,10 +151,10 @@ impl<'a, S: DatagramSocket, C: Clock> RetryingSocket<'a, S, C> {
         ensures { (len : ℕ) → IsWithin result len }
     {
         match kind {
-            // `WouldBlock` is also the error of a receive whose time ran out.
             ErrorKind::WouldBlock | ErrorKind::Interrupted => {
                 self.note_success();
                 self.backoff.note_nothing();
+                self.wait_after_empty();
                 FeedAnswer::Nothing
             }
             _ => {
@@ -142,6 +179,10 @@ impl<'a, S: DatagramSocket, C: Clock> RetryingSocket<'a, S, C> {
     fn note_fault(&mut self) {
         let now = self.clock.now();
         self.backoff.note_fault(now);
+        // The next attempt follows by the clock. Until then the flag would say that there is something to be read.
+        if let Some(ready) = self.ready {
+            ready.store(false, Ordering::SeqCst);
+        }
         let Some(health) = self.health else {
             return;
         };
@@ -162,10 +203,14 @@ fn datagram_of(own: Option<usize>) -> Option<FeedAnswer>
     }
 }
 
-/// Waits for so many sampling instants, rounded up to milliseconds, or for `LONGEST_REST` if that is less.
-fn rest(instants: i64) {
-    let whole = instants / MILLISECOND;
-    let limit = whole.saturating_add(1).clamp(0, LONGEST_REST);
-    // A poll of no descriptor waits for its time alone.
-    let _ = libc::net::poll(&mut [], i32::try_from(limit).unwrap_or(0));
+/// Returns the rest from `now` until a later time, in sampling instants, at most `LONGEST_REST`.
+fn rest_until(at: i64, now: i64) -> u32 {
+    u32::try_from(at.saturating_sub(now).clamp(0, LONGEST_REST)).unwrap_or(0)
+}
+
+/// Returns the time from `now` to the next multiple of a rest, in sampling instants.
+// Threads with the same rest wake together, which costs the machine less.
+fn until_multiple(rest: u32, now: i64) -> u32 {
+    let gone = now.unsigned_abs() % u64::from(rest.max(1));
+    rest.saturating_sub(u32::try_from(gone).unwrap_or(0))
 }

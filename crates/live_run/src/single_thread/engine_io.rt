@@ -48,10 +48,11 @@ impl<K: Sink> Sink for MeteredSink<'_, K> {
     }
 }
 
-/// Returns the feeds of these sockets, and the clock, the sink and the wait of a run.
+/// Returns the feeds of these sockets, and the clock, the sink and the wait of a studio's run.
 pub(crate) fn prepare_engine_io<'a, R: Wait + Clock>(
     rt: &'a R,
     alloc: Global,
+    studio: &StudioSpec,
     sockets: Sockets<'a>,
     period: RunPeriod,
     flags: FeedFlags<'a>,
@@ -62,7 +63,8 @@ pub(crate) fn prepare_engine_io<'a, R: Wait + Clock>(
     let Sockets { receiving, sink } = sockets;
     let clock = period.clock(rt);
     // The wait takes the descriptors before the feeds take the sockets.
-    let wait = SocketWait::new(rt, alloc, receiving.as_slice(), flags, clock)?;
+    let receivers = receiving.as_slice();
+    let wait = SocketWait::new(rt, alloc, studio, receivers, flags, clock)?;
     let feeds = udp_feeds(rt, alloc, receiving, period, flags)?;
     Ok(SingleThreadRun {
         feeds,
