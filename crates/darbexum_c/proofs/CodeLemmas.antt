@@ -1,5 +1,5 @@
 -- Which code a call returns.
-use Rattle.std.proofs.Common.{◌≡◌, ◌<◌, ◌≤◌, nat_lt, ℕ, zero, suc, ℤ, List, [], ◌∷◌, pos, true, false, length, Option, Some, None, if◌then◌else◌, option_map, slice_get, ap, sym, refl, subst, ◌∙◌, arith}
+use Rattle.std.proofs.Common.{◌≡◌, ◌<◌, ◌≤◌, nat_lt, ℕ, zero, suc, ℤ, List, [], ◌∷◌, pos, true, false, length, Option, Some, None, if◌then◌else◌, option_map, slice_get, ap, sym, ◌∙◌, arith}
 use Rattle.std.proofs.lemmas.Bool.Decides.{nat_tests}
 use Rattle.mix_packets.specs.OutSpec.{datagram_length}
 use Rattle.path_merge.specs.Clock.{clock_fault_of}
@@ -8,7 +8,7 @@ use Rattle.rtp_stream.specs.declared.stream_spec.Stream.{Stream}
 use Rattle.studio_session.specs.Cursor.{CursorState}
 use Rattle.studio_engine.specs.Engine.{EngineState, arrive_fault_of, stream_spec_of}
 use Rattle.studio_engine.specs.declared.fault.ArriveFault.{ArriveFault}
-use Rattle.darbexum_c.specs.Codes.{arrive_code_of, arrive_fault_code, clock_fault_code, no_path, no_stream, path_code_in, path_code_of, short_room, stream_code_of, turn_code_of}
+use Rattle.darbexum_c.specs.Codes.{arrive_code_of, arrive_fault_code, clock_fault_code, no_path, no_stream, short_room, stream_code_of, turn_code_of}
 
 -- a datagram on one of four paths
 pub on_path : (engine : EngineState) (stream path : ℕ) (fault : Option ArriveFault) → path < 4 → arrive_fault_of engine stream path ≡ fault

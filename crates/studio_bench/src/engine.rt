@@ -33,7 +33,7 @@ pub fn play_trace(rt: &HostRuntime, words: &mut Args) -> anyhow::Result<()> {
 }
 
 /// Returns the studio of the configuration at a path.
-fn studio_at(rt: &HostRuntime, path: &str) -> anyhow::Result<StudioSpec> {
+pub(crate) fn studio_at(rt: &HostRuntime, path: &str) -> anyhow::Result<StudioSpec> {
     let config = read_octets(rt.alloc(), &mut fs::open(rt, path)?)?;
     studio_of(rt.alloc(), config.as_slice())
 }

@@ -9,6 +9,7 @@ mod datagrams;
 mod engine;
 mod merge;
 mod mix;
+mod rounds;
 
 use anyhow::bail;
 use std::env;
@@ -23,6 +24,7 @@ fn main(rt: HostRuntime) -> anyhow::Result<()> {
         "engine" => engine::play_trace(&rt, &mut words),
         "merge" => merge::time_merge(&rt, rt.alloc(), &mut words),
         "mix" => mix::time_shapes(&rt, rt.alloc()),
+        "rounds" => rounds::time_rounds(&rt, &mut words),
         _ => bail!("no kernel has this name"),
     }
 }

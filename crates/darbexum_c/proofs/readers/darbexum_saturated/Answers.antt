@@ -1,5 +1,5 @@
 -- The handle's engine is the one that was asked.
-use Rattle.std.proofs.Common.{◌≡◌, ℕ, List, length, subst}
+use Rattle.std.proofs.Common.{ℕ, List, length, subst}
 use Rattle.studio_config.specs.Studio.{Studio}
 use Rattle.studio_mix.specs.Saturated.{AreSaturated}
 use Rattle.studio_session.specs.Event.{TraceEvent}
