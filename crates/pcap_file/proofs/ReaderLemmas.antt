@@ -3,19 +3,20 @@ use Rattle.std.proofs.Common.{◌≡◌, ◌⊎◌, inl, inr, ◌≤◌, ◌<◌
 use Rattle.std.specs.Option.{option_to_list}
 use Rattle.std.specs.Io.KnownBytes.{Consumes, IsAtEnd}
 use Rattle.std.proofs.KnownBytes.{Consumes-trans}
-use Rattle.std.proofs.lemmas.List.{drop-append-le, drop_all, length-take, map-append, take_all}
+use Rattle.std.proofs.lemmas.List.{drop-append-le, drop_all, length-take, map-append, nil_from_length, take_all}
 use Rattle.pcap_file.specs.declared.cursor.Format.{Format}
 use Rattle.pcap_file.specs.declared.cursor.Format.TheVariants as format
 use Rattle.pcap_file.specs.declared.decode.endian.Endian.{Endian}
 use Rattle.pcap_file.specs.declared.block_parser.BlockParser.{BlockParser}
 use Rattle.pcap_file.specs.declared.fault.CaptureFault.{CaptureFault}
+use Rattle.pcap_file.specs.declared.fault.CaptureFaultKind.TheVariants.{Truncated}
 use Rattle.pcap_file.specs.declared.decode.record_mark.RecordMark.{RecordMark}
 use Rattle.pcap_file.specs.Packet.{PacketView}
 use Rattle.pcap_file.specs.Capture.{Item, packets_of, packets_past, with_packet}
 use Rattle.pcap_file.specs.Entries.{Entry, entries_at, entries_in, entries_of, entries_past}
 use Rattle.pcap_file.specs.BlockParser.{IsEnough, is_cut_as, is_cut_in, items_at}
 use Rattle.pcap_file.specs.ReadBuffer.{Reads}
-use Rattle.pcap_file.specs.Reader.{HasEntries, HasOpened, HasReturned, IsCutBehind, IsFaultBehind, IsFilled, IsNext, packets_among}
+use Rattle.pcap_file.specs.Reader.{EndsWith, HasEntries, HasOpened, HasReturned, IsCutBehind, IsFaultBehind, IsFilled, IsNext, cut_fault_of, packets_among}
 use Rattle.pcap_file.proofs.ReaderEntryLemmas.{among_more}
 
 -- a fact about a value that is there
@@ -228,3 +229,39 @@ told_cut file entries left parts held ended front is next cut told =
       packets = told.packets ∙ ap (λ l. map Ok (packets_among entries) ++ items_at parts l) none;
       all = told.all ∙ ap (λ l. entries ++ entries_at parts l) none;
     }
+
+-- the record or the block that begins there is cut
+cut_by : (file : List ℕ) (entries : List Entry) (parts : BlockParser) (held : List ℕ) → 1 ≤ length held → is_cut_in parts held ≡ true
+    → packets_of file ≡ map Ok (packets_among entries) ++ items_at parts held → entries_of file ≡ entries ++ entries_at parts held → EndsWith file entries (cut_fault_of parts held)
+cut_by file entries parts [] some cut packets all = absurd (omega (arith, some))
+cut_by file entries parts (octet ∷ octets) some cut packets all = record {
+  cut = record { parts = parts; left = octet ∷ octets; some = some; cut = cut; packets = packets; all = all };
+  place = refl;
+  kind = refl;
+}
+
+pub ends_cut : (file : List ℕ) (entries : List Entry) (left : Option (List ℕ)) (parts : BlockParser) (held : List ℕ) (ended : Bool) (front : List ℕ)
+    → front ≡ take 983040 held → IsNext parts held ended → is_cut_in parts front ≡ true → HasReturned file entries left parts held ended → EndsWith file entries (cut_fault_of parts held)
+ends_cut file entries left parts held ended front is next cut told =
+    let short : (ended ≡ true) × (length held < 983040) = elim next.filled [
+      | inl whole ↦ absurd (let f : false ≡ true = sym whole ∙ ap (is_cut_in parts) (sym is) ∙ cut in cc)
+      | inr few ↦ few
+    ] in
+    let all : front ≡ held = is ∙ take_all 983040 held (omega (arith, short.1)) in
+    let none : held ++ told.rest ≡ held = ap (λ l. held ++ l) (told.end short.0) ∙ append-nil held in
+    cut_by file entries parts held next.some (ap (is_cut_in parts) (sym all) ∙ cut)
+    (told.packets ∙ ap (λ l. map Ok (packets_among entries) ++ items_at parts l) none) (told.all ∙ ap (λ l. entries ++ entries_at parts l) none)
+
+-- no octet is left
+pub ends_whole : (file : List ℕ) (entries : List Entry) (parts : BlockParser) (left : List ℕ) → left ≡ [] → HasEntries file entries → EndsWith file entries (cut_fault_of parts left)
+ends_whole file entries parts left none has = subst (λ l. EndsWith file entries (cut_fault_of parts l)) (sym none) has
+
+-- the fault of what is left, by the octets that are shown of it
+pub no_cut : (parts : BlockParser) (held front : List ℕ) → front ≡ take 983040 held → length front < 1 → None ≡ cut_fault_of parts held
+no_cut parts held front is few = sym (ap (cut_fault_of parts) (none_taken held (sym is ∙ nil_from_length front (omega (arith, few)))))
+
+pub one_cut : (parts : BlockParser) (held front : List ℕ) (place : ℕ) → front ≡ take 983040 held → 1 ≤ length front → place ≡ parts.place → Some (record { place = place; kind = Truncated }) ≡ cut_fault_of parts held
+one_cut parts [] front place is some same =
+    let long = subst (λ l. 1 ≤ length l) is some in
+    absurd (omega (arith, long))
+one_cut parts (octet ∷ octets) front place is some same = ap (λ n. Some (record { place = n; kind = Truncated })) same

@@ -1,8 +1,9 @@
 -- A capture that is read from a file, record by record or block by block.
-use Rattle.std.specs.Prelude.{◌≡◌, ◌⊎◌, ℕ, ◌≤◌, ◌<◌, ◌^◌, ◌++◌, Bool, true, false, List, [], ◌∷◌, length, take, map, Option, Some, option_map, Ok, Err}
+use Rattle.std.specs.Prelude.{◌≡◌, ◌⊎◌, ℕ, ◌≤◌, ◌<◌, ◌^◌, ◌++◌, Bool, true, false, List, [], ◌∷◌, length, take, map, Option, Some, None, option_map, Ok, Err}
 use Rattle.std.specs.Option.{option_to_list}
 use Rattle.std.specs.Io.KnownBytes.{Consumes, IsAtEnd}
 use Rattle.pcap_file.specs.declared.fault.CaptureFault.{CaptureFault}
+use Rattle.pcap_file.specs.declared.fault.CaptureFaultKind.TheVariants.{Truncated}
 use Rattle.pcap_file.specs.declared.block_parser.CaptureBlock.{CaptureBlock}
 use Rattle.pcap_file.specs.declared.block_parser.BlockParser.{BlockParser}
 use Rattle.pcap_file.specs.Packet.{PacketView, packet_view}
@@ -40,6 +41,22 @@ pub record IsCutBehind (file : List ℕ) (entries : List Entry) : Type 0 where
   pub cut : is_cut_in parts left ≡ true
   pub packets : packets_of file ≡ map Ok (packets_among entries) ++ items_at parts left
   pub all : entries_of file ≡ entries ++ entries_at parts left
+
+-- the fault of what is left of a file that was read to its end: none where no octet is; otherwise the record or the block there is cut
+abbrev pub cut_fault_of : BlockParser → List ℕ → Option CaptureFault
+cut_fault_of parts [] = None
+cut_fault_of parts (octet ∷ octets) = Some (record { place = parts.place; kind = Truncated })
+
+-- behind these entries the file ends within the record or the block that begins at the place of this fault
+pub record IsCutBy (file : List ℕ) (entries : List Entry) (fault : CaptureFault) : Type 0 where
+  pub cut : IsCutBehind file entries
+  pub place : fault.place ≡ cut.parts.place
+  pub kind : fault.kind ≡ Truncated
+
+-- a file has these entries and no fault; or its end is cut behind them, which is this fault
+abbrev pub EndsWith : List ℕ → List Entry → Option CaptureFault → Type 0
+EndsWith file entries None = HasEntries file entries
+EndsWith file entries (Some fault) = IsCutBy file entries fault
 
 -- behind these entries the file has this fault
 pub record IsFaultBehind (file : List ℕ) (entries : List Entry) (fault : CaptureFault) : Type 0 where

@@ -25,6 +25,7 @@ ghost use Rattle.pcap_file.specs.Entries.{Entry};
 ghost use Rattle.pcap_file.specs.ReadBuffer.{octets_of, Reads};
 ghost use Rattle.pcap_file.specs.InterfaceTexts.{texts_as, texts_view};
 ghost use Rattle.pcap_file.specs.Reader.{
+  EndsWith,
   HasEntries,
   HasOpened,
   HasReturned,
@@ -34,6 +35,7 @@ ghost use Rattle.pcap_file.specs.Reader.{
   IsLong,
   IsNext,
   IsOpenFault,
+  cut_fault_of,
   part_entries,
 };
 ghost use Rattle.pcap_file.specs.declared.fault.ReaderFault.TheVariants.{ReadFailed};
@@ -111,6 +113,7 @@ pub fn has_block<R: Read>(
     ensures end { IfOk result (λ some. some ≡ false → (file : List ℕ) (entries : List Entry)
         → HasReturned file entries (R.remaining reader.old) parts.now (octets_of window.old) window.old.ended
         → HasEntries file entries) }
+    ensures none { IfOk result (λ some. some ≡ false → octets_of window.new ≡ []) }
     ensures fault { IfErr result (λ fault. IsLong fault) }
 {
     fill(parts, window, reader)?;
@@ -137,6 +140,9 @@ pub fn has_whole_block<R: Read>(
     ensures end { IfOk result (λ some. some ≡ false → (file : List ℕ) (entries : List Entry)
         → HasReturned file entries (R.remaining reader.old) parts.now (octets_of window.old) window.old.ended
         → HasEntries file entries ⊎ IsCutBehind file entries) }
+    ensures cut { IfOk result (λ some. some ≡ false → (file : List ℕ) (entries : List Entry)
+        → HasReturned file entries (R.remaining reader.old) parts.now (octets_of window.old) window.old.ended
+        → EndsWith file entries (cut_fault_of parts.now (octets_of window.new))) }
     ensures fault { IfErr result (λ fault. IsLong fault) }
 {
     if !has_block(parts, window, reader)? {
@@ -150,7 +156,9 @@ pub fn has_whole_block<R: Read>(
 
 /// Returns the fault of the record or block that the file's end cuts, after `has_whole_block` returned false; `None` if
 /// the file ends with a whole one.
-pub fn cut_fault(parts: &BlockParser, window: &ReadBuffer) -> Option<CaptureFault> {
+pub fn cut_fault(parts: &BlockParser, window: &ReadBuffer) -> Option<CaptureFault>
+    ensures { result ≡ cut_fault_of parts.now (octets_of window.now) }
+{
     match window.front() {
         [] => None,
         _ => Some(CaptureFault {

@@ -84,7 +84,7 @@ fn number_in(text: &[u8]) -> Option<u64>
 }
 
 /// Returns the number below 2^63 that a text spells: decimal digits, with no leading zero but in `0` itself.
-pub(crate) fn decimal_number(text: &[u8]) -> Option<u64>
+pub fn decimal_number(text: &[u8]) -> Option<u64>
     ensures spelled { IfSome result (λ n. text.now ≡ decimal n) }
     ensures small { IfSome result (λ n. n < 2 ^ 63) }
     ensures found { (n : ℕ) → n < 2 ^ 63 → text.now ≡ decimal n → result ≡ Some n }

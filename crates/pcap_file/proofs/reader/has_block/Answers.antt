@@ -1,8 +1,11 @@
 use Rattle.std.proofs.Common.{sym, ◌∙◌, rules}
 use Rattle.std.proofs.lemmas.List.{nil_from_length}
-use Rattle.pcap_file.proofs.ReaderLemmas.{told_end}
+use Rattle.pcap_file.proofs.ReaderLemmas.{none_taken, told_end}
 use Rattle.pcap_file.proofs.reader.has_block.Goals as goal
 
 pub returns-then-is_empty-clause-end : goal.returns-then-is_empty-clause-end
 returns-then-is_empty-clause-end g c = λ _ file entries told.
     told_end file entries _ _ _ _ (sym c.front.ensures ∙ nil_from_length c.front.result.now (search rules)) c.in_ok-fill.ensures.filled (c.in_ok-fill.ensures.returned file entries told)
+
+pub returns-then-is_empty-clause-none : goal.returns-then-is_empty-clause-none
+returns-then-is_empty-clause-none g c = λ _. none_taken _ (sym c.front.ensures ∙ nil_from_length c.front.result.now (search rules))
