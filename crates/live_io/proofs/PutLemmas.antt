@@ -1,9 +1,11 @@
 -- What a record's ring was sent, one block further.
-use Rattle.std.proofs.Common.{◌≡◌, inl, inr, ◌<◌, ◌≤◌, ◌+◌, ℕ, suc, Bool, true, false, List, [], ◌++◌, length, drop, get_or, refl, sym, ap, subst, ◌∙◌, append_assoc, add-one, drop-cons}
+use Rattle.std.proofs.Common.{◌≡◌, ◌⊎◌, inl, inr, ◌<◌, ◌≤◌, ◌+◌, ℕ, suc, Bool, true, false, List, [], ◌++◌, length, drop, get_or, refl, sym, ap, subst, ◌∙◌, append_assoc, length-append, arith, add-one, drop-cons}
 use Rattle.std.proofs.lemmas.List.{append-nil, drop_all}
-use Rattle.rtrb.specs.Ring.{sent}
+use Rattle.rtrb.specs.Ring.{known_free, sent}
 use Rattle.rtp_stream.specs.declared.stream_spec.Stream.{Stream}
-use Rattle.live_io.specs.RecordBlocks.{Sends, path_blocks, stream_blocks}
+use Rattle.pcap_file.specs.Blocks.{section_block}
+use Rattle.studio_config.specs.Studio.{Studio}
+use Rattle.live_io.specs.RecordBlocks.{Puts, Sends, StaysEnded, front_blocks, path_blocks, stream_blocks}
 use Rattle.live_io.specs.declared.record.block_producer.BlockProducer.{BlockProducer}
 
 -- the paths of the streams so far were described, and these are left
@@ -11,34 +13,60 @@ pub record Describes (streams : List Stream) (n : ℕ) (old new : BlockProducer)
   pub done : List ℕ
   pub rest : path_blocks 0 streams ≡ done ++ path_blocks n (drop n streams)
   pub sends : Sends old done new
-  pub ended : old.ended ≡ true → new.ended ≡ true
+  pub ended : StaysEnded old new
 
 pub sends_none : (end : BlockProducer) (octets : List ℕ) → octets ≡ [] → Sends end octets end
 sends_none end octets none = by_flag end.ended refl
   where
     by_flag : (b : Bool) → end.ended ≡ b → Sends end octets end
     by_flag false e = inl (e, sym (ap (λ l. sent end.ring ++ l) none ∙ append-nil (sent end.ring)))
-    by_flag true e = inr e
+    by_flag true e = inr (e, inl e)
 
-pub sends_more : (old mid new : BlockProducer) (xs ys : List ℕ) → Sends old xs mid → Sends mid ys new → (mid.ended ≡ true → new.ended ≡ true) → Sends old (xs ++ ys) new
-sends_more old mid new xs ys h (inr e) stays = inr e
-sends_more old mid new xs ys (inr e) k stays = inr (stays e)
+pub sends_more : (old mid new : BlockProducer) (xs ys : List ℕ) → Sends old xs mid → Sends mid ys new → StaysEnded mid new → Sends old (xs ++ ys) new
 sends_more old mid new xs ys (inl h) (inl k) stays = inl (k.0, k.1 ∙ (ap (λ l. l ++ ys) h.1 ∙ append_assoc (sent old.ring) xs ys))
+sends_more old mid new xs ys (inl h) (inr (e, inl k)) stays = absurd (let f : false ≡ true = sym h.0 ∙ k in cc)
+sends_more old mid new xs ys (inl h) (inr (e, inr k)) stays =
+    let size = length-append xs ys in
+    inr (e, inr (omega (arith, size, k)))
+sends_more old mid new xs ys (inr (e, inl h)) k stays = inr ((stays e).0, inl h)
+sends_more old mid new xs ys (inr (e, inr h)) k stays =
+    let size = length-append xs ys in
+    let same : known_free new.ring ≡ known_free mid.ring = ap known_free (stays e).1 in
+    inr ((stays e).0, inr (omega (arith, size, h, same)))
+
+-- one block is sent, or there is no room for it
+pub sends_block : (old : BlockProducer) (block : List ℕ) (new : BlockProducer) → Puts old block new → Sends old block new
+sends_block old block new (inl h) = inl h
+sends_block old block new (inr (ends, why)) = inr (ends.0, why)
+
+pub stays_more : (old mid new : BlockProducer) → StaysEnded old mid → StaysEnded mid new → StaysEnded old new
+stays_more old mid new first second e = ((second (first e).0).0, (second (first e).0).1 ∙ (first e).1)
+
+-- the front of a record: its opening, and then its paths
+pub opens_by : (studio : Studio) (at : ℕ) (begun mid end : BlockProducer) → sent begun.ring ≡ [] → begun.ended ≡ false
+    → Puts begun (section_block at) mid → Sends mid (path_blocks 0 studio.streams) end → StaysEnded mid end
+    → ((end.ended ≡ false) × (sent end.ring ≡ front_blocks studio at)) ⊎ ((end.ended ≡ true) × (known_free end.ring < length (front_blocks studio at)))
+opens_by studio at begun mid end none going first rest stays =
+    elim (sends_more begun mid end (section_block at) (path_blocks 0 studio.streams) (sends_block begun (section_block at) mid first) rest stays) [
+      | inl all ↦ inl (all.0, all.1 ∙ ap (λ l. l ++ front_blocks studio at) none)
+      | inr (e, inl before) ↦ absurd (let f : false ≡ true = sym going ∙ before in cc)
+      | inr (e, inr room) ↦ inr (e, room)
+    ]
 
 -- none yet
 pub describes_none : (streams : List Stream) (end : BlockProducer) → Describes streams 0 end end
-describes_none streams end = record { done = []; rest = refl; sends = sends_none end [] refl; ended = λ e. e }
+describes_none streams end = record { done = []; rest = refl; sends = sends_none end [] refl; ended = λ e. (e, refl) }
 
 -- those of one stream more
 pub describes_more : (streams : List Stream) (n : ℕ) (stream : Stream) (old mid new : BlockProducer) → n < length streams → stream ≡ get_or streams n stream
-    → Describes streams n old mid → Sends mid (stream_blocks n stream) new → (mid.ended ≡ true → new.ended ≡ true) → Describes streams (n + 1) old new
+    → Describes streams n old mid → Sends mid (stream_blocks n stream) new → StaysEnded mid new → Describes streams (n + 1) old new
 describes_more streams n stream old mid new within is d more stays = rw add-one (record {
   done = d.done ++ stream_blocks n stream;
   rest = d.rest ∙ (ap (λ ss. d.done ++ path_blocks n ss) (drop-cons streams n stream within)
       ∙ (ap (λ (s : Stream). d.done ++ (stream_blocks n s ++ path_blocks (suc n) (drop (suc n) streams))) (sym is)
       ∙ sym (append_assoc d.done (stream_blocks n stream) (path_blocks (suc n) (drop (suc n) streams)))));
   sends = sends_more old mid new d.done (stream_blocks n stream) d.sends more stays;
-  ended = λ e. stays (d.ended e);
+  ended = stays_more old mid new d.ended stays;
 })
 
 -- those of all streams

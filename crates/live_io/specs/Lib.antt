@@ -2,6 +2,7 @@ pub mod Addresses
 pub mod Backoff
 pub mod Clock
 pub mod Inherited
+pub mod Links
 pub mod Names
 pub mod Ports
 pub mod ReceivePace

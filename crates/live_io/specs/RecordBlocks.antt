@@ -79,10 +79,23 @@ abbrev pub path_blocks : ℕ → List Stream → List ℕ
 path_blocks number [] = []
 path_blocks number (stream ∷ streams) = stream_blocks number stream ++ path_blocks (suc number) streams
 
--- octets were sent, or not all of them, and nothing will be any more
-abbrev pub Sends : BlockProducer → List ℕ → BlockProducer → Type 0
-Sends old octets new = ((new.ended ≡ false) × (sent new.ring ≡ sent old.ring ++ octets)) ⊎ (new.ended ≡ true)
+-- once that has ended it stays so, and the ring is sent nothing more
+abbrev pub StaysEnded : BlockProducer → BlockProducer → Type 0
+StaysEnded old new = old.ended ≡ true → (new.ended ≡ true) × (new.ring ≡ old.ring)
 
--- the front of a studio's record was sent: its opening, and its paths
+-- nothing will be sent any more, since that had ended before, or the ring was not known to have room for these octets
+abbrev pub LacksRoom : BlockProducer → List ℕ → BlockProducer → Type 0
+LacksRoom old octets new = (new.ended ≡ true) × ((old.ended ≡ true) ⊎ (known_free new.ring < length octets))
+
+-- octets were sent, or not all of them, for lack of room
+abbrev pub Sends : BlockProducer → List ℕ → BlockProducer → Type 0
+Sends old octets new = ((new.ended ≡ false) × (sent new.ring ≡ sent old.ring ++ octets)) ⊎ LacksRoom old octets new
+
+-- the front of a studio's record, which was opened at a time: its opening, and its paths
+abbrev pub front_blocks : Studio → ℕ → List ℕ
+front_blocks studio at = section_block at ++ path_blocks 0 studio.streams
+
+-- it was sent; or nothing more will be, since the ring was not known to have room for all of it
 abbrev pub Opens : Studio → BlockProducer → Type 0
-Opens studio end = (at : ℕ) → studio.open_at ≡ pos at → ((end.ended ≡ false) × (sent end.ring ≡ section_block at ++ path_blocks 0 studio.streams)) ⊎ (end.ended ≡ true)
+Opens studio end = (at : ℕ) → studio.open_at ≡ pos at
+    → ((end.ended ≡ false) × (sent end.ring ≡ front_blocks studio at)) ⊎ ((end.ended ≡ true) × (known_free end.ring < length (front_blocks studio at)))

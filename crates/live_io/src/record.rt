@@ -1,6 +1,7 @@
 //! The record of a run, with its two ends, and its result. `observer` is the end in the run's thread, and `writer` that
 //! in a thread of its own. `block_producer` puts the observer's blocks into the ring between them.
 ghost use Rattle.std.specs.Prelude.{[], Some, IfOk};
+ghost use Rattle.live_io.specs.RecordBlocks.{Opens};
 ghost use Rattle.live_io.specs.RecordWriter.{HasWritten};
 
 use crate::record::observer::RecordObserver;
@@ -37,6 +38,7 @@ impl<'a> RecordChannel<'a> {
         recorded: &'a RecordResult,
     ) -> Result<RecordChannel<'a>, AllocError>
         ensures empty { IfOk result (λ channel. HasWritten (Some []) channel.writer) }
+        ensures opens { IfOk result (λ channel. Opens studio.now channel.observer.end) }
     {
         let (producer, consumer) = RingBuffer::new(alloc, RING_OCTETS)?;
         let writer = RecordWriter::new(alloc, consumer, recorded)?;

@@ -1,8 +1,8 @@
 //! The end of a ring into which the blocks of a record are put, each as a whole or not at all.
-ghost use Rattle.std.specs.Prelude.{◌≡◌, ◌≤◌, length, take, true, false};
+ghost use Rattle.std.specs.Prelude.{◌≡◌, ◌≤◌, length, take, false};
 ghost use Rattle.pcap_file.specs.RecordedDatagram.{arrival_view};
 ghost use Rattle.pcap_file.specs.Blocks.{closing_block, datagram_block, interface_block, section_block};
-ghost use Rattle.live_io.specs.RecordBlocks.{Puts};
+ghost use Rattle.live_io.specs.RecordBlocks.{Puts, StaysEnded};
 
 use pcap_file::{
     MAX_BLOCK_LEN, RecordedDatagram, write_interface, write_packet, write_section_header,
@@ -37,7 +37,7 @@ impl BlockProducer {
     /// Puts the section header of a record, whose studio opens at this time in sampling instants.
     pub(crate) fn put_opening(&mut self, open_at: u64)
         ensures puts { Puts self.old (section_block open_at) self.new }
-        ensures ended { self.old.ended ≡ true → self.new.ended ≡ true }
+        ensures ended { StaysEnded self.old self.new }
     {
         let len = write_section_header(open_at, &mut self.block);
         self.put(len)
@@ -47,7 +47,7 @@ impl BlockProducer {
     pub(crate) fn put_interface(&mut self, stream: u16, letter: u8, description: &[u8])
         requires few { length description.now ≤ 64 }
         ensures puts { Puts self.old (interface_block stream letter description.now) self.new }
-        ensures ended { self.old.ended ≡ true → self.new.ended ≡ true }
+        ensures ended { StaysEnded self.old self.new }
     {
         let len = write_interface(stream, letter, description, &mut self.block);
         self.put(len)
@@ -57,7 +57,7 @@ impl BlockProducer {
     pub(crate) fn put_datagram(&mut self, arrival: &RecordedDatagram<'_>)
         requires few { length arrival.now.octets.now ≤ 2048 }
         ensures puts { Puts self.old (datagram_block (arrival_view arrival.now)) self.new }
-        ensures ended { self.old.ended ≡ true → self.new.ended ≡ true }
+        ensures ended { StaysEnded self.old self.new }
     {
         let len = write_packet(arrival, &mut self.block);
         self.put(len)
@@ -66,7 +66,7 @@ impl BlockProducer {
     /// Puts the block that says that the studio was closed so many nanoseconds after its opening.
     pub(crate) fn put_closing(&mut self, nanoseconds: u64)
         ensures puts { Puts self.old (closing_block nanoseconds) self.new }
-        ensures ended { self.old.ended ≡ true → self.new.ended ≡ true }
+        ensures ended { StaysEnded self.old self.new }
     {
         let len = write_statistics(nanoseconds, &mut self.block);
         self.put(len)
@@ -77,7 +77,7 @@ impl BlockProducer {
     fn put(&mut self, len: usize)
         requires within { len ≤ 2108 }
         ensures puts { Puts self.old (take len self.old.block) self.new }
-        ensures ended { self.old.ended ≡ true → self.new.ended ≡ true }
+        ensures ended { StaysEnded self.old self.new }
     {
         // Nothing is put after a block that is missing: a gap would replay as losses that never happened.
         if self.ended {

@@ -10,6 +10,7 @@ ghost use Rattle.live_io.specs.RecordBlocks.{
   PutsClose,
   PutsPacket,
   Sends,
+  StaysEnded,
   path_blocks,
   recorded_of,
   row_blocks,
@@ -178,7 +179,7 @@ fn opening_of(open_at: i64) -> u64
 fn put_streams(end: &mut BlockProducer, streams: &[StreamSpec])
     requires few { length streams.now ≤ 16 }
     ensures sends { Sends end.old (path_blocks 0 streams.now) end.new }
-    ensures ended { end.old.ended ≡ true → end.new.ended ≡ true }
+    ensures ended { StaysEnded end.old end.new }
 {
     // Loops over numbers here and in `put_rows`: their invariants speak of the paths below the number.
     for number in 0..streams.len() {
@@ -189,7 +190,7 @@ fn put_streams(end: &mut BlockProducer, streams: &[StreamSpec])
 /// Puts the descriptions of a stream's paths.
 fn put_paths(end: &mut BlockProducer, number: u16, stream: &StreamSpec)
     ensures sends { Sends end.old (stream_blocks number stream.now) end.new }
-    ensures ended { end.old.ended ≡ true → end.new.ended ≡ true }
+    ensures ended { StaysEnded end.old end.new }
 {
     let description = recorded_stream(stream).description();
     put_rows(end, number, stream.paths(), description.as_slice());
@@ -200,7 +201,7 @@ fn put_rows(end: &mut BlockProducer, stream: u16, count: u8, description: &[u8])
     requires few { count < 5 }
     requires short { length description.now ≤ 64 }
     ensures sends { Sends end.old (row_blocks stream description.now count) end.new }
-    ensures ended { end.old.ended ≡ true → end.new.ended ≡ true }
+    ensures ended { StaysEnded end.old end.new }
 {
     for path in 0..count {
         end.put_interface(stream, FIRST_LETTER + path, description);

@@ -1,8 +1,12 @@
 //! The kind of a descriptor that was passed in: a UDP socket at an IPv4 address, or not.
+ghost use Rattle.std.specs.Prelude.{◌≡◌, ◌≢◌, ◌<◌, ◌^◌, ◌<ℤ◌, ℕ, pos, None, IfSome};
+ghost use Rattle.live_io.specs.Links.{link_text, socket_text};
 
-use crate::sockets::udp_table::{UDP_TABLE, is_listed, with_digit};
+use crate::sockets::udp_table::{UDP_TABLE, is_listed};
+use itoa::Buffer;
 use libc::net;
 use os::FromRawFd;
+use pcap_file::decimal_number;
 use std::net::{SocketAddr, UdpSocket};
 use std::os::fd::IntoRawFd;
 
@@ -45,7 +49,10 @@ pub(crate) fn is_udp_socket(descriptor: i32) -> bool {
 }
 
 /// Returns the inode of a socket, or `None` if the descriptor is not a socket.
-pub(crate) fn inode_of(descriptor: i32) -> Option<u64> {
+// What a link says is up to the system, so no clause says more of a descriptor.
+pub(crate) fn inode_of(descriptor: i32) -> Option<u64>
+    ensures { descriptor <ℤ pos 0 → result ≡ None }
+{
     let path = link_path(u32::try_from(descriptor).ok()?);
     let mut target = [0u8; MAX_LINK];
     let len = usize::try_from(os::readlink(&path, &mut target)).ok()?;
@@ -53,27 +60,29 @@ pub(crate) fn inode_of(descriptor: i32) -> Option<u64> {
 }
 
 /// Returns the path of a descriptor's link.
-fn link_path(descriptor: u32) -> [u8; 24] {
+fn link_path(descriptor: u32) -> [u8; 24]
+    ensures { result ≡ link_text descriptor }
+{
+    let mut digits = Buffer::new();
+    let digits = digits.format(descriptor).as_bytes();
     let mut path = LINK;
-    let mut left = descriptor;
-    for octet in path.iter_mut().rev() {
-        *octet = b'0' + (left % 10) as u8;
-        left /= 10;
-        if left == 0 {
-            break;
-        }
-    }
+    let start = path.len() - digits.len();
+    path[start..].copy_from_slice(digits);
     path
 }
 
 /// Returns the inode in a socket's link, `socket:[INODE]`, or `None` if it is the link of something else.
-fn inode_in(target: &[u8]) -> Option<u64> {
-    let digits = target.strip_prefix(b"socket:[")?.strip_suffix(b"]")?;
-    let mut inode = Some(0);
-    for octet in digits {
-        inode = with_digit(inode, *octet);
-    }
-    inode
+fn inode_in(target: &[u8]) -> Option<u64>
+    ensures socket { IfSome result (λ inode. target.now ≡ socket_text inode) }
+    ensures other { result ≡ None → (inode : ℕ) → inode < 2 ^ 63 → target.now ≢ socket_text inode }
+{
+    let Some(rest) = target.strip_prefix(b"socket:[") else {
+        return None;
+    };
+    let Some(digits) = rest.strip_suffix(b"]") else {
+        return None;
+    };
+    decimal_number(digits)
 }
 
 /// Returns true if a descriptor is a socket at an IPv4 address.

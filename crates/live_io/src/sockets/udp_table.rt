@@ -94,7 +94,7 @@ impl TableScan {
 }
 
 /// Returns a number with one more decimal digit, or `None` if the octet is no digit or the number does not fit 64 bits.
-pub(crate) fn with_digit(number: Option<u64>, octet: u8) -> Option<u64> {
+fn with_digit(number: Option<u64>, octet: u8) -> Option<u64> {
     if !octet.is_ascii_digit() {
         return None;
     }

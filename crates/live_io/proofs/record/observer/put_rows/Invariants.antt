@@ -1,10 +1,9 @@
-use Rattle.std.proofs.Common.{◌≡◌, true}
-use Rattle.live_io.specs.RecordBlocks.{Sends, row_blocks}
+use Rattle.live_io.specs.RecordBlocks.{Sends, StaysEnded, row_blocks}
 use Rattle.live_io.proofs.record.observer.put_rows.Given as goal
 
 -- the paths so far were described
 abbrev pub invariant-loop-path : goal.invariant-loop-path
 invariant-loop-path l = record {
   sends : Sends l.fn.end (row_blocks l.stream l.description l.path) l.end;
-  ended : l.fn.end.ended ≡ true → l.end.ended ≡ true;
+  ended : StaysEnded l.fn.end l.end;
 }
