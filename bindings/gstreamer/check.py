@@ -112,15 +112,23 @@ def compared(sent, got):
     return first, len(pairs), same, silent
 
 
+def expect_caps(text, name):
+    """The caps of an element's src pad, as gst-launch prints them."""
+    caps = re.findall(rf"GstDarbexumMix:{name}\.GstPad:src: caps = (.*)", text)
+    words = "application/x-rtp", "clock-rate=(int)48000", "encoding-name=(string)L24", "channels=(int)2", "payload=(int)97"
+    expect("caps", caps and all(word in line for line in caps for word in words), caps)
+
+
 def losses(room, shares):
     """A receiver with one element, and what came out of it."""
     ports = free_ports(2)
-    child = launch(*receiver(room, "mix", ports))
+    child = launch("-v", *receiver(room, "mix", ports))
     time.sleep(1.5)
     sender(room, ports, shares)
     time.sleep(1)
     text = ended(child)
     expect("the receiver", "ERROR" not in text and child.returncode == 0, text)
+    expect_caps(text, "mix")
     return compared(*((Path(room) / f"{name}.raw").read_bytes() for name in ("sent", "mix")))
 
 
@@ -159,8 +167,8 @@ def two_elements(room):
     time.sleep(1)
     text = ended(child)
     expect("two elements", "ERROR" not in text and child.returncode == 0, text)
-    caps = re.findall(r"GstDarbexumMix:(\w+)\.GstPad:src: caps = (.*)", text)
-    expect("caps", {name for name, _ in caps} == {"mix", "other"} and all("L24" in line and "payload=(int)97" in line for _, line in caps), caps)
+    # gst-launch sometimes prints one of two caps that come at the same time twice, and the other not.
+    expect_caps(text, "(?:mix|other)")
     noted = [line for line in (Path(room) / "debug.txt").read_text().splitlines() if "latency" in line]
     expect("the latency", any("0:00:00.052000000" in line for line in noted), noted[:10])
     _, frames, same, silent = compared(*((Path(room) / f"{name}.raw").read_bytes() for name in ("sent", "other")))
