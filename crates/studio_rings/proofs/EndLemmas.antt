@@ -30,7 +30,7 @@ use Rattle.studio_ends.specs.declared.stream_end.turns.StreamDone.{StreamDone}
 use Rattle.studio_ends.specs.declared.stream_end.StreamEnd.{StreamEnd}
 use Rattle.studio_ends.proofs.StreamLemmas.{packets_by-append}
 use Rattle.studio_io.specs.Answers.{Answer, CountsOthers, IsPartOf, reaches_end, told_datagrams, told_packets}
-use Rattle.studio_io.specs.Clocks.{GoByClock, events_in}
+use Rattle.studio_rings.specs.ClockTurns.{GoByClock, events_in}
 use Rattle.studio_rings.specs.PathWorkers.{IsPathResult, SendsFeed}
 use Rattle.studio_rings.specs.Runs.{HasPathHistory, HavePathHistories, sent_total}
 use Rattle.studio_rings.specs.Turns.{GoesOn, HaveArrived, HaveTold}

@@ -16,7 +16,7 @@ use Rattle.studio_ends.specs.Fitting.{fitting}
 use Rattle.studio_ends.specs.DrainedRing.{IsDrained}
 use Rattle.studio_ends.specs.DrainedRings.{AllDrained, AllLookAt}
 use Rattle.studio_ends.specs.StopReasons.{StopsFor}
-use Rattle.studio_ends.specs.StreamTurns.{AllTakePackets, arrivals_from, turn_events}
+use Rattle.studio_ends.specs.StreamTurns.{AllTakePackets, turn_events}
 use Rattle.studio_ends.specs.Streams.{AllDelivered, ReadsClock, StreamHasHistory, TakesTurn}
 use Rattle.studio_ends.specs.declared.rings.TokenConsumer.{TokenConsumer}
 use Rattle.studio_ends.specs.declared.stream_end.StreamEnd.{StreamEnd}
@@ -25,7 +25,8 @@ use Rattle.studio_ends.specs.declared.stream_end.marks_out.StopReason.TheVariant
 use Rattle.studio_ends.specs.declared.stream_end.marks_out.TurnNote.{TurnNote}
 use Rattle.studio_ends.proofs.CloseLemmas.{delivered-looked}
 use Rattle.studio_ends.proofs.TurnLemmas.{producers}
-use Rattle.studio_io.specs.Clocks.{GoByClock, IsTurnAt, TellsTime, events_in, time_with}
+use Rattle.studio_io.specs.Clocks.{TellsTime, time_with}
+use Rattle.studio_rings.specs.ClockTurns.{AreFew, GoByClock, IsTurnAt, events_in}
 use Rattle.studio_rings.specs.Turns.{AreSameRings, CatchesUp, GoesOn, HaveArrived, HaveTold, KeepsTokens, ReadsFirst}
 use Rattle.studio_rings.specs.declared.worker.clocked_stream.ClockedStream.{ClockedStream}
 
@@ -135,6 +136,7 @@ sent_all stream open_at s events shut h = h.merge.all_given (sym h.merge.closed 
 pub first-none : (s : StreamEnd) (now : ℤ) → s.merge.closed ≡ false → s.merge.time ≤ℤ now → ReadsFirst s now s
 first-none s now shut low = record {
   first = [];
+  early = inl refl;
   sides = refl;
   ring = ((refl, refl, refl, refl), refl);
   more = omega arith;
@@ -147,6 +149,7 @@ first-none s now shut low = record {
 pub first-read : (s t : StreamEnd) (now : ℤ) (why : StopReason) → ReadsClock s now why t → ReadsFirst s now t
 first-read s t now why r = record {
   first = Tick t.merge.time ∷ [];
+  early = inr (t.merge.time, r.not_after, refl);
   sides = r.sides;
   ring = r.ring;
   more = let e = r.more in omega (arith, e);
@@ -155,6 +158,15 @@ first-read s t now why r = record {
   not_after = r.not_after;
   stands = r.stands;
 }
+
+-- of each path at most 64 packets were taken
+few-taken : (olds news : List (TokenConsumer Packet)) (taken : List (List Packet)) → AllTakePackets olds news taken → AreFew taken
+few-taken [] [] [] h = tt
+few-taken (o ∷ os) (n ∷ ns) (packets ∷ more) h = (h.0.most, few-taken os ns more h.1)
+few-taken [] (n ∷ ns) taken h = absurd h
+few-taken [] [] (packets ∷ more) h = absurd h
+few-taken (o ∷ os) [] taken h = absurd h
+few-taken (o ∷ os) (n ∷ ns) [] h = absurd h
 
 pub is-turn-at : (stream : Stream) (open_at : ℤ) (places : ℕ) (s m t : StreamEnd) (now : ℤ) (note : TurnNote) (events : List Event) (f : ReadsFirst s now m) (n : TakesTurn m now note t)
     → s.merge.closed ≡ false → producer_capacity s.marks ≡ places → StreamHasHistory stream open_at s events → IsTurnAt stream open_at places now events (f.first ++ turn_events stream n.taken note.reached)
@@ -169,9 +181,12 @@ is-turn-at stream open_at places s m t now note events f n shut room h =
     let same : t.marks.capacity ≡ s.marks.capacity = n.ring.1 ∙ f.ring.1 in
     let within : t.marks.capacity ≤ t.marks.end.limit = t.marks.counts.0 in
     record {
-      front = f.first ++ arrivals_from stream 0 n.taken;
+      first = f.first;
+      early = f.early;
+      taken = n.taken;
+      few = few-taken m.sides.items t.sides.items n.taken n.took;
       reached = note.reached;
-      ends = sym (append_assoc f.first (arrivals_from stream 0 n.taken) (Tick note.reached ∷ []));
+      ends = refl;
       most = n.not_after;
       caught_up = stopped note.why_stopped note.reached now note.marks (known_free t.marks) _ _ n.stop (λ e. omega (arith, e, before, after, first, gained)) (λ e. omega (arith, e, after, same, within, room));
     }

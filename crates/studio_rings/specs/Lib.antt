@@ -1,4 +1,5 @@
 pub mod PathWorkers
+pub mod ClockTurns
 pub mod Turns
 pub mod MixWorker
 pub mod StreamTokens

@@ -14,7 +14,7 @@ use Rattle.rtp_stream.specs.declared.stream_counts.PathCounts.{PathCounts}
 use Rattle.rtp_stream.specs.declared.stream_counts.StreamCounts.{StreamCounts}
 use Rattle.studio_ends.specs.Streams.{packets_by}
 use Rattle.studio_io.specs.Answers.{Answer, CountsOthers, IsPartOf, reaches_end, told_datagrams, told_packets}
-use Rattle.studio_io.specs.Clocks.{GoByClock, events_in}
+use Rattle.studio_rings.specs.ClockTurns.{GoByClock, events_in}
 use Rattle.studio_io.specs.Sinks.{Hands}
 use Rattle.studio_io.specs.declared.report.WorkReport.{WorkReport}
 

@@ -11,7 +11,7 @@ use Rattle.studio_ends.specs.Streams.{StreamHasHistory}
 use Rattle.studio_ends.specs.declared.stream_end.StreamEnd.{StreamEnd}
 use Rattle.studio_ends.specs.declared.stream_end.turns.StreamDone.{StreamDone}
 use Rattle.rtp_stream.specs.CountsFacts.{Tally}
-use Rattle.studio_io.specs.Clocks.{GoByClock, events_in}
+use Rattle.studio_rings.specs.ClockTurns.{GoByClock, events_in}
 use Rattle.studio_rings.specs.Turns.{HaveArrived, HaveTold}
 use Rattle.studio_rings.specs.declared.worker.clocked_stream.ClockedStream.{ClockedStream}
 

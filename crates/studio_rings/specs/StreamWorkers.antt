@@ -17,7 +17,7 @@ use Rattle.studio_ends.specs.declared.path_end.PathDone.{PathDone}
 use Rattle.studio_ends.specs.declared.path_end.PathEnd.{PathEnd}
 use Rattle.studio_ends.specs.declared.rings.TokenConsumer.{TokenConsumer}
 use Rattle.studio_io.specs.Answers.{Answer}
-use Rattle.studio_io.specs.Clocks.{GoByClock, events_in}
+use Rattle.studio_rings.specs.ClockTurns.{GoByClock, events_in}
 use Rattle.studio_rings.specs.Runs.{HasStreamHistory}
 use Rattle.studio_rings.specs.Turns.{HaveArrived}
 use Rattle.studio_rings.specs.declared.jobs.PathJob.{PathJob}

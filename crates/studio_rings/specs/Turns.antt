@@ -9,7 +9,8 @@ use Rattle.studio_ends.specs.Fitting.{fitting}
 use Rattle.studio_ends.specs.Streams.{StreamHasHistory, packets_by}
 use Rattle.studio_ends.specs.declared.rings.TokenConsumer.{TokenConsumer}
 use Rattle.studio_ends.specs.declared.stream_end.StreamEnd.{StreamEnd}
-use Rattle.studio_io.specs.Clocks.{GoByClock, TellsTime, events_in, time_with}
+use Rattle.studio_io.specs.Clocks.{TellsTime, time_with}
+use Rattle.studio_rings.specs.ClockTurns.{GoByClock, IsFirst, events_in}
 use Rattle.studio_rings.specs.declared.worker.clocked_stream.ClockedStream.{ClockedStream}
 
 module _ {T : Type 0} where
@@ -47,6 +48,7 @@ pub record Closes (s t : StreamEnd) : Type 0 where
 -- before its packets are taken an end had these events: none, or a reading that is no later than this
 pub record ReadsFirst (s : StreamEnd) (now : ℤ) (t : StreamEnd) : Type 0 where
   pub first : List Event
+  pub early : IsFirst now first
   pub sides : t.sides ≡ s.sides
   pub ring : SameProducer s.marks t.marks
   pub more : length (sent s.marks) ≤ length (sent t.marks)
