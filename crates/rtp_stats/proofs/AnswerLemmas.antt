@@ -7,7 +7,7 @@ use Rattle.std.proofs.lemmas.List.Elements.{All-head, All-tail}
 use Rattle.rtp_stats.proofs.MedianLemmas.{median_is}
 use Rattle.rtp_stats.proofs.SecondLemmas.{none_yet}
 use Rattle.rtp_stats.specs.MarginSecond.{HasSecond, HasSpares, IsSpareOf, place_of}
-use Rattle.rtp_stats.specs.Margins.{IsLatest, IsLeast, IsMedian, is_in, last_spares, second_of, spare_at, spares_before, spares_in}
+use Rattle.rtp_stats.specs.Margins.{IsGreatest, IsLatest, IsLeast, IsMedian, is_in, last_spares, second_of, spare_at, spares_before, spares_in}
 use Rattle.rtp_stats.specs.Tally.{HasSeconds}
 use Rattle.rtp_stats.specs.Offer.{Offer}
 use Rattle.rtp_stats.specs.declared.spare.ArrivalMargin.{ArrivalMargin}
@@ -58,6 +58,13 @@ module _ (path parity second : ℕ) (offers : List Offer) (s : MarginSecond) (ha
       let some : 0 < length (spares_in path second offers) = omega (arith, count, of.some) in
       subst (IsLeast (spares_in path second offers)) (sym of.least) (record { one = known.some some; below_all = known.least })
 
+  pub greatest_is : (spare : ArrivalMargin) → IsSpareOf s second spare → IsGreatest (spares_in path second offers) spare.greatest
+  greatest_is spare of =
+      let known = same_spares of.second in
+      let count : s.count ≡ min (length (spares_in path second offers)) (2 ^ 32 - 1) = known.count in
+      let some : 0 < length (spares_in path second offers) = omega (arith, count, of.some) in
+      subst (IsGreatest (spares_in path second offers)) (sym of.greatest) (record { one = known.one_greatest some; above_all = known.greatest })
+
   pub median_of : (spare : ArrivalMargin) → IsSpareOf s second spare → length (spares_in path second offers) < 2 ^ 32 → IsMedian (spares_in path second offers) spare.median
   median_of spare of few = median_is (spares_in path second offers) s (same_spares of.second) few spare.median of.median of.middle
 
@@ -101,6 +108,10 @@ module _ (path second k : ℕ) (now : ℤ) (offers : List Offer) (seconds : List
   least_answer None none = tt
   least_answer (Some spare) of = subst (λ xs. IsLeast xs spare.least) (sym (last_is path (second - 1) now offers next)) (least_is path ((second - 1) % 2) (second - 1) offers s held spare of)
 
+  pub greatest_answer : (r : Option ArrivalMargin) → MatchOption r (s.second ≡ second - 1 → s.count ≡ 0) (IsSpareOf s (second - 1)) → IfSome r (λ spare. IsGreatest (last_spares path now offers) spare.greatest)
+  greatest_answer None none = tt
+  greatest_answer (Some spare) of = subst (λ xs. IsGreatest xs spare.greatest) (sym (last_is path (second - 1) now offers next)) (greatest_is path ((second - 1) % 2) (second - 1) offers s held spare of)
+
   pub median_answer : (r : Option ArrivalMargin) → MatchOption r (s.second ≡ second - 1 → s.count ≡ 0) (IsSpareOf s (second - 1)) → length (last_spares path now offers) < 2 ^ 32 → IfSome r (λ spare. IsMedian (last_spares path now offers) spare.median)
   median_answer None none short = tt
   median_answer (Some spare) of short =
@@ -113,3 +124,10 @@ module _ (path second k : ℕ) (now : ℤ) (offers : List Offer) (seconds : List
     where
       no_none : true ≡ false → ⊥
       no_none e = cc
+
+-- the answer is of the second before this reading's
+pub second_answer : (second at : ℕ) (s : MarginSecond) → second ≡ at → second ≢ 0 → (r : Option ArrivalMargin) → MatchOption r (s.second ≡ second - 1 → s.count ≡ 0) (IsSpareOf s (second - 1)) → IfSome r (λ spare. spare.second + 1 ≡ at)
+second_answer second at s is some None none = tt
+second_answer second at s is some (Some spare) of =
+    let on : spare.second ≡ second - 1 = of.at_second in
+    omega (arith, on, is, some)

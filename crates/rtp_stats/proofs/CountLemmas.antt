@@ -4,7 +4,7 @@ use Rattle.std.specs.Prelude.{cond, ◌&&◌, nat_eq, slice_index}
 use Rattle.std.proofs.lemmas.Bool.{eq-eqb, eqb-false, eqb-true, ne_eqb}
 use Rattle.std.proofs.lemmas.List.{get_or-set_other, get_or-set_same, length-set}
 use Rattle.std.proofs.lemmas.List.Sums.{sum_by-cons}
-use Rattle.rtp_stream.specs.Counts.{is_double, is_late, is_taken_fate, is_unlike}
+use Rattle.rtp_stream.specs.Counts.{is_ahead, is_double, is_late, is_taken_fate, is_unlike}
 use Rattle.rtp_stream.specs.declared.fate.Fate.{Fate}
 use Rattle.rtp_stream.specs.declared.fate.Fate.TheVariants.{Ahead, Closed, CountersFull, Double, Late, OffGrid, Restarted, Taken, Unlike, WrongSource}
 use Rattle.rtp_stats.specs.Counts.{AreCounts, HasFates, one_more, with_fate}
@@ -68,33 +68,35 @@ fate_counted test o offers numbers few false is are = counts_kept (λ p. offers_
     same p lt = offers_of-first test p o offers ∙ ap (λ b. cond b 1 0 + offers_of test p offers) (and_false (nat_eq o.path p) (test o.fate) is) ∙ omega arith
 
 -- one more offer, which the counters count by their tests
-all_counted : (o : Offer) (offers : List Offer) (c : FateCounts) → o.path < 4 → HasFates offers c → (first double unlike late : Bool)
-    → is_taken_fate o.fate ≡ first → is_double o.fate ≡ double → is_unlike o.fate ≡ unlike → is_late o.fate ≡ late
+all_counted : (o : Offer) (offers : List Offer) (c : FateCounts) → o.path < 4 → HasFates offers c → (first double unlike late ahead : Bool)
+    → is_taken_fate o.fate ≡ first → is_double o.fate ≡ double → is_unlike o.fate ≡ unlike → is_late o.fate ≡ late → is_ahead o.fate ≡ ahead
     → HasFates (o ∷ offers) (record {
       first = if first then one_more o.path c.first else c.first;
       double = if double then one_more o.path c.double else c.double;
       unlike = if unlike then one_more o.path c.unlike else c.unlike;
       late = if late then one_more o.path c.late else c.late;
+      ahead = if ahead then one_more o.path c.ahead else c.ahead;
     })
-all_counted o offers c few has first double unlike late first_is double_is unlike_is late_is = record {
+all_counted o offers c few has first double unlike late ahead first_is double_is unlike_is late_is ahead_is = record {
   first = fate_counted is_taken_fate o offers c.first few first first_is has.first;
   double = fate_counted is_double o offers c.double few double double_is has.double;
   unlike = fate_counted is_unlike o offers c.unlike few unlike unlike_is has.unlike;
   late = fate_counted is_late o offers c.late few late late_is has.late;
+  ahead = fate_counted is_ahead o offers c.ahead few ahead ahead_is has.ahead;
 }
 
 -- one more offer of each fate
 fates_by : (o : Offer) (offers : List Offer) (c : FateCounts) → o.path < 4 → HasFates offers c → (fate : Fate) → o.fate ≡ fate → HasFates (o ∷ offers) (with_fate o.path fate c)
-fates_by o offers c few has Taken is = all_counted o offers c few has true false false false (ap is_taken_fate is) (ap is_double is) (ap is_unlike is) (ap is_late is)
-fates_by o offers c few has Restarted is = all_counted o offers c few has true false false false (ap is_taken_fate is) (ap is_double is) (ap is_unlike is) (ap is_late is)
-fates_by o offers c few has Double is = all_counted o offers c few has false true false false (ap is_taken_fate is) (ap is_double is) (ap is_unlike is) (ap is_late is)
-fates_by o offers c few has Unlike is = all_counted o offers c few has false false true false (ap is_taken_fate is) (ap is_double is) (ap is_unlike is) (ap is_late is)
-fates_by o offers c few has Late is = all_counted o offers c few has false false false true (ap is_taken_fate is) (ap is_double is) (ap is_unlike is) (ap is_late is)
-fates_by o offers c few has Closed is = all_counted o offers c few has false false false false (ap is_taken_fate is) (ap is_double is) (ap is_unlike is) (ap is_late is)
-fates_by o offers c few has CountersFull is = all_counted o offers c few has false false false false (ap is_taken_fate is) (ap is_double is) (ap is_unlike is) (ap is_late is)
-fates_by o offers c few has WrongSource is = all_counted o offers c few has false false false false (ap is_taken_fate is) (ap is_double is) (ap is_unlike is) (ap is_late is)
-fates_by o offers c few has OffGrid is = all_counted o offers c few has false false false false (ap is_taken_fate is) (ap is_double is) (ap is_unlike is) (ap is_late is)
-fates_by o offers c few has Ahead is = all_counted o offers c few has false false false false (ap is_taken_fate is) (ap is_double is) (ap is_unlike is) (ap is_late is)
+fates_by o offers c few has Taken is = all_counted o offers c few has true false false false false (ap is_taken_fate is) (ap is_double is) (ap is_unlike is) (ap is_late is) (ap is_ahead is)
+fates_by o offers c few has Restarted is = all_counted o offers c few has true false false false false (ap is_taken_fate is) (ap is_double is) (ap is_unlike is) (ap is_late is) (ap is_ahead is)
+fates_by o offers c few has Double is = all_counted o offers c few has false true false false false (ap is_taken_fate is) (ap is_double is) (ap is_unlike is) (ap is_late is) (ap is_ahead is)
+fates_by o offers c few has Unlike is = all_counted o offers c few has false false true false false (ap is_taken_fate is) (ap is_double is) (ap is_unlike is) (ap is_late is) (ap is_ahead is)
+fates_by o offers c few has Late is = all_counted o offers c few has false false false true false (ap is_taken_fate is) (ap is_double is) (ap is_unlike is) (ap is_late is) (ap is_ahead is)
+fates_by o offers c few has Closed is = all_counted o offers c few has false false false false false (ap is_taken_fate is) (ap is_double is) (ap is_unlike is) (ap is_late is) (ap is_ahead is)
+fates_by o offers c few has CountersFull is = all_counted o offers c few has false false false false false (ap is_taken_fate is) (ap is_double is) (ap is_unlike is) (ap is_late is) (ap is_ahead is)
+fates_by o offers c few has WrongSource is = all_counted o offers c few has false false false false false (ap is_taken_fate is) (ap is_double is) (ap is_unlike is) (ap is_late is) (ap is_ahead is)
+fates_by o offers c few has OffGrid is = all_counted o offers c few has false false false false false (ap is_taken_fate is) (ap is_double is) (ap is_unlike is) (ap is_late is) (ap is_ahead is)
+fates_by o offers c few has Ahead is = all_counted o offers c few has false false false false true (ap is_taken_fate is) (ap is_double is) (ap is_unlike is) (ap is_late is) (ap is_ahead is)
 
 pub fates_after : (o : Offer) (offers : List Offer) (c : FateCounts) → o.path < 4 → HasFates offers c → HasFates (o ∷ offers) (with_fate o.path o.fate c)
 fates_after o offers c few has = fates_by o offers c few has o.fate refl

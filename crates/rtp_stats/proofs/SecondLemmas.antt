@@ -1,5 +1,5 @@
 -- What is kept of a second, after one more spare time, and of a path's seconds after one more offer.
-use Rattle.std.proofs.Common.{◌≡◌, ◌≢◌, ◌⊎◌, inl, inr, ⊎_elim, ℕ, suc, ◌+◌, ◌-◌, ◌%◌, ◌^◌, ◌<◌, ◌≤◌, min, Bool, true, false, List, [], ◌∷◌, ◌++◌, length, refl, sym, ap, subst, ◌∙◌, arith, if◌then◌else◌, Option, Some, None, IsSome}
+use Rattle.std.proofs.Common.{◌≡◌, ◌≢◌, ◌⊎◌, inl, inr, ⊎_elim, ℕ, zero, suc, ◌+◌, ◌-◌, ◌%◌, ◌^◌, ◌<◌, ◌≤◌, max, min, Bool, true, false, List, [], ◌∷◌, ◌++◌, length, refl, sym, ap, subst, ◌∙◌, arith, if◌then◌else◌, Option, Some, None, IsSome}
 use Rattle.std.specs.Prelude.{cond, ◌&&◌, ◌||◌, nat_eq, nat_lt, slice_index, slice_index_or, slice_set}
 use Rattle.std.specs.List.{All, Contains}
 use Rattle.std.proofs.lemmas.Bool.{and_parts, and_from, eq-eqb, eqb-false, eqb-true, ne_eqb}
@@ -31,6 +31,9 @@ spares_none second = record {
   count = refl;
   some = λ some. absurd (omega (arith, some));
   least = λ k d lt. absurd (omega (arith, lt));
+  fresh = λ none. refl;
+  one_greatest = λ some. absurd (omega (arith, some));
+  greatest = λ k d lt. absurd (omega (arith, lt));
   wide = length-replicate {A = ℕ} 1024 0;
   bins = λ bin lt. get_or-replicate {A = ℕ} 1024 bin 0 0 lt;
 }
@@ -50,6 +53,23 @@ module _ (x : ℕ) (xs : List ℕ) (s : MarginSecond) (has : HasSpares xs s) whe
       let there = has.some some in
       let least : s.least ≤ x = grind (arith, nat_tests, is) in
       (λ more. (suc there.0, omega (arith, there.1), there.2), All-cons (λ y. s.least ≤ y) x xs least has.least)
+
+  greatest_or_more : (b : Bool) → nat_lt s.greatest x ≡ b → (0 < length (x ∷ xs) → Contains (x ∷ xs) (max s.greatest x)) × All (λ y. y ≤ max s.greatest x) (x ∷ xs)
+  greatest_or_more true is =
+      let more : s.greatest < x = grind (arith, nat_tests, is) in
+      let top : max s.greatest x ≡ x = omega (arith, more) in
+      (λ some. (0, omega arith, sym top), All-cons (λ y. y ≤ max s.greatest x) x xs (omega (arith, top)) (λ k d lt. let below : slice_index_or xs k d ≤ s.greatest = has.greatest k d lt in omega (arith, below, top, more)))
+  greatest_or_more false is =
+      let no_more : x ≤ s.greatest = grind (arith, nat_tests, is) in
+      let top : max s.greatest x ≡ s.greatest = omega (arith, no_more) in
+      (λ some. subst (Contains (x ∷ xs)) (sym top) (there (length xs) refl no_more), All-cons (λ y. y ≤ max s.greatest x) x xs (omega (arith, top, no_more)) (λ k d lt. let below : slice_index_or xs k d ≤ s.greatest = has.greatest k d lt in omega (arith, below, top)))
+    where
+      there : (n : ℕ) → length xs ≡ n → x ≤ s.greatest → Contains (x ∷ xs) s.greatest
+      there zero none no_more =
+          let zero : s.greatest ≡ 0 = has.fresh none in
+          let same : x ≡ s.greatest = omega (arith, zero, no_more) in
+          (0, omega arith, same)
+      there (suc n) some no_more = let found = has.one_greatest (omega (arith, some)) in (suc found.0, omega (arith, found.1), found.2)
 
   bin_kept : (bin : ℕ) → bin < 1024 → (b : Bool) → nat_eq (bin_of x) bin ≡ b → slice_index (slice_set s.bins (bin_of x) (count_in_32_bits (slice_index s.bins (bin_of x) + 1))) bin ≡ count_in_32_bits (cond b 1 0 + count_in bin xs)
   bin_kept bin lt true is =
@@ -74,11 +94,15 @@ module _ (x : ℕ) (xs : List ℕ) (s : MarginSecond) (has : HasSpares xs s) whe
   -- one more spare time
   pub spares_more : HasSpares (x ∷ xs) (with_spare x s)
   spares_more =
+      let tops = greatest_or_more (nat_lt s.greatest x) refl in
       let parts = first_or_less (nat_eq s.count 0 || nat_lt x s.least) refl in
       record {
         count = ap (λ n. count_in_32_bits (n + 1)) has.count ∙ short_more (length xs);
         some = parts.0;
         least = parts.1;
+        fresh = λ none. absurd (omega (arith, none));
+        one_greatest = tops.0;
+        greatest = tops.1;
         wide = length-set s.bins (bin_of x) (count_in_32_bits (slice_index s.bins (bin_of x) + 1)) ∙ has.wide;
         bins = λ bin lt. bin_kept bin lt (nat_eq (bin_of x) bin) refl ∙ ap count_in_32_bits (sym (count_in-first bin x xs));
       }

@@ -1,5 +1,5 @@
 -- Worked cases of the definitions, computed.
-use Rattle.std.specs.Prelude.{◌≡◌, ℕ, List, [], ◌∷◌, ℤ, pos, negsuc, Some, None, refl}
+use Rattle.std.specs.Prelude.{◌≡◌, ℕ, Bool, true, false, List, [], ◌∷◌, ℤ, pos, negsuc, Some, None, refl}
 use Rattle.rtp_stream.specs.declared.fate.Fate.{Fate}
 use Rattle.rtp_stream.specs.declared.fate.Fate.TheVariants.{Double, Late, Restarted, Taken, Unlike}
 use Rattle.rtp_stats.specs.Missed.{missed_of}
@@ -8,10 +8,10 @@ use Rattle.rtp_stats.specs.Margins.{last_spares}
 use Rattle.rtp_stats.specs.Offer.{Offer}
 
 abbrev offer : ℕ → Fate → ℕ → Offer
-offer path fate seq = record { path = path; fate = fate; seq = seq; spare = None; now = pos 0 }
+offer path fate seq = record { path = path; fate = fate; seq = seq; spare = None; now = pos 0; again = false }
 
 abbrev timed : ℕ → ℕ → ℤ → Offer
-timed path spare now = record { path = path; fate = Taken; seq = 0; spare = Some spare; now = now }
+timed path spare now = record { path = path; fate = Taken; seq = 0; spare = Some spare; now = now; again = false }
 
 -- 100 and 101 come on path 0, and 100 on path 1 too; nothing is missed while another copy could come
 abbrev two_numbers : List Offer

@@ -4,6 +4,7 @@ use Rattle.rtp_stream.specs.declared.fate.Fate.{Fate}
 use Rattle.rtp_stream.specs.declared.stream_spec.Stream.{Stream}
 use Rattle.rtp_stats.specs.Deadlines.{IsMarginOf, IsKnownAfter}
 use Rattle.rtp_stats.specs.Offer.{Offer}
+use Rattle.rtp_stats.specs.Repeats.{is_again}
 use Rattle.rtp_stats.specs.Tally.{HasTally}
 use Rattle.rtp_stats.specs.declared.copy_tracker.CopyTracker.{CopyTracker}
 
@@ -12,5 +13,5 @@ pub record NotesOffer (path : ℕ) (fate : Fate) (seq ts : ℕ) (due : Option �
   pub spare : Option ℕ
   pub margin : IsMarginOf old.deadlines fate ts due now spare
   pub tally : (stream : Stream) (offers : List Offer) → HasTally stream offers old.tally
-      → HasTally stream (record { path = path; fate = fate; seq = seq; spare = spare; now = now } ∷ offers) new.tally
+      → HasTally stream (record { path = path; fate = fate; seq = seq; spare = spare; now = now; again = is_again old.deadlines ts } ∷ offers) new.tally
   pub known : IsKnownAfter old.deadlines fate ts due new.deadlines

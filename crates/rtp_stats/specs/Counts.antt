@@ -4,7 +4,7 @@ use Rattle.rtp_stream.specs.declared.fate.Fate.{Fate}
 use Rattle.rtp_stream.specs.declared.fate.Fate.TheVariants.{Closed, CountersFull, WrongSource, OffGrid, Late, Ahead, Taken, Double, Unlike, Restarted}
 use Rattle.rtp_stats.specs.declared.tally.fate_counts.FateCounts.{FateCounts}
 use Rattle.rtp_stats.specs.Offer.{Offer}
-use Rattle.rtp_stats.specs.Offers.{count_in_64_bits, double_of, first_of, late_of, unlike_of}
+use Rattle.rtp_stats.specs.Offers.{ahead_of, count_in_64_bits, double_of, first_of, late_of, unlike_of}
 
 -- one more at a path
 abbrev pub one_more : ℕ → List ℕ → List ℕ
@@ -21,7 +21,7 @@ with_fate path Closed c = c
 with_fate path CountersFull c = c
 with_fate path WrongSource c = c
 with_fate path OffGrid c = c
-with_fate path Ahead c = c
+with_fate path Ahead c = record c { ahead = one_more path c.ahead }
 
 -- a counter for each path, of what this says of it
 pub record AreCounts (of : ℕ → ℕ) (numbers : List ℕ) : Type 0 where
@@ -34,3 +34,4 @@ pub record HasFates (offers : List Offer) (c : FateCounts) : Type 0 where
   pub double : AreCounts (λ path. double_of path offers) c.double
   pub unlike : AreCounts (λ path. unlike_of path offers) c.unlike
   pub late : AreCounts (λ path. late_of path offers) c.late
+  pub ahead : AreCounts (λ path. ahead_of path offers) c.ahead

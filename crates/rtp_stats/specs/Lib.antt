@@ -5,6 +5,7 @@ pub mod Margins
 pub mod WindowCopies
 pub mod MarginSecond
 pub mod Counts
+pub mod Repeats
 pub mod Tally
 pub mod Deadlines
 pub mod CopyTracker
@@ -13,3 +14,4 @@ pub mod Peaks
 pub mod Channel
 pub mod Stats
 pub mod Channels
+pub mod Drift

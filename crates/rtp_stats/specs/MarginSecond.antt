@@ -1,5 +1,5 @@
 -- What is kept of a path's spare times in one second.
-use Rattle.std.specs.Prelude.{◌≡◌, ℕ, ◌+◌, ◌*◌, ◌/◌, ◌%◌, ◌-◌, ◌^◌, ◌<◌, ◌≤◌, min, nat_eq, nat_lt, ◌||◌, List, length, take, sum, replicate, count_by, slice_index, slice_index_or, slice_set, IsSome, if◌then◌else◌}
+use Rattle.std.specs.Prelude.{◌≡◌, ℕ, ◌+◌, ◌*◌, ◌/◌, ◌%◌, ◌-◌, ◌^◌, ◌<◌, ◌≤◌, max, min, nat_eq, nat_lt, ◌||◌, List, length, take, sum, replicate, count_by, slice_index, slice_index_or, slice_set, IsSome, if◌then◌else◌}
 use Rattle.std.specs.List.{All, Contains}
 use Rattle.rtp_stats.specs.declared.tally.margins.MarginSecond.{MarginSecond}
 use Rattle.rtp_stats.specs.Offer.{Offer}
@@ -20,7 +20,7 @@ count_in bin spares = count_by (λ x. nat_eq (bin_of x) bin) spares
 
 -- nothing came yet
 abbrev pub empty_second : ℕ → MarginSecond
-empty_second second = record { second = second; count = 0; least = 0; bins = replicate 1024 0 }
+empty_second second = record { second = second; count = 0; least = 0; greatest = 0; bins = replicate 1024 0 }
 
 -- with one more spare time
 abbrev pub with_spare : ℕ → MarginSecond → MarginSecond
@@ -28,6 +28,7 @@ with_spare spare s = record {
   second = s.second;
   count = count_in_32_bits (s.count + 1);
   least = if nat_eq s.count 0 || nat_lt spare s.least then spare else s.least;
+  greatest = max s.greatest spare;
   bins = slice_set s.bins (bin_of spare) (count_in_32_bits (slice_index s.bins (bin_of spare) + 1));
 }
 
@@ -43,6 +44,9 @@ pub record HasSpares (spares : List ℕ) (s : MarginSecond) : Type 0 where
   pub count : s.count ≡ count_in_32_bits (length spares)
   pub some : 0 < length spares → Contains spares s.least
   pub least : All (λ x. s.least ≤ x) spares
+  pub fresh : length spares ≡ 0 → s.greatest ≡ 0
+  pub one_greatest : 0 < length spares → Contains spares s.greatest
+  pub greatest : All (λ x. x ≤ s.greatest) spares
   pub wide : length s.bins ≡ 1024
   pub bins : (bin : ℕ) → bin < 1024 → slice_index s.bins bin ≡ count_in_32_bits (count_in bin spares)
 
@@ -52,11 +56,13 @@ pub record IsMiddle (bins : List ℕ) (count bin : ℕ) : Type 0 where
   pub below : 2 * sum (take bin bins) < count
   pub within : bin < 1023 → count ≤ 2 * sum (take (bin + 1) bins)
 
--- the least and the median of what is kept of a second
+-- the least, the median and the greatest of what is kept of a second
 pub record IsSpareOf (s : MarginSecond) (at : ℕ) (spare : ArrivalMargin) : Type 0 where
   pub second : s.second ≡ at
   pub some : 0 < s.count
+  pub at_second : spare.second ≡ at
   pub least : spare.least ≡ s.least
+  pub greatest : spare.greatest ≡ s.greatest
   pub median : spare.median ≡ 6 * (spare.median / 6)
   pub middle : IsMiddle s.bins s.count (spare.median / 6)
 

@@ -39,6 +39,11 @@ pub record IsLeast (xs : List ℕ) (least : ℕ) : Type 0 where
   pub one : Contains xs least
   pub below_all : All (λ x. least ≤ x) xs
 
+-- the greatest of some numbers
+pub record IsGreatest (xs : List ℕ) (greatest : ℕ) : Type 0 where
+  pub one : Contains xs greatest
+  pub above_all : All (λ x. x ≤ greatest) xs
+
 -- the median of some spare times, rounded down to 6 sampling instants (1/8 ms): fewer than one half of them are less,
 -- and at least one half are less than 6 more; 6,138 is the most that is told apart (128 ms)
 pub record IsMedian (xs : List ℕ) (median : ℕ) : Type 0 where

@@ -1,7 +1,7 @@
 -- What became of a path's offers, out of a list with the latest first.
 use Rattle.std.specs.Prelude.{ℕ, ◌-◌, ◌^◌, min, Bool, ◌&&◌, nat_eq, List, count_by}
 use Rattle.rtp_stream.specs.declared.fate.Fate.{Fate}
-use Rattle.rtp_stream.specs.Counts.{is_double, is_late, is_taken_fate, is_unlike}
+use Rattle.rtp_stream.specs.Counts.{is_ahead, is_double, is_late, is_taken_fate, is_unlike}
 use Rattle.rtp_stats.specs.Offer.{Offer}
 
 -- what a counter of 64 bits shows of a number: it stands still at the greatest
@@ -27,6 +27,10 @@ unlike_of path offers = offers_of is_unlike path offers
 -- those that came too late
 abbrev pub late_of : ℕ → List Offer → ℕ
 late_of path offers = offers_of is_late path offers
+
+-- those that came too early for the window
+abbrev pub ahead_of : ℕ → List Offer → ℕ
+ahead_of path offers = offers_of is_ahead path offers
 
 -- the numbers that were taken, from whichever path
 abbrev pub taken_of : List Offer → ℕ

@@ -8,12 +8,14 @@ use Rattle.rtp_stats.specs.Offer.{Offer}
 use Rattle.rtp_stats.specs.Counts.{AreCounts, HasFates}
 use Rattle.rtp_stats.specs.WindowCopies.{HasEntry}
 use Rattle.rtp_stats.specs.Missed.{missed_of}
+use Rattle.rtp_stats.specs.Repeats.{repeats_of}
 use Rattle.rtp_stats.specs.MarginSecond.{HasSecond}
 
 -- what contracts see of a tally
 pub record TallyState : Type 0 where
   pub counts : FateCounts
   pub missed : List ℕ
+  pub repeats : List ℕ
   pub entries : List WindowCopies
   pub seconds : List MarginSecond
 
@@ -31,5 +33,6 @@ pub record HasSeconds (offers : List Offer) (seconds : List MarginSecond) : Type
 pub record HasTally (stream : Stream) (offers : List Offer) (tally : TallyState) : Type 0 where
   pub fates : HasFates offers tally.counts
   pub missed : AreCounts (λ path. missed_of stream.window path offers) tally.missed
+  pub repeats : AreCounts (λ path. repeats_of path offers) tally.repeats
   pub entries : HasEntries stream.window offers tally.entries
   pub seconds : HasSeconds offers tally.seconds

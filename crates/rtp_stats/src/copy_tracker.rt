@@ -39,8 +39,10 @@ impl CopyTracker {
     pub fn note(&mut self, path: Path, seq: u16, ts: u32, fate: Fate, due: Option<i64>, now: i64)
         ensures { NotesOffer path fate seq ts due now self.old self.new }
     {
+        // Compared before `margin`, which keeps this packet's deadline if it was taken.
+        let again = self.deadlines.has_reached(ts);
         let spare = self.deadlines.margin(fate, ts, due, now);
-        self.tally.add(path, fate, seq, spare, now);
+        self.tally.add(path, fate, seq, spare, now, again);
     }
 
     /// Returns the statistics of a path's packets at the clock reading `now`, in sampling instants at 48 kHz.

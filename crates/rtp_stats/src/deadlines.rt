@@ -5,6 +5,7 @@ ghost use Rattle.rtp_stream.specs.Grid.{is_on_grid};
 ghost use Rattle.rtp_stream.specs.declared.anchor.Anchor.{Anchor};
 ghost use Rattle.rtp_stream.specs.declared.fate.Fate.TheVariants.{Taken};
 ghost use Rattle.rtp_stream.specs.declared.stream_spec.Stream.{Stream};
+ghost use Rattle.rtp_stats.specs.Repeats.{is_again};
 ghost use Rattle.rtp_stats.specs.Deadlines.{
   HasMargin,
   IsDeadlineOf,
@@ -124,6 +125,14 @@ impl Deadlines {
             Some(deadline) => margin_before(deadline, now),
             None => None,
         }
+    }
+
+    /// Returns true if a timestamp is that of the last packet that was taken, or before it.
+    // Timestamps wrap, so half of their cycle (12 hours) lies before the known one.
+    pub fn has_reached(&self, ts: u32) -> bool
+        ensures { result ≡ is_again self.now ts }
+    {
+        self.known && self.ts.wrapping_sub(ts) < 2_147_483_648
     }
 
     /// Returns the deadline of a packet that was taken, and keeps it as the known one.

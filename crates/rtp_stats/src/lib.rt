@@ -7,10 +7,14 @@
 //!
 //! - `Deadlines::deadline` returns the deadline of an offered packet, from its fate and timestamp,
 //!   and `margin_before` returns how long before the deadline it came.
-//! - `StreamTally` counts per path. `path` returns the counts, and `spare` the least and the median
-//!   arrival margin in the last whole second. A path has missed a number once the numbers of a whole
+//! - `StreamTally` counts per path. `path` returns the counts, and `spare` the least, the median and
+//!   the greatest arrival margin in the last whole second. A path has missed a number once the numbers of a whole
 //!   window lie between it and a number that was taken, so `missed` is late by the length of a
 //!   window.
+//!
+//! A `MarginMinute` keeps the margins of a path's seconds. `drift` returns how they change over a
+//! minute: the sender's clock against the receiver's, and the time until its packets will be late or
+//! too early.
 //!
 //! `raise_peaks` raises the peak of each channel to the samples of a payload. Whoever shows peaks
 //! sets them to 0 again.
@@ -25,6 +29,7 @@
 mod channel;
 mod copy_tracker;
 mod deadlines;
+mod drift;
 mod laws;
 mod path_tally;
 mod peaks;
@@ -38,9 +43,11 @@ pub use channel::path::{PathCountsReceiver, PathCountsSender, path_counts_channe
 pub use channel::stream::{StreamStatsReceiver, StreamStatsSender, stream_stats_channel};
 pub use copy_tracker::CopyTracker;
 pub use deadlines::{Deadlines, margin_before};
+pub use drift::{Drift, MarginMinute};
 pub use laws::{a_path_misses_what_it_gives_up, each_number_is_first_on_one_path};
 pub use path_tally::PathTally;
 pub use peaks::raise_peaks;
 pub use spare::ArrivalMargin;
 pub use stats::{MixStats, PathStats, StreamStats};
 pub use tally::StreamTally;
+pub use tally::margins::second_of;

@@ -2,6 +2,7 @@
 //! keeps arrival margins.
 ghost use Rattle.std.specs.Prelude.{
   ◌≡◌,
+  ◌+◌,
   ◌^◌,
   ◌<◌,
   List,
@@ -20,21 +21,24 @@ ghost use Rattle.rtp_stats.specs.Offer.{Offer};
 ghost use Rattle.rtp_stats.specs.declared.tally.margins.MarginSecond.{MarginSecond};
 ghost use Rattle.rtp_stats.specs.WindowCopies.{empty_entry};
 ghost use Rattle.rtp_stats.specs.Missed.{missed_of};
-ghost use Rattle.rtp_stats.specs.Offers.{count_in_64_bits, double_of, first_of, late_of, unlike_of};
+ghost use Rattle.rtp_stats.specs.Offers.{ahead_of, count_in_64_bits, double_of, first_of, late_of, unlike_of};
+ghost use Rattle.rtp_stats.specs.Repeats.{repeats_of};
 ghost use Rattle.rtp_stats.specs.MarginSecond.{AreNewSeconds, place_of, second_after};
-ghost use Rattle.rtp_stats.specs.Margins.{IsLatest, IsLeast, IsMedian, last_spares, second_of};
+ghost use Rattle.rtp_stats.specs.Margins.{IsGreatest, IsLatest, IsLeast, IsMedian, last_spares, second_of};
 
 use crate::path_tally::PathTally;
 use crate::spare::ArrivalMargin;
 use crate::tally::fate_counts::FateCounts;
 use crate::tally::margins::{MarginSecond, second_of};
+use crate::tally::repeats::note_repeat;
 use crate::tally::window_copies::{WindowCopies, note_copy};
 use rtp_stream::{Fate, Path, StreamSpec};
 use std::alloc::{AllocError, Global};
 use std::marker::Model;
 
 mod fate_counts;
-mod margins;
+pub(crate) mod margins;
+mod repeats;
 mod window_copies;
 
 /// The fates and arrival margins of the packets that were offered to one stream, path by path.
@@ -44,6 +48,8 @@ mod window_copies;
 pub struct StreamTally {
     counts: FateCounts,
     missed: [u64; 4],
+    /// The packets in a row, by path, that repeat numbers which were heard.
+    repeats: [u64; 4],
     /// An entry for each place of the window.
     entries: Vec<WindowCopies>,
     /// The latest even second and the latest odd second of each path in which a packet arrived.
@@ -58,7 +64,13 @@ impl Model for StreamTally {
     ghost Value = { TallyState };
 
     ghost view = { λ t.
-        record { counts = t.counts; missed = t.missed; entries = t.entries.items; seconds = t.seconds.items } };
+        record {
+          counts = t.counts;
+          missed = t.missed;
+          repeats = t.repeats;
+          entries = t.entries.items;
+          seconds = t.seconds.items;
+        } };
 
     ghost invariant = { λ t. record { places : 0 < length t.entries.items; eight : length t.seconds.items ≡ 8 } };
 }
@@ -117,6 +129,7 @@ impl StreamTally {
         Ok(StreamTally {
             counts: FateCounts::new(),
             missed: [0; 4],
+            repeats: [0; 4],
             entries,
             seconds,
         })
@@ -125,11 +138,20 @@ impl StreamTally {
     /// Adds a packet that was offered on a path at the clock reading `now`, with its fate.
     ///
     /// `spare` is its arrival margin, in sampling instants at 48 kHz; `None` if it arrived at or after its deadline or
-    /// has none.
+    /// has none. `again` is true if its number is that of the last packet that was taken before it, or less.
     #[inline]
-    pub fn add(&mut self, path: Path, fate: Fate, seq: u16, spare: Option<u32>, now: i64)
+    pub fn add(
+        &mut self,
+        path: Path,
+        fate: Fate,
+        seq: u16,
+        spare: Option<u32>,
+        now: i64,
+        again: bool,
+    )
         ensures { (stream : Stream) (offers : List Offer) → HasTally stream offers self.old
-            → HasTally stream (record { path = path; fate = fate; seq = seq; spare = spare; now = now } ∷ offers)
+            → HasTally stream
+            (record { path = path; fate = fate; seq = seq; spare = spare; now = now; again = again } ∷ offers)
             self.new }
     {
         self.counts.add(path, fate);
@@ -140,6 +162,7 @@ impl StreamTally {
             fate,
             seq,
         );
+        note_repeat(&mut self.repeats, path, fate, again);
         if let Some(spare) = spare {
             note_spare(self.seconds.as_mut_slice(), path, spare, now);
         }
@@ -155,6 +178,10 @@ impl StreamTally {
             → result.unlike ≡ count_in_64_bits (unlike_of path offers) }
         ensures late { (stream : Stream) (offers : List Offer) → HasTally stream offers self.now
             → result.late ≡ count_in_64_bits (late_of path offers) }
+        ensures ahead { (stream : Stream) (offers : List Offer) → HasTally stream offers self.now
+            → result.ahead ≡ count_in_64_bits (ahead_of path offers) }
+        ensures repeated { (stream : Stream) (offers : List Offer) → HasTally stream offers self.now
+            → result.repeated ≡ count_in_64_bits (repeats_of path offers) }
         ensures missed { (stream : Stream) (offers : List Offer) → HasTally stream offers self.now
             → result.missed ≡ count_in_64_bits (missed_of stream.window path offers) }
     {
@@ -164,6 +191,8 @@ impl StreamTally {
             double: self.counts.double[at],
             unlike: self.counts.unlike[at],
             late: self.counts.late[at],
+            ahead: self.counts.ahead[at],
+            repeated: self.repeats[at],
             missed: self.missed[at],
         }
     }
@@ -175,6 +204,9 @@ impl StreamTally {
     pub fn spare(&self, path: Path, now: i64) -> Option<ArrivalMargin>
         ensures least { (stream : Stream) (offers : List Offer) → HasTally stream offers self.now
             → IfSome result (λ spare. IsLeast (last_spares path now offers) spare.least) }
+        ensures greatest { (stream : Stream) (offers : List Offer) → HasTally stream offers self.now
+            → IfSome result (λ spare. IsGreatest (last_spares path now offers) spare.greatest) }
+        ensures second { IfSome result (λ spare. spare.second + 1 ≡ second_of now) }
         ensures median { (stream : Stream) (offers : List Offer) → HasTally stream offers self.now
             → length (last_spares path now offers) < 2 ^ 32
             → IfSome result (λ spare. IsMedian (last_spares path now offers) spare.median) }

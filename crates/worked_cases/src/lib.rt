@@ -3,8 +3,11 @@
 //! - `tests`: reception, over the crates from `rtp_wire` to `lane_align`.
 //! - `record_tests`: the octets of a record as `pcap_file` writes them, and what it reads in them.
 //! - `tally_tests`: the statistics of `rtp_stats`, call by call.
+//! - `drift_tests`: the drift of arrival margins, and packets that repeat numbers.
 #![tactic(auto)]
 
+#[cfg(test)]
+mod drift_tests;
 #[cfg(test)]
 mod record_tests;
 #[cfg(test)]

@@ -25,18 +25,19 @@ type Offered = (u8, Fate, u16, Option<u32>, i64);
 /// Adds packets to a tally.
 fn add_all(rt: &impl Abort, tally: &mut StreamTally, packets: &[Offered]) {
     for (number, fate, seq, spare, now) in packets {
-        tally.add(path(rt, *number), *fate, *seq, *spare, *now);
+        tally.add(path(rt, *number), *fate, *seq, *spare, *now, false);
     }
 }
 
 /// Tests the numbers of a path's first copies, doubles, unlike and late copies, and missed numbers.
-fn has_counts(rt: &impl Abort, tally: &StreamTally, number: u8, wanted: [u64; 5]) {
+fn has_counts(rt: &impl Abort, tally: &StreamTally, number: u8, wanted: [u64; 6]) {
     let counts = tally.path(path(rt, number));
     let found = [
         counts.first,
         counts.double,
         counts.unlike,
         counts.late,
+        counts.ahead,
         counts.missed,
     ];
     assert!(rt; found == wanted, "path {number}: {found:?}");
@@ -51,9 +52,10 @@ const WITHIN_A_WINDOW: [Offered; 4] = [
 ];
 
 /// With 8 the second path has missed 0. By the first path 7 may still come.
-const A_WINDOW_LATER: [Offered; 3] = [
+const A_WINDOW_LATER: [Offered; 4] = [
     (0, Fate::Taken, 8, None, 384),
     (1, Fate::Late, 0, None, 385),
+    (1, Fate::Ahead, 40, None, 385),
     (1, Fate::Unlike, 8, None, 386),
 ];
 
@@ -62,10 +64,10 @@ const A_WINDOW_LATER: [Offered; 3] = [
 fn a_number_is_missed_a_window_after_it_was_taken(rt: HostRuntime) {
     let tally = &mut new_tally(&rt, rt.alloc());
     add_all(&rt, tally, &WITHIN_A_WINDOW);
-    has_counts(&rt, tally, 1, [1, 1, 0, 0, 0]);
+    has_counts(&rt, tally, 1, [1, 1, 0, 0, 0, 0]);
     add_all(&rt, tally, &A_WINDOW_LATER);
-    has_counts(&rt, tally, 1, [1, 1, 1, 1, 1]);
-    has_counts(&rt, tally, 0, [3, 0, 0, 0, 0]);
+    has_counts(&rt, tally, 1, [1, 1, 1, 1, 1, 1]);
+    has_counts(&rt, tally, 0, [3, 0, 0, 0, 0, 0]);
 }
 
 /// A path, a clock reading, and the arrival margins of the last whole second before it: the least and the median.

@@ -13,13 +13,14 @@ fn add_one_at(numbers: &mut [u64; 4], at: usize)
     numbers[at] = numbers[at].saturating_add(1);
 }
 
-/// The numbers of packets with four fates, by path. `PathTally` says which fates.
+/// The numbers of packets with five kinds of fates, by path. `PathTally` says which fates.
 #[derive(Clone, Copy, Debug)]
 pub(crate) struct FateCounts {
     pub(crate) first: [u64; 4],
     pub(crate) double: [u64; 4],
     pub(crate) unlike: [u64; 4],
     pub(crate) late: [u64; 4],
+    pub(crate) ahead: [u64; 4],
 }
 
 impl FateCounts {
@@ -27,13 +28,14 @@ impl FateCounts {
 
     /// Counters that are all 0.
     pub(crate) fn new() -> FateCounts
-        ensures { result ≡ record { first = 0 ∷ 0 ∷ 0 ∷ 0 ∷ []; double = 0 ∷ 0 ∷ 0 ∷ 0 ∷ []; unlike = 0 ∷ 0 ∷ 0 ∷ 0 ∷ []; late = 0 ∷ 0 ∷ 0 ∷ 0 ∷ [] } }
+        ensures { result ≡ record { first = 0 ∷ 0 ∷ 0 ∷ 0 ∷ []; double = 0 ∷ 0 ∷ 0 ∷ 0 ∷ []; unlike = 0 ∷ 0 ∷ 0 ∷ 0 ∷ []; late = 0 ∷ 0 ∷ 0 ∷ 0 ∷ []; ahead = 0 ∷ 0 ∷ 0 ∷ 0 ∷ [] } }
     {
         FateCounts {
             first: [0; 4],
             double: [0; 4],
             unlike: [0; 4],
             late: [0; 4],
+            ahead: [0; 4],
         }
     }
 
@@ -49,8 +51,8 @@ impl FateCounts {
             Fate::Double => add_one_at(&mut self.double, at),
             Fate::Unlike => add_one_at(&mut self.unlike, at),
             Fate::Late => add_one_at(&mut self.late, at),
-            Fate::Closed | Fate::CountersFull | Fate::WrongSource | Fate::OffGrid | Fate::Ahead =>
-                {}
+            Fate::Ahead => add_one_at(&mut self.ahead, at),
+            Fate::Closed | Fate::CountersFull | Fate::WrongSource | Fate::OffGrid => {}
         }
     }
 }

@@ -11,7 +11,7 @@ const BINS: usize = 1_024;
 
 /// Returns the second of the clock that a time is in, with 48,000 sampling instants each; 0 for a time before 0.
 #[inline(always)]
-pub(crate) fn second_of(now: i64) -> u64
+pub fn second_of(now: i64) -> u64
     ensures { result ≡ second_of now }
 {
     if now < 0 { 0 } else { now as u64 / 48_000 }
@@ -26,6 +26,8 @@ pub(crate) struct MarginSecond {
     count: u32,
     /// The least margin, in sampling instants.
     least: u32,
+    /// The greatest margin, in sampling instants.
+    greatest: u32,
     bins: [u32; BINS],
 }
 
@@ -38,6 +40,7 @@ impl MarginSecond {
             second,
             count: 0,
             least: 0,
+            greatest: 0,
             bins: [0; BINS],
         }
     }
@@ -51,6 +54,7 @@ impl MarginSecond {
         self.second = second;
         self.count = 0;
         self.least = 0;
+        self.greatest = 0;
         self.bins = [0; BINS];
     }
 
@@ -62,6 +66,7 @@ impl MarginSecond {
         if self.count == 0 || spare < self.least {
             self.least = spare;
         }
+        self.greatest = self.greatest.max(spare);
         self.count = self.count.saturating_add(1);
         let bin = (spare / 6).min(1_023) as usize;
         self.bins[bin] = self.bins[bin].saturating_add(1);
@@ -80,7 +85,7 @@ impl MarginSecond {
         }
     }
 
-    /// Returns the least and the median margin of a second; `None` if this is another second or has no margin.
+    /// Returns the least, the median and the greatest margin of a second; `None` if this is another second or has none.
     pub(crate) fn margin_in(&self, second: u64) -> Option<ArrivalMargin>
         ensures { MatchOption result (self.now.second ≡ second → self.now.count ≡ 0) (IsSpareOf self.now second) }
     {
@@ -88,8 +93,10 @@ impl MarginSecond {
             return None;
         }
         Some(ArrivalMargin {
+            second,
             least: self.least,
             median: 6 * middle_of(&self.bins, self.count),
+            greatest: self.greatest,
         })
     }
 }

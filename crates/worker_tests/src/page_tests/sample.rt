@@ -31,8 +31,10 @@ fn heard_path() -> PathState {
             late: 7,
         }),
         spare: Some(ArrivalMargin {
+            second: 17,
             least: 12,
             median: 30,
+            greatest: 36,
         }),
         socket: Some(SocketState {
             faults: 8,

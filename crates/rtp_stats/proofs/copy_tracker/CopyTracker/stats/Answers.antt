@@ -11,8 +11,12 @@ returns c = λ stream offers told.
       double = c.path.ensures.double stream offers told;
       unlike = c.path.ensures.unlike stream offers told;
       late = c.path.ensures.late stream offers told;
+      ahead = c.path.ensures.ahead stream offers told;
+      repeated = c.path.ensures.repeated stream offers told;
       missed = c.path.ensures.missed stream offers told;
       least = c.spare.ensures.least stream offers told;
+      greatest = c.spare.ensures.greatest stream offers told;
+      second = c.spare.ensures.second;
       median = c.spare.ensures.median stream offers told;
       none = c.spare.ensures.none stream offers told;
     })

@@ -15,8 +15,10 @@ returns c =
         double = counts_new _ (λ p. refl);
         unlike = counts_new _ (λ p. refl);
         late = counts_new _ (λ p. refl);
+        ahead = counts_new _ (λ p. refl);
       });
       missed = counts_new _ (λ p. refl);
+      repeats = counts_new _ (λ p. refl);
       entries = subst (HasEntries c.args.spec.now.window []) (sym places) (entries_new c.args.spec.now.window);
       seconds = seconds_new c.in_ok-seconds.seconds.items c.in_ok-seconds.ensures;
     }
