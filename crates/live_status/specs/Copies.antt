@@ -17,6 +17,8 @@ copies_of numbers lost = record {
   double = numbers.tally.double;
   unlike = numbers.tally.unlike;
   late = numbers.tally.late;
+  ahead = numbers.tally.ahead;
+  repeated = numbers.tally.repeated;
 }
 
 -- a path with these numbers, of a stream that lost so many

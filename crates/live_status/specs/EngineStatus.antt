@@ -45,4 +45,4 @@ module _ {E : Type 0} where
   -- a publisher shows a snapshot of an engine, at the engine's time
   abbrev pub ShowsEngine : EngineState → List CopyTracker → Bool → StatusPublisher E → StatusPublisher E → Type 0
   ShowsEngine engine trackers has_ended old new = (snapshot : Snapshot) × IsOfEngine engine trackers old.streams.items old.channels snapshot
-      × Shows old.streams.items engine.time has_ended snapshot old.page new.page
+      × Shows old.watches.items old.streams.items engine.time has_ended snapshot old.page new.page

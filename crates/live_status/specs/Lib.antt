@@ -6,7 +6,10 @@ pub mod Outputs
 pub mod SignalPresence
 pub mod Conditions
 pub mod StreamStatus
+pub mod Watch
+pub mod StreamWatch
 pub mod Publisher
 pub mod EngineStatus
 pub mod Lines
+pub mod DriftLines
 pub mod Health

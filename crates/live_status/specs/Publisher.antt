@@ -1,12 +1,13 @@
 -- What a publisher shows.
-use Rattle.std.specs.Prelude.{◌≡◌, ◌≤◌, ℕ, ℤ, int_le, Bool, false, ◌||◌, ◌&&◌, List, length, replicate, Option, is_some, option_map, unwrap_or, IsNone, IsSomeAnd, MatchOption}
+use Rattle.std.specs.Prelude.{◌≡◌, ◌≤◌, ℕ, ℤ, int_le, Bool, false, ◌||◌, List, length, replicate, Option, option_map, unwrap_or, IsNone, IsSomeAnd, MatchOption}
 use Rattle.rtrb.specs.declared.producer.Producer.{Producer}
 use Rattle.rtp_stats.specs.Channel.{Gives}
 use Rattle.status_page.specs.declared.snapshot.Snapshot.{Snapshot}
 use Rattle.live_status.specs.Each.{AreEach}
 use Rattle.live_status.specs.Outputs.{blank_output}
-use Rattle.live_status.specs.Conditions.{SetsCondition}
 use Rattle.live_status.specs.StreamStatus.{IsBlankOf}
+use Rattle.live_status.specs.StreamWatch.{ShowsStreams}
+use Rattle.live_status.specs.declared.reception_watch.stream_watch.StreamWatch.{StreamWatch}
 use Rattle.live_status.specs.declared.publisher.StatusPublisher.{StatusPublisher}
 use Rattle.live_status.specs.declared.stream_status.StreamStatus.{StreamStatus}
 
@@ -15,20 +16,20 @@ pub record IsBlankSnapshot (statuses : List StreamStatus) (channels : ℕ) (snap
   pub streams : length statuses ≤ 16 → AreEach IsBlankOf statuses snapshot.streams.items
   pub outputs : snapshot.outputs.items ≡ replicate channels blank_output
 
--- the snapshot that was passed in, with each stream's condition at this time
-pub record IsShown (statuses : List StreamStatus) (now : ℤ) (has_ended : Bool) (given shown : Snapshot) : Type 0 where
-  pub streams : AreEach (SetsCondition statuses now has_ended) given.streams.items shown.streams.items
+-- the snapshot that was passed in, with its streams so
+pub record IsShown (watches : List StreamWatch) (statuses : List StreamStatus) (now : ℤ) (has_ended : Bool) (given shown : Snapshot) : Type 0 where
+  pub streams : ShowsStreams watches statuses now has_ended given.streams.items shown.streams.items
   pub outputs : shown.outputs ≡ given.outputs
 
 -- that snapshot went through the ring, if there was room
-abbrev pub GivesShown : {A P : Type 0} → List StreamStatus → ℤ → Bool → Snapshot → Producer Snapshot A P → Producer Snapshot A P → Type 0
-GivesShown statuses now has_ended given old new = (shown : Snapshot) × IsShown statuses now has_ended given shown × Gives shown old new
+abbrev pub GivesShown : {A P : Type 0} → List StreamWatch → List StreamStatus → ℤ → Bool → Snapshot → Producer Snapshot A P → Producer Snapshot A P → Type 0
+GivesShown watches statuses now has_ended given old new = (shown : Snapshot) × IsShown watches statuses now has_ended given shown × Gives shown old new
 
 -- a snapshot goes through the page's ring, if there is a page and room; and there is a page still
-abbrev pub Shows : {A P : Type 0} → List StreamStatus → ℤ → Bool → Snapshot → Option (Producer Snapshot A P) → Option (Producer Snapshot A P) → Type 0
-Shows statuses now has_ended given old new = MatchOption old (IsNone new) (λ ring. IsSomeAnd new (GivesShown statuses now has_ended given ring))
+abbrev pub Shows : {A P : Type 0} → List StreamWatch → List StreamStatus → ℤ → Bool → Snapshot → Option (Producer Snapshot A P) → Option (Producer Snapshot A P) → Type 0
+Shows watches statuses now has_ended given old new = MatchOption old (IsNone new) (λ ring. IsSomeAnd new (GivesShown watches statuses now has_ended given ring))
 
 module _ {E : Type 0} where
-  -- a page has to be shown something at this time, or lines are due
+  -- a snapshot is due at this time, or lines are
   abbrev pub is_due_at : StatusPublisher E → ℤ → Bool
-  is_due_at publisher now = (is_some publisher.page && int_le publisher.next now) || unwrap_or (option_map (λ lines. int_le lines.next now) publisher.lines) false
+  is_due_at publisher now = int_le publisher.next now || unwrap_or (option_map (λ lines. int_le lines.next now) publisher.lines) false

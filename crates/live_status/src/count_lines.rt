@@ -1,9 +1,10 @@
-//! The schedule of the lines on standard error while a run goes on: of each stream's counts, of each path's socket, and
-//! of the run.
+//! The schedule of the lines on standard error while a run goes on: of each stream's counts and time left, of each
+//! path's drift and socket, and of the run.
 ghost use Rattle.std.specs.Prelude.{◌≡◌, ◌⊎◌, ◌^◌, ◌-◌, ◌*◌, ◌+ℤ◌, IfOk, int_le, pos};
 ghost use Rattle.std.specs.Int.{saturate_to_bits};
 
 use crate::fd_ready::{STDERR, is_ready};
+use crate::lines::drift::{write_path_drift, write_time_left};
 use crate::lines::running::{write_run_state, write_running_counts, write_socket_state};
 use rtp_stream::Path;
 use status_page::{PathState, Snapshot, StreamState};
@@ -76,7 +77,7 @@ impl CountLines {
         self.write_run(now, snapshot, writer)
     }
 
-    /// Writes the lines of a stream: that of its counts, and one for each path whose socket is known.
+    /// Writes the lines of a stream: that of its counts, that of its time left, and those of its paths.
     fn write_stream<W: Write>(
         &mut self,
         now: i64,
@@ -92,11 +93,29 @@ impl CountLines {
             write_running_counts(&mut self.text, writer, number, count, now, &stream.counts)?;
             self.text.finish(writer)?;
         }
-        self.write_sockets(now, number, paths, writer)
+        self.write_left(now, number, stream.seconds_left, writer)?;
+        self.write_paths(now, number, paths, writer)
     }
 
-    /// Writes a line for each path of a stream whose socket is known.
-    fn write_sockets<W: Write>(
+    /// Writes the line of a stream's time left.
+    fn write_left<W: Write>(
+        &mut self,
+        now: i64,
+        number: u8,
+        left: Option<u64>,
+        writer: &mut W,
+    ) -> Result<(), WriteFault>
+        ensures { self.new.every ≡ self.old.every }
+    {
+        if can_write() {
+            write_time_left(&mut self.text, writer, number, now, left)?;
+            self.text.finish(writer)?;
+        }
+        Ok(())
+    }
+
+    /// Writes the lines of each path of a stream.
+    fn write_paths<W: Write>(
         &mut self,
         now: i64,
         number: u8,
@@ -106,13 +125,13 @@ impl CountLines {
         ensures { self.new.every ≡ self.old.every }
     {
         for place in 0..paths.len().min(4) {
-            self.write_socket(now, number, place as u8, &paths[place], writer)?;
+            self.write_path(now, number, place as u8, &paths[place], writer)?;
         }
         Ok(())
     }
 
-    /// Writes the line of a path's socket, if its state is known.
-    fn write_socket<W: Write>(
+    /// Writes the lines of a path: that of its drift, and that of its socket.
+    fn write_path<W: Write>(
         &mut self,
         now: i64,
         number: u8,
@@ -122,10 +141,46 @@ impl CountLines {
     ) -> Result<(), WriteFault>
         ensures { self.new.every ≡ self.old.every }
     {
-        let Some(socket) = &path.socket else {
+        let Some(letter) = Path::new(place) else {
             return Ok(());
         };
-        let Some(letter) = Path::new(place) else {
+        self.write_drift(now, number, letter, path, writer)?;
+        self.write_socket(now, number, letter, path, writer)
+    }
+
+    /// Writes the line of a path's drift, if its packets are counted.
+    fn write_drift<W: Write>(
+        &mut self,
+        now: i64,
+        number: u8,
+        letter: Path,
+        path: &PathState,
+        writer: &mut W,
+    ) -> Result<(), WriteFault>
+        ensures { self.new.every ≡ self.old.every }
+    {
+        if path.copies.is_none() {
+            return Ok(());
+        }
+        if can_write() {
+            write_path_drift(&mut self.text, writer, number, letter, now, path)?;
+            self.text.finish(writer)?;
+        }
+        Ok(())
+    }
+
+    /// Writes the line of a path's socket, if its state is known.
+    fn write_socket<W: Write>(
+        &mut self,
+        now: i64,
+        number: u8,
+        letter: Path,
+        path: &PathState,
+        writer: &mut W,
+    ) -> Result<(), WriteFault>
+        ensures { self.new.every ≡ self.old.every }
+    {
+        let Some(socket) = &path.socket else {
             return Ok(());
         };
         if can_write() {

@@ -3,11 +3,9 @@ ghost use Rattle.std.specs.Prelude.{
   ◌≡◌,
   ◌<◌,
   ◌≤◌,
-  [],
   length,
   true,
   false,
-  is_some,
   IfOk,
   IfSome,
   IsNone,
@@ -38,11 +36,11 @@ use std::io::Write;
 use studio_engine::Engine;
 use studio_session::ArriveOutcome;
 
-/// The publisher of an engine's status, with a copy tracker for each stream if there is a page.
+/// The publisher of an engine's status, with a copy tracker for each stream.
 #[derive(Drop)]
 pub struct EngineStatus<'a, E, H> {
     publisher: StatusPublisher<E>,
-    /// The copy tracker of each stream. Empty without a page, since the lines do not need them.
+    /// The copy tracker of each stream.
     trackers: Vec<CopyTracker>,
     /// The meter of the mix, if there is one.
     meter: Option<&'a Meter>,
@@ -61,14 +59,9 @@ impl<'a, E: Write + Drop, H: HealthSource> EngineStatus<'a, E, H> {
         health: H,
     ) -> Result<EngineStatus<'a, E, H>, AllocError>
         ensures publisher { IfOk result (λ status. status.publisher ≡ publisher) }
-        ensures trackers { IfOk result (λ status. MatchBool (is_some publisher.page)
-            (AreEach IsNewTracker streams.now status.trackers.items) (status.trackers.items ≡ [])) }
+        ensures trackers { IfOk result (λ status. AreEach IsNewTracker streams.now status.trackers.items) }
     {
-        let trackers = if publisher.has_page() {
-            copy_trackers(alloc, streams)?
-        } else {
-            Vec::new(alloc)
-        };
+        let trackers = copy_trackers(alloc, streams)?;
         Ok(EngineStatus {
             publisher,
             trackers,

@@ -11,6 +11,9 @@
 //!    the statistics that were received. `fill_health` fills in the state of sockets, of sends and of
 //!    the record, from a `HealthSource`.
 //!
+//! `publish` also watches the streams: from the arrival margins of the last minute it shows the drift
+//! of each path, and paths of which no packet is in time.
+//!
 //! A `Meter` measures the peaks of the mix if one thread sends it.
 #![tactic(auto)]
 
@@ -23,6 +26,7 @@ mod lines;
 mod meter;
 mod page_thread;
 mod publisher;
+mod reception_watch;
 mod signal_presence;
 mod snapshot_fill;
 mod status_outputs;

@@ -1,5 +1,6 @@
-//! The lines of a live run: `report` has those that only its report has, and `running` those on standard error while it
-//! goes on.
+//! The lines of a live run: `report` has those that only its report has, and `running` and `drift` those on standard
+//! error while it goes on.
 
+pub(crate) mod drift;
 pub(crate) mod report;
 pub(crate) mod running;

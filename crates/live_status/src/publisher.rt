@@ -8,10 +8,8 @@ ghost use Rattle.std.specs.Prelude.{
   length,
   IfOk,
   IsNone,
-  IsSome,
   IsSomeAnd,
   MatchOption,
-  is_some,
   ◌≤ℤ◌,
   ◌+ℤ◌,
 };
@@ -19,8 +17,11 @@ ghost use Rattle.live_status.specs.Each.{AreEach};
 ghost use Rattle.live_status.specs.Outputs.{blank_output};
 ghost use Rattle.live_status.specs.Conditions.{Updates, UpdatesAt, SetsCondition};
 ghost use Rattle.live_status.specs.StreamStatus.{IsBlankOf, IsNewStatusAt};
+ghost use Rattle.live_status.specs.StreamWatch.{IsNewWatchAt, ShowsStreams};
 
 use crate::count_lines::CountLines;
+use crate::reception_watch::stream_watch::StreamWatch;
+use crate::reception_watch::{note_streams, show_watches, watches_of};
 use crate::stream_status::StreamStatus;
 use rtp_stream::StreamSpec;
 use rtrb::Producer;
@@ -32,13 +33,16 @@ use std::io::Write;
 pub(crate) const MAX_CHANNELS: usize = 8;
 
 /// The period of snapshots, in sampling instants at 48 kHz: a tenth of a second.
-// The page asks for a snapshot ten times a second, and the workers send their statistics as often.
+// The page asks for a snapshot ten times a second, and the workers send their statistics as often. The watches of the
+// streams see each second, also if only lines are wanted.
 const SNAPSHOT_INTERVAL: i64 = 4_800;
 
 /// The publisher of a run's status, to its page and as lines on standard error.
 #[derive(Drop)]
 pub struct StatusPublisher<E> {
     streams: Vec<StreamStatus>,
+    /// The watch of each stream.
+    watches: Vec<StreamWatch>,
     /// The schedule of the lines, if lines are wanted.
     lines: Option<CountLines>,
     /// The ring to the page, if there is one. A snapshot that finds it full is dropped.
@@ -70,13 +74,17 @@ impl<E: Write + Drop> StatusPublisher<E> {
     ) -> Result<StatusPublisher<E>, AllocError>
         ensures streams { IfOk result
             (λ publisher. AreEach (IsNewStatusAt names.now now) streams.now publisher.streams.items) }
+        ensures watches { IfOk result
+            (λ publisher. AreEach (IsNewWatchAt now) streams.now publisher.watches.items) }
         ensures next { IfOk result (λ publisher. publisher.next ≡ now) }
         ensures page { IfOk result (λ publisher. (publisher.page ≡ page) × (publisher.lines ≡ lines)) }
         ensures channels { IfOk result (λ publisher. publisher.channels ≡ min channels 8) }
     {
+        let watches = watches_of(alloc, streams, now)?;
         let streams = StreamStatus::of_streams(alloc, streams, names, now)?;
         Ok(StatusPublisher {
             streams,
+            watches,
             lines,
             page,
             next: now,
@@ -85,18 +93,11 @@ impl<E: Write + Drop> StatusPublisher<E> {
         })
     }
 
-    /// Returns true if snapshots go to a page.
-    pub fn has_page(&self) -> bool
-        ensures { result ≡ is_some self.now.page }
-    {
-        self.page.is_some()
-    }
-
     /// Returns true if a snapshot or lines are due at the time `now`, in sampling instants.
     pub fn is_due(&self, now: i64) -> bool
         ensures { result ≡ is_due_at self.now now }
     {
-        if self.page.is_some() && now >= self.next {
+        if now >= self.next {
             return true;
         }
         match &self.lines {
@@ -116,17 +117,22 @@ impl<E: Write + Drop> StatusPublisher<E> {
         snapshot
     }
 
-    /// Publishes a snapshot at the time `now`, in sampling instants: sets the condition of each stream, writes the
-    /// lines that are due, and sends the snapshot to the page. `have_ended` is true if the streams have ended.
+    /// Publishes a snapshot at the time `now`, in sampling instants: sets the condition of each stream and the drift of
+    /// each path, writes the lines that are due, and sends the snapshot to the page. `have_ended` is true if the
+    /// streams have ended.
     pub fn publish(&mut self, now: i64, mut snapshot: Snapshot, have_ended: bool)
-        ensures shown { Shows self.old.streams.items now have_ended snapshot self.old.page self.new.page }
+        ensures shown { Shows self.old.watches.items self.old.streams.items now have_ended snapshot
+            self.old.page self.new.page }
         ensures streams { AreEach (Updates snapshot.streams.items now) self.old.streams.items self.new.streams.items }
-        ensures next { IsSome self.old.page → self.new.next ≤ℤ (now +ℤ SNAPSHOT_INTERVAL) }
+        ensures next { self.new.next ≤ℤ (now +ℤ SNAPSHOT_INTERVAL) }
     {
+        self.next = now.saturating_add(SNAPSHOT_INTERVAL);
+        let statuses = self.streams.as_mut_slice();
+        let watches = self.watches.as_mut_slice();
         let streams = snapshot.streams.as_mut_slice();
-        set_conditions(self.streams.as_mut_slice(), now, streams, have_ended);
+        set_streams(statuses, watches, now, streams, have_ended);
         self.write_lines(now, &snapshot);
-        self.show_page(now, snapshot);
+        self.show_page(snapshot);
     }
 
     /// Writes the lines that are due at the time `now`.
@@ -142,14 +148,13 @@ impl<E: Write + Drop> StatusPublisher<E> {
     }
 
     /// Sends a snapshot to the page, if there is one.
-    fn show_page(&mut self, now: i64, snapshot: Snapshot)
+    fn show_page(&mut self, snapshot: Snapshot)
         ensures shown { MatchOption self.old.page (IsNone self.new.page)
             (λ ring. IsSomeAnd self.new.page (Gives snapshot ring)) }
         ensures streams { self.new.streams ≡ self.old.streams }
-        ensures next { IsSome self.old.page → self.new.next ≤ℤ (now +ℤ SNAPSHOT_INTERVAL) }
+        ensures next { self.new.next ≡ self.old.next }
     {
         if let Some(page) = &mut self.page {
-            self.next = now.saturating_add(SNAPSHOT_INTERVAL);
             // A full ring means that the page's thread is slow. The run does not wait for its page.
             let _ = page.push(snapshot);
         }
@@ -179,6 +184,23 @@ fn add_outputs(snapshot: &mut Snapshot, channels: usize)
         // A snapshot has room for eight channels.
         let _ = snapshot.outputs.try_push(OutputState::default());
     }
+}
+
+/// Sets the condition of each of these streams at the time `now`, and what their watches show of them.
+fn set_streams(
+    statuses: &mut [StreamStatus],
+    watches: &mut [StreamWatch],
+    now: i64,
+    streams: &mut [StreamState],
+    have_ended: bool,
+)
+    ensures streams { ShowsStreams watches.old statuses.old now have_ended streams.old streams.new }
+    ensures statuses { AreEach (Updates streams.old now) statuses.old statuses.new }
+    ensures watches { length watches.new ≡ length watches.old }
+{
+    set_conditions(statuses, now, streams, have_ended);
+    note_streams(watches, now, streams);
+    show_watches(watches, have_ended, streams);
 }
 
 /// Sets the condition of each of these streams at the time `now`.

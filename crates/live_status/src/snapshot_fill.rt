@@ -52,6 +52,8 @@ pub(crate) fn fill_copies(stats: &PathStats, lost: u64, state: &mut PathState)
         double: tally.double,
         unlike: tally.unlike,
         late: tally.late,
+        ahead: tally.ahead,
+        repeated: tally.repeated,
     });
     state.spare = stats.spare;
 }

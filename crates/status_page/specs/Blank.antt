@@ -1,5 +1,5 @@
 -- The states of paths and streams from which nothing came.
-use Rattle.std.specs.Prelude.{◌≡◌, ℕ, Option, None, replicate}
+use Rattle.std.specs.Prelude.{◌≡◌, ℕ, false, Option, None, replicate}
 use Rattle.arrayvec.specs.ArrayString.{ArrayString}
 use Rattle.rtp_stream.specs.Counts.{tally_of}
 use Rattle.rtp_stream.specs.CountsFacts.{empty_tally}
@@ -9,12 +9,13 @@ use Rattle.status_page.specs.declared.snapshot.StreamState.{StreamState}
 
 -- a path on which nothing came, and of which no more is known
 abbrev pub blank_path : PathState
-blank_path = record { datagrams = 0; first = 0; counts = None; copies = None; spare = None; socket = None }
+blank_path = record { datagrams = 0; first = 0; counts = None; copies = None; spare = None; socket = None; drift = None; is_astray = false; is_repeating = false }
 
 -- a stream of this name, latency and number of paths, of which nothing came
 pub record IsBlank (name : Option ArrayString) (latency paths : ℕ) (stream : StreamState) : Type 0 where
   pub name_is : stream.name ≡ name
   pub condition_is : stream.condition ≡ NoPacket
   pub latency_is : stream.latency ≡ latency
+  pub left_is : stream.seconds_left ≡ None
   pub counts_are : tally_of stream.counts ≡ empty_tally
   pub paths_are : stream.paths.items ≡ replicate paths blank_path

@@ -1,7 +1,7 @@
 -- The text form of Prometheus, 0.0.4, of a snapshot.
-use Rattle.std.specs.Prelude.{ℕ, suc, List, [], ◌∷◌, ◌++◌, Option, Some, None, codes, slice_index, if◌then◌else◌, ◌==◌}
+use Rattle.std.specs.Prelude.{ℕ, ℤ, suc, List, [], ◌∷◌, ◌++◌, Option, Some, None, codes, slice_index, if◌then◌else◌, ◌==◌}
 use Rattle.std.specs.Str.{bytes_eq}
-use Rattle.std.specs.Fmt.{decimal}
+use Rattle.std.specs.Fmt.{decimal, signed_decimal}
 use Rattle.arrayvec.specs.ArrayString.{ArrayString}
 use Rattle.status_page.specs.declared.snapshot.Condition.{Condition}
 use Rattle.status_page.specs.declared.snapshot.Condition.TheVariants.{NoPacket, Running, SignalLost, Ended}
@@ -11,13 +11,15 @@ use Rattle.status_page.specs.declared.snapshot.OutputState.{OutputState}
 use Rattle.status_page.specs.declared.snapshot.RecordState.{RecordState}
 use Rattle.status_page.specs.declared.snapshot.Snapshot.{Snapshot}
 use Rattle.status_page.specs.Record.{record_datagrams, record_text}
+use Rattle.status_page.specs.declared.fields.Number.{Number}
+use Rattle.status_page.specs.declared.fields.Number.TheVariants as Shown
 use Rattle.status_page.specs.declared.fields.MetricKind.{MetricKind}
 use Rattle.status_page.specs.declared.fields.MetricKind.TheVariants.{Counter, Gauge}
 use Rattle.status_page.specs.declared.fields.path.PathField.{PathField}
 use Rattle.status_page.specs.declared.fields.stream.StreamField.{StreamField}
 use Rattle.status_page.specs.declared.fields.output.OutputField.{OutputField}
 use Rattle.status_page.specs.declared.fields.path.TheConstants.{PATH_FIELDS}
-use Rattle.status_page.specs.declared.fields.stream.StreamField.TheVariants.{Count, Latency}
+use Rattle.status_page.specs.declared.fields.stream.StreamField.TheVariants.{Count, Latency, SecondsLeft}
 use Rattle.rtp_stream.specs.declared.count_field.CountField.{CountField}
 use Rattle.rtp_stream.specs.declared.count_field.TheConstants.{COUNT_FIELDS}
 use Rattle.rtp_stream.specs.Path.{path_letter}
@@ -102,15 +104,25 @@ stream_labels number stream = codes "{stream=\"" ++ decimal number ++ codes "\""
 unfoldable pub value_text : ℕ → List ℕ
 value_text value = codes "} " ++ decimal value ++ codes "\n"
 
--- a number of a stream
-unfoldable pub stream_sample : StreamField → ℕ → StreamState → List ℕ
-stream_sample field number stream = stream_metric field ++ stream_labels number stream ++ value_text (stream_value field stream)
+-- with a sign
+unfoldable pub change_text : ℤ → List ℕ
+change_text value = codes "} " ++ signed_decimal value ++ codes "\n"
+
+-- of a count, or of a change
+abbrev pub shown_text : Number → List ℕ
+shown_text (Shown.Count value) = value_text value
+shown_text (Shown.Change value) = change_text value
+
+-- a number of a stream, if it is known
+unfoldable pub stream_sample : StreamField → ℕ → StreamState → Option ℕ → List ℕ
+stream_sample field number stream None = []
+stream_sample field number stream (Some value) = stream_metric field ++ stream_labels number stream ++ value_text value
 
 -- a number of a path, if it is known
-unfoldable pub path_sample : PathField → ℕ → StreamState → ℕ → Option ℕ → List ℕ
+unfoldable pub path_sample : PathField → ℕ → StreamState → ℕ → Option Number → List ℕ
 path_sample field number stream path None = []
 path_sample field number stream path (Some value) =
-    path_metric field ++ stream_labels number stream ++ codes ",path=\"" ++ path_letter path ++ codes "\"" ++ value_text value
+    path_metric field ++ stream_labels number stream ++ codes ",path=\"" ++ path_letter path ++ codes "\"" ++ shown_text value
 
 -- whether a stream has a condition: 1 or 0
 abbrev pub has_condition : Condition → Condition → ℕ
@@ -133,7 +145,7 @@ output_sample field number output = output_metric field ++ codes "{output=\"" ++
 -- one number of the streams, from this one on
 unfoldable pub stream_samples : StreamField → ℕ → List StreamState → List ℕ
 stream_samples field number [] = []
-stream_samples field number (stream ∷ streams) = stream_sample field number stream ++ stream_samples field (suc number) streams
+stream_samples field number (stream ∷ streams) = stream_sample field number stream (stream_value field stream) ++ stream_samples field (suc number) streams
 
 -- one number of a stream's paths, from this one on
 unfoldable pub path_samples : PathField → ℕ → StreamState → ℕ → List PathState → List ℕ
@@ -165,9 +177,13 @@ output_samples field number (output ∷ outputs) = output_sample field number ou
 abbrev pub stream_family : StreamField → List StreamState → List ℕ
 stream_family field streams = stream_header field ++ stream_samples field 0 streams
 
--- the metrics of the streams: these counts, and the latency
+-- those of the latency, and of the time that is left
+abbrev pub last_families : List StreamState → List ℕ
+last_families streams = stream_family Latency streams ++ stream_family SecondsLeft streams
+
+-- the metrics of the streams: these counts, the latency, and the time that is left
 unfoldable pub stream_families : List CountField → List StreamState → List ℕ
-stream_families [] streams = stream_family Latency streams
+stream_families [] streams = last_families streams
 stream_families (count ∷ counts) streams = stream_family (Count count) streams ++ stream_families counts streams
 
 -- the metrics of the paths

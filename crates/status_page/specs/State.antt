@@ -1,6 +1,6 @@
 -- The JSON of a snapshot, as its tokens.
 use Rattle.std.specs.Prelude.{ℕ, List, [], ◌∷◌, ◌++◌, Option, Some, None, codes, slice_index}
-use Rattle.std.specs.Fmt.{decimal}
+use Rattle.std.specs.Fmt.{decimal, signed_decimal}
 use Rattle.arrayvec.specs.ArrayString.{ArrayString}
 use Rattle.json.specs.Token.{Token, begin_object, end_object, begin_array, end_array, key, string, number, null}
 use Rattle.status_page.specs.declared.snapshot.PathState.{PathState}
@@ -9,11 +9,13 @@ use Rattle.status_page.specs.declared.snapshot.OutputState.{OutputState}
 use Rattle.status_page.specs.declared.snapshot.RecordState.{RecordState}
 use Rattle.status_page.specs.declared.snapshot.Snapshot.{Snapshot}
 use Rattle.status_page.specs.Record.{record_datagrams, record_text}
+use Rattle.status_page.specs.declared.fields.Number.{Number}
+use Rattle.status_page.specs.declared.fields.Number.TheVariants as Shown
 use Rattle.status_page.specs.declared.fields.path.PathField.{PathField}
 use Rattle.status_page.specs.declared.fields.stream.StreamField.{StreamField}
 use Rattle.status_page.specs.declared.fields.output.OutputField.{OutputField}
 use Rattle.status_page.specs.declared.fields.path.TheConstants.{PATH_FIELDS}
-use Rattle.status_page.specs.declared.fields.stream.StreamField.TheVariants.{Count, Latency}
+use Rattle.status_page.specs.declared.fields.stream.StreamField.TheVariants.{Count, Latency, SecondsLeft}
 use Rattle.rtp_stream.specs.declared.count_field.CountField.{CountField}
 use Rattle.rtp_stream.specs.declared.count_field.TheConstants.{COUNT_FIELDS}
 use Rattle.status_page.specs.declared.fields.output.TheConstants.{OUTPUT_FIELDS}
@@ -29,6 +31,12 @@ abbrev pub known_token : Option ℕ → Token
 known_token None = null
 known_token (Some value) = number_token value
 
+-- a count, or a change with its sign, or null where it isn't known
+abbrev pub shown_token : Option Number → Token
+shown_token None = null
+shown_token (Some (Shown.Count value)) = number_token value
+shown_token (Some (Shown.Change value)) = number (signed_decimal value)
+
 -- a name, or null
 abbrev pub name_token : Option ArrayString → Token
 name_token None = null
@@ -37,15 +45,19 @@ name_token (Some name) = string name.bytes
 -- the numbers of a path, each behind its key
 unfoldable pub path_members : List PathField → PathState → List Token
 path_members [] path = []
-path_members (field ∷ fields) path = key (path_key field) ∷ known_token (path_value field path) ∷ path_members fields path
+path_members (field ∷ fields) path = key (path_key field) ∷ shown_token (path_value field path) ∷ path_members fields path
 
 -- a number of a stream, behind its key
 abbrev pub stream_member : StreamField → StreamState → List Token
-stream_member field stream = key (stream_key field) ∷ number_token (stream_value field stream) ∷ []
+stream_member field stream = key (stream_key field) ∷ known_token (stream_value field stream) ∷ []
 
--- the numbers of a stream: these counts, and the latency
+-- the latency, and the time that is left
+abbrev pub last_members : StreamState → List Token
+last_members stream = stream_member Latency stream ++ stream_member SecondsLeft stream
+
+-- the numbers of a stream: these counts, the latency, and the time that is left
 unfoldable pub stream_members : List CountField → StreamState → List Token
-stream_members [] stream = stream_member Latency stream
+stream_members [] stream = last_members stream
 stream_members (count ∷ counts) stream = stream_member (Count count) stream ++ stream_members counts stream
 
 -- the numbers of an output channel, each behind its key

@@ -5,6 +5,15 @@ pub(crate) mod output;
 pub(crate) mod path;
 pub(crate) mod stream;
 
+/// A number that is shown.
+#[derive(Clone, Copy, Debug, PartialEq, Eq)]
+pub(crate) enum Number {
+    /// A number of things, or a time.
+    Count(u64),
+    /// A change, which may be negative.
+    Change(i64),
+}
+
 /// The kind of a number, as Prometheus has it.
 #[derive(Clone, Copy, Debug, PartialEq, Eq)]
 pub(crate) enum MetricKind {

@@ -35,6 +35,10 @@ pub struct CopyCounts {
     pub unlike: u64,
     /// The packets that arrived after their deadlines.
     pub late: u64,
+    /// The packets that arrived too early for the window.
+    pub ahead: u64,
+    /// The packets that the path brought last, one after another, that are late and repeat numbers which were heard.
+    pub repeated: u64,
 }
 
 /// The state of the socket of a path. A number that the run does not know is `None`.
@@ -66,6 +70,13 @@ pub struct PathState {
     pub spare: Option<ArrivalMargin>,
     /// The state of the path's socket.
     pub socket: Option<SocketState>,
+    /// The drift of the arrival margin over the last minute, in parts per million. It is positive if packets come
+    /// earlier and earlier. `None` if fewer than ten seconds of the minute had packets in time.
+    pub drift: Option<i64>,
+    /// True if every packet of the last two seconds was late or too early, and there was one.
+    pub is_astray: bool,
+    /// True if the last 64 packets repeat numbers that were heard, while no path of the stream is in time.
+    pub is_repeating: bool,
 }
 
 impl Default for PathState {
@@ -80,6 +91,9 @@ impl Default for PathState {
             copies: None,
             spare: None,
             socket: None,
+            drift: None,
+            is_astray: false,
+            is_repeating: false,
         }
     }
 }
@@ -93,6 +107,9 @@ pub struct StreamState {
     pub condition: Condition,
     /// The time from a packet's media time to its deadline, in sampling instants at 48 kHz.
     pub latency: u64,
+    /// The time in seconds until packets will be late or too early, at the drift of the path with the most time left.
+    /// `None` if no path's drift is known.
+    pub seconds_left: Option<u64>,
     /// The counts of the stream's merge.
     pub counts: Counts,
     /// The state of each path, in their order.
@@ -108,6 +125,7 @@ impl Default for StreamState {
             name: None,
             condition: Condition::NoPacket,
             latency: 0,
+            seconds_left: None,
             counts: Counts::new(),
             paths: ArrayVec::new(),
         }

@@ -112,7 +112,7 @@ fn push_socket_losses(text: &mut TextBuffer, socket: &SocketState)
 }
 
 /// Returns `1` if something holds, and `0` otherwise.
-fn flag_text(holds: bool) -> &'static str
+pub(crate) fn flag_text(holds: bool) -> &'static str
     ensures text { result.now ≡ flag_text holds }
     ensures one { length result.now ≡ 1 }
 {
@@ -120,7 +120,7 @@ fn flag_text(holds: bool) -> &'static str
 }
 
 /// Adds a number, or a dash if it is not known.
-fn push_known(text: &mut TextBuffer, number: Option<u64>)
+pub(crate) fn push_known(text: &mut TextBuffer, number: Option<u64>)
     requires { length text.old + 40 ≤ 65536 }
     ensures text { text.new ≡ text.old ++ known_text number }
     ensures few { length text.new ≤ length text.old + 40 }

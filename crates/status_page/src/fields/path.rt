@@ -1,8 +1,17 @@
 //! The numbers of a path.
 ghost use Rattle.std.specs.Prelude.{◌≡◌};
-ghost use Rattle.status_page.specs.Fields.{flag, path_help, path_key, path_kind, path_value};
+ghost use Rattle.status_page.specs.Fields.{
+  counted,
+  flag,
+  known_flag,
+  path_count,
+  path_help,
+  path_key,
+  path_kind,
+  path_value,
+};
 
-use crate::fields::MetricKind;
+use crate::fields::{MetricKind, Number};
 use crate::snapshot::PathState;
 
 /// A number of a path. `help` describes each.
@@ -15,12 +24,18 @@ pub(crate) enum PathField {
     Double,
     Unlike,
     Late,
+    Ahead,
+    Repeated,
     Bad,
     WrongType,
     WrongLength,
     Full,
     SpareLeast,
     SpareMedian,
+    SpareGreatest,
+    Drift,
+    Astray,
+    Repeating,
     Unexpected,
     SocketFaults,
     SocketEnded,
@@ -28,7 +43,7 @@ pub(crate) enum PathField {
 }
 
 /// The numbers of a path, in the order in which they are shown.
-pub(crate) const PATH_FIELDS: [PathField; 17] = [
+pub(crate) const PATH_FIELDS: [PathField; 23] = [
     PathField::Datagrams,
     PathField::First,
     PathField::Sent,
@@ -36,12 +51,18 @@ pub(crate) const PATH_FIELDS: [PathField; 17] = [
     PathField::Double,
     PathField::Unlike,
     PathField::Late,
+    PathField::Ahead,
+    PathField::Repeated,
     PathField::Bad,
     PathField::WrongType,
     PathField::WrongLength,
     PathField::Full,
     PathField::SpareLeast,
     PathField::SpareMedian,
+    PathField::SpareGreatest,
+    PathField::Drift,
+    PathField::Astray,
+    PathField::Repeating,
     PathField::Unexpected,
     PathField::SocketFaults,
     PathField::SocketEnded,
@@ -61,12 +82,18 @@ impl PathField {
             PathField::Double => "double",
             PathField::Unlike => "unlike",
             PathField::Late => "late",
+            PathField::Ahead => "ahead",
+            PathField::Repeated => "repeated",
             PathField::Bad => "bad",
             PathField::WrongType => "wrong_type",
             PathField::WrongLength => "wrong_length",
             PathField::Full => "full",
             PathField::SpareLeast => "spare_least",
             PathField::SpareMedian => "spare_median",
+            PathField::SpareGreatest => "spare_greatest",
+            PathField::Drift => "drift_ppm",
+            PathField::Astray => "astray",
+            PathField::Repeating => "repeating",
             PathField::Unexpected => "unexpected",
             PathField::SocketFaults => "socket_faults",
             PathField::SocketEnded => "socket_ended",
@@ -79,9 +106,14 @@ impl PathField {
         ensures { result ≡ path_kind self }
     {
         match self {
-            PathField::SpareLeast | PathField::SpareMedian | PathField::SocketEnded => {
-                MetricKind::Gauge
-            }
+            PathField::Repeated
+            | PathField::SpareLeast
+            | PathField::SpareMedian
+            | PathField::SpareGreatest
+            | PathField::Drift
+            | PathField::Astray
+            | PathField::Repeating
+            | PathField::SocketEnded => MetricKind::Gauge,
             _ => MetricKind::Counter,
         }
     }
@@ -100,6 +132,9 @@ impl PathField {
             PathField::Double => "Further copies, with the payload of the first.",
             PathField::Unlike => "Further copies, with another payload than the first.",
             PathField::Late => "Packets that came after their deadline.",
+            PathField::Ahead => "Packets that came too early for the window.",
+            PathField::Repeated =>
+                "Packets in a row, up to the last one, that came late and repeat numbers which were heard.",
             PathField::Bad => "Datagrams that were no RTP packets.",
             PathField::WrongType => "Datagrams of another payload type.",
             PathField::WrongLength => "Datagrams of another length.",
@@ -108,6 +143,14 @@ impl PathField {
                 "The least time before its deadline that a packet of the last second came, in periods of 48 kHz.",
             PathField::SpareMedian =>
                 "The median time before their deadlines that packets of the last second came, in periods of 48 kHz; past 6138 it may be more.",
+            PathField::SpareGreatest =>
+                "The greatest time before its deadline that a packet of the last second came, in periods of 48 kHz.",
+            PathField::Drift =>
+                "The drift of the least arrival margin over the last minute, in parts per million; above 0 if packets come earlier and earlier.",
+            PathField::Astray =>
+                "1 if every packet of the last two seconds was late or too early, and 0 otherwise.",
+            PathField::Repeating =>
+                "1 if the last 64 packets repeat numbers that were heard, while no path of the stream is in time, and 0 otherwise.",
             PathField::Unexpected => "Datagrams from other addresses than the path's source.",
             PathField::SocketFaults => "Receives that failed at the path's socket.",
             PathField::SocketEnded =>
@@ -118,8 +161,18 @@ impl PathField {
     }
 
     /// Returns the number's value, or `None` if it is not known.
-    pub(crate) fn value(self, path: &PathState) -> Option<u64>
+    pub(crate) fn value(self, path: &PathState) -> Option<Number>
         ensures { result ≡ path_value self path.now }
+    {
+        match self {
+            PathField::Drift => path.drift.map(|ppm| Number::Change(ppm)),
+            _ => counted(self.count(path)),
+        }
+    }
+
+    /// Returns the number's value if it is a count, or `None` if it is not known.
+    fn count(self, path: &PathState) -> Option<u64>
+        ensures { result ≡ path_count self path.now }
     {
         match self {
             PathField::Datagrams => Some(path.datagrams),
@@ -129,6 +182,8 @@ impl PathField {
             PathField::Double => path.copies.map(|copies| copies.double),
             PathField::Unlike => path.copies.map(|copies| copies.unlike),
             PathField::Late => path.copies.map(|copies| copies.late),
+            PathField::Ahead => path.copies.map(|copies| copies.ahead),
+            PathField::Repeated => path.copies.map(|copies| copies.repeated),
             PathField::Bad => path.counts.map(|counts| counts.bad),
             PathField::WrongType => path.counts.map(|counts| counts.wrong_type),
             PathField::WrongLength => path.counts.map(|counts| counts.wrong_length),
@@ -138,6 +193,10 @@ impl PathField {
             PathField::SpareMedian => path
                 .spare
                 .map(|spare| u64::from(spare.median.max(spare.least))),
+            PathField::SpareGreatest => path.spare.map(|spare| u64::from(spare.greatest)),
+            PathField::Drift => None,
+            PathField::Astray => known_flag(path, path.is_astray),
+            PathField::Repeating => known_flag(path, path.is_repeating),
             PathField::Unexpected => path.socket.and_then(|socket| socket.unexpected),
             PathField::SocketFaults => path.socket.map(|socket| socket.faults),
             PathField::SocketEnded => path.socket.map(|socket| flag(socket.has_ended)),
@@ -151,4 +210,24 @@ pub(crate) fn flag(holds: bool) -> u64
     ensures { result ≡ flag holds }
 {
     if holds { 1 } else { 0 }
+}
+
+/// Returns the flag of a path whose copies are counted, and `None` for any other path.
+fn known_flag(path: &PathState, holds: bool) -> Option<u64>
+    ensures { result ≡ known_flag path.now holds }
+{
+    match path.copies {
+        Some(_) => Some(flag(holds)),
+        None => None,
+    }
+}
+
+/// Returns a count as a number.
+pub(crate) fn counted(count: Option<u64>) -> Option<Number>
+    ensures { result ≡ counted count }
+{
+    match count {
+        Some(count) => Some(Number::Count(count)),
+        None => None,
+    }
 }

@@ -12,6 +12,7 @@ use rtp_stream::CountField;
 pub(crate) enum StreamField {
     Count(CountField),
     Latency,
+    SecondsLeft,
 }
 
 impl StreamField {
@@ -22,6 +23,7 @@ impl StreamField {
         match self {
             StreamField::Count(count) => count.key(),
             StreamField::Latency => "latency",
+            StreamField::SecondsLeft => "seconds_left",
         }
     }
 
@@ -31,7 +33,7 @@ impl StreamField {
     {
         match self {
             StreamField::Count(_) => MetricKind::Counter,
-            StreamField::Latency => MetricKind::Gauge,
+            StreamField::Latency | StreamField::SecondsLeft => MetricKind::Gauge,
         }
     }
 
@@ -43,16 +45,19 @@ impl StreamField {
             StreamField::Count(count) => count.help(),
             StreamField::Latency =>
                 "From a packet's media time to its deadline, in periods of 48 kHz.",
+            StreamField::SecondsLeft =>
+                "Seconds until packets will be late or too early, at the drift of the path with the most time left; 31536000 (a year) is the most.",
         }
     }
 
-    /// Returns the number's value.
-    pub(crate) fn value(self, stream: &StreamState) -> u64
+    /// Returns the number's value, or `None` if it is not known.
+    pub(crate) fn value(self, stream: &StreamState) -> Option<u64>
         ensures { result ≡ stream_value self stream.now }
     {
         match self {
-            StreamField::Count(count) => count.of(&stream.counts),
-            StreamField::Latency => stream.latency,
+            StreamField::Count(count) => Some(count.of(&stream.counts)),
+            StreamField::Latency => Some(stream.latency),
+            StreamField::SecondsLeft => stream.seconds_left,
         }
     }
 }

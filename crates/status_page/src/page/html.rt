@@ -71,7 +71,7 @@ tr.silent td:first-child { font-weight: 700; }
 .spare i { position: absolute; inset: 0 auto 0 0; background: var(--bar); opacity: .55; }
 .spare b { position: absolute; inset: 0 auto 0 0; background: var(--bar); }
 .note { margin: 1px 0 0; color: var(--soft); overflow: hidden; text-overflow: ellipsis; white-space: nowrap; min-height: 1.3em; }
-.note.warn { color: var(--warn); }
+.note.warn { color: var(--warn); } .note.bad { color: var(--bad); }
 </style>
 </head>
 <body>
@@ -86,7 +86,7 @@ tr.silent td:first-child { font-weight: 700; }
 "use strict";
 const LETTERS = ["a", "b", "c", "d"];
 const FULL_SCALE = 8388608, RATE = 48000, FLOOR = -60;
-const ASK_EVERY = 100, RATE_SPAN = 1000, HOLD = 2000, BINS = 60;
+const ASK_EVERY = 100, RATE_SPAN = 1000, HOLD = 2000, BINS = 60, LEFT_SOON = 600;
 const CONDITIONS = {
   no_packet: ["\u25cb no packet yet", "soft"],
   running: ["\u25cf running", "good"],
@@ -146,6 +146,7 @@ const count = n => n < 99999.5 ? exact(n) : few.format(n);
 const known = (n, text) => n === null ? "\u2013" : text(n);
 const millis = n => (1000 * n / RATE).toFixed(n < 4800 ? 1 : 0);
 const decibels = peak => peak > 0 ? 20 * Math.log10(peak / FULL_SCALE) : -Infinity;
+const signed = n => (n > 0 ? "+" : "") + exact(n).replace("-", "\u2212");
 const level = db => db === -Infinity ? "\u2212\u221e" : db.toFixed(1).replace("-", "\u2212");
 
 // ---- the elements of a studio, built once
@@ -197,13 +198,13 @@ function buildStream(parent, stream, n) {
   strip.setAttribute("role", "img");
   const table = make("table", box);
   const head = make("tr", make("thead", table));
-  for (const word of ["path", "pk/s", "lost", "first", "double", "late", "spare ms: least, median"]) {
+  for (const word of ["path", "pk/s", "lost", "first", "double", "late", "spare ms: least, median, drift ppm"]) {
     make("th", head, "", word).scope = "col";
   }
   const body = make("tbody", table);
   const paths = stream.paths.map((_, path) => buildPath(body, LETTERS[path]));
-  const note = make("p", box, "note"), sockets = make("p", box, "note");
-  return { box, word, epoch, counts, strip, paths, note, sockets, bins: [] };
+  const note = make("p", box, "note"), sockets = make("p", box, "note"), astray = make("p", box, "note bad");
+  return { box, word, epoch, counts, strip, paths, note, sockets, astray, bins: [] };
 }
 
 function buildPath(body, letter) {
@@ -288,7 +289,8 @@ function drawStream(it, stream, old, last, seconds, now, nets) {
   show(it.word, word);
   style(it.word, "right word " + kind);
   mark(it.box, "lost", stream.state === "lost");
-  show(it.epoch, "epoch " + exact(stream.restarts));
+  show(it.epoch, "epoch " + exact(stream.restarts) + timeLeft(stream.seconds_left));
+  style(it.epoch, stream.seconds_left !== null && stream.seconds_left < LEFT_SOON ? "warn" : "soft");
   fill(it.bins, stream.got - last.got, stream.lost - last.lost, now);
   const lately = it.bins.reduce((sum, bin) => sum + bin.lost, 0);
   show(it.counts, "got " + exact(stream.got) + "  lost " + exact(stream.lost) + (lately > 0 ? " (" + count(lately) + " in 60 s)" : ""));
@@ -303,6 +305,26 @@ function drawStream(it, stream, old, last, seconds, now, nets) {
   show(it.note, words.length > 0 ? "refused: " + words.join(", ") : none);
   style(it.note, words.length > 0 ? "note warn" : "note");
   drawSockets(it.sockets, stream);
+  drawAstray(it.astray, stream, old);
+}
+
+// the time until packets will be late or too early, if it is less than a day
+function timeLeft(seconds) {
+  if (seconds === null || seconds >= 86400) return "";
+  return ", " + (seconds < 120 ? exact(seconds) + " s" : seconds < 7200 ? exact(seconds / 60) + " min" : exact(seconds / 3600) + " h") + " left";
+}
+
+// paths of which no packet is in time, with what to do; no line without any
+function drawAstray(line, stream, old) {
+  const words = [];
+  stream.paths.forEach((path, n) => {
+    const early = path.ahead - old.paths[n].ahead > path.late - old.paths[n].late;
+    if (path.repeating > 0) words.push(LETTERS[n] + " repeats numbers that were heard: start its sender with other numbers, or this run again");
+    else if (path.astray > 0) words.push(LETTERS[n] + (early ? ": all packets too early: larger window" : ": all packets late: more latency") + ", or clock = \"follow\"");
+  });
+  show(line, words.join("; "));
+  line.title = words.join("; ");
+  set(line, "display", words.length > 0 ? "block" : "none");
 }
 
 // the faults of a stream's sockets, and what the system dropped there; no line without any
@@ -355,7 +377,7 @@ function drawPath(it, stream, path, old, taken, seconds) {
   style(it.cells.late, path.late > old.late ? "bad word" : path.late > 0 ? "warn" : "");
   const spares = path.spare_least !== null;
   set(it.bar, "display", spares ? "inline-block" : "none");
-  show(it.spare, spares ? millis(path.spare_least) + ", " + millis(path.spare_median) : path.lost === null ? "\u2013" : "none in time");
+  show(it.spare, spares ? millis(path.spare_least) + ", " + millis(path.spare_median) + ", " + known(path.drift_ppm, signed) : path.lost === null ? "\u2013" : "none in time");
   if (spares) {
     width(it.least, path.spare_least / stream.latency);
     width(it.median, path.spare_median / stream.latency);

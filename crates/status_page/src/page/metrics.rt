@@ -8,6 +8,7 @@ ghost use Rattle.status_page.specs.Metrics.{
   all_condition_samples,
   output_samples,
   stream_family,
+  last_families,
   stream_families,
   path_families,
   output_families,
@@ -101,7 +102,7 @@ fn push_condition_samples(
     Ok(())
 }
 
-/// Appends the metrics of the streams: these counts, and the latency.
+/// Appends the metrics of the streams: these counts, the latency, and the time that is left.
 #[tactic(auto, unfolding(crate::specs::Metrics::stream_families))]
 fn push_stream_families(
     text: &mut Vec<u8>,
@@ -113,7 +114,15 @@ fn push_stream_families(
     for count in counts {
         push_stream_family(text, StreamField::Count(*count), streams)?;
     }
-    push_stream_family(text, StreamField::Latency, streams)
+    push_last_families(text, streams)
+}
+
+/// Appends the metrics of the latency, and of the time that is left.
+fn push_last_families(text: &mut Vec<u8>, streams: &[StreamState]) -> Result<(), AllocError>
+    ensures { OnOk result (text.new.items ≡ text.old.items ++ last_families streams.now) }
+{
+    push_stream_family(text, StreamField::Latency, streams)?;
+    push_stream_family(text, StreamField::SecondsLeft, streams)
 }
 
 /// Appends the metric of one number of the streams.
@@ -138,7 +147,7 @@ fn push_stream_samples(
     ensures { OnOk result (text.new.items ≡ text.old.items ++ stream_samples field 0 streams.now) }
 {
     for (number, stream) in streams.iter().enumerate() {
-        push_stream_sample(text, field, number, stream)?;
+        push_stream_sample(text, field, number, stream, field.value(stream))?;
     }
     Ok(())
 }

@@ -1,23 +1,25 @@
 //! The lines of `/metrics`.
 ghost use Rattle.std.specs.Prelude.{◌≡◌, ◌++◌, OnOk};
 ghost use Rattle.status_page.specs.Metrics.{
+  change_text,
   name_label,
   failed_sample,
   record_sample,
   recorded_sample,
   stream_labels,
   value_text,
+  shown_text,
   stream_sample,
   path_sample,
   condition_sample,
   output_sample,
 };
 
-use crate::fields::MetricKind;
 use crate::fields::output::OutputField;
 use crate::fields::path::PathField;
 use crate::fields::stream::StreamField;
-use crate::page::text::{push, push_label, push_metric, push_number};
+use crate::fields::{MetricKind, Number};
+use crate::page::text::{push, push_label, push_metric, push_number, push_signed};
 use crate::snapshot::{Condition, OutputState, RecordState, StreamName, StreamState};
 use rtp_stream::Path;
 use std::alloc::AllocError;
@@ -56,19 +58,43 @@ fn push_value(text: &mut Vec<u8>, value: u64) -> Result<(), AllocError>
     push(text, "\n")
 }
 
-/// Appends the line with a number of a stream.
+/// Appends the end of a line: the end of the labels, and a value with its sign.
+#[tactic(auto, unfolding(crate::specs::Metrics::change_text))]
+fn push_change(text: &mut Vec<u8>, value: i64) -> Result<(), AllocError>
+    ensures { OnOk result (text.new.items ≡ text.old.items ++ change_text value) }
+{
+    push(text, "} ")?;
+    push_signed(text, value)?;
+    push(text, "\n")
+}
+
+/// Appends the end of a line: the end of the labels, and a count or a change.
+fn push_shown(text: &mut Vec<u8>, value: Number) -> Result<(), AllocError>
+    ensures { OnOk result (text.new.items ≡ text.old.items ++ shown_text value) }
+{
+    match value {
+        Number::Count(value) => push_value(text, value),
+        Number::Change(value) => push_change(text, value),
+    }
+}
+
+/// Appends the line with a number of a stream. Appends nothing if the number is not known.
 #[tactic(auto, unfolding(crate::specs::Metrics::stream_sample))]
 pub(crate) fn push_stream_sample(
     text: &mut Vec<u8>,
     field: StreamField,
     number: usize,
     stream: &StreamState,
+    value: Option<u64>,
 ) -> Result<(), AllocError>
-    ensures { OnOk result (text.new.items ≡ text.old.items ++ stream_sample field number stream.now) }
+    ensures { OnOk result (text.new.items ≡ text.old.items ++ stream_sample field number stream.now value) }
 {
+    let Some(value) = value else {
+        return Ok(());
+    };
     push_metric(text, "stream_", field.key(), field.kind())?;
     push_labels(text, number, stream)?;
-    push_value(text, field.value(stream))
+    push_value(text, value)
 }
 
 /// Appends the line with a number of a path. Appends nothing if the number is not known.
@@ -79,7 +105,7 @@ pub(crate) fn push_path_sample(
     number: usize,
     stream: &StreamState,
     path: Path,
-    value: Option<u64>,
+    value: Option<Number>,
 ) -> Result<(), AllocError>
     ensures { OnOk result (text.new.items ≡ text.old.items ++ path_sample field number stream.now path value) }
 {
@@ -91,7 +117,7 @@ pub(crate) fn push_path_sample(
     push(text, ",path=\"")?;
     push(text, path.letter())?;
     push(text, "\"")?;
-    push_value(text, value)
+    push_shown(text, value)
 }
 
 /// Appends the line for a condition of a stream, with 1 if it is the stream's condition and 0 otherwise.

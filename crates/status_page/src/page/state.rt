@@ -6,8 +6,10 @@ ghost use Rattle.json.specs.Token.{key, string};
 ghost use Rattle.status_page.specs.State.{
   array_tokens,
   known_token,
+  last_members,
   name_token,
   path_members,
+  shown_token,
   stream_member,
   stream_members,
   output_members,
@@ -24,6 +26,7 @@ ghost use Rattle.status_page.specs.State.{
   state_tokens,
 };
 
+use crate::fields::Number;
 use crate::fields::output::{OUTPUT_FIELDS, OutputField};
 use crate::fields::path::{PATH_FIELDS, PathField};
 use crate::fields::stream::StreamField;
@@ -106,7 +109,7 @@ fn write_name(writer: &mut Writer, name: &Option<StreamName>) -> Result<(), Allo
     }
 }
 
-/// Writes the numbers of a stream: these counts, and the latency.
+/// Writes the numbers of a stream: these counts, the latency, and the time that is left.
 #[tactic(auto, unfolding(crate::specs::State::stream_members))]
 fn write_stream_members(
     writer: &mut Writer,
@@ -119,7 +122,16 @@ fn write_stream_members(
     for count in counts {
         write_stream_member(writer, StreamField::Count(*count), stream)?;
     }
-    write_stream_member(writer, StreamField::Latency, stream)
+    write_last_members(writer, stream)
+}
+
+/// Writes the latency of a stream, and the time that is left.
+fn write_last_members(writer: &mut Writer, stream: &StreamState) -> Result<(), AllocError>
+    ensures tokens { OnOk result (writer.new.tokens ≡ writer.old.tokens ++ last_members stream.now) }
+    ensures before { OnOk result (writer.new.before ≡ writer.old.before) }
+{
+    write_stream_member(writer, StreamField::Latency, stream)?;
+    write_stream_member(writer, StreamField::SecondsLeft, stream)
 }
 
 /// Writes a number of a stream.
@@ -132,7 +144,7 @@ fn write_stream_member(
     ensures before { OnOk result (writer.new.before ≡ writer.old.before) }
 {
     writer.key(field.key())?;
-    writer.u64(field.value(stream))
+    write_known(writer, field.value(stream))
 }
 
 /// Writes the member with the paths of a stream.
@@ -181,9 +193,21 @@ fn write_path_members(
 {
     for field in fields {
         writer.key(field.key())?;
-        write_known(writer, field.value(path))?;
+        write_shown(writer, field.value(path))?;
     }
     Ok(())
+}
+
+/// Writes a number with its sign, or null if it is not known.
+fn write_shown(writer: &mut Writer, value: Option<Number>) -> Result<(), AllocError>
+    ensures tokens { OnOk result (writer.new.tokens ≡ writer.old.tokens ++ shown_token value ∷ []) }
+    ensures before { OnOk result (writer.new.before ≡ writer.old.before) }
+{
+    match value {
+        Some(Number::Count(value)) => writer.u64(value),
+        Some(Number::Change(value)) => writer.i64(value),
+        None => writer.null(),
+    }
 }
 
 /// Writes a number, or null if it is not known.

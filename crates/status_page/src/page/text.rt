@@ -1,5 +1,6 @@
 //! The pieces of the text form of Prometheus, each appended to a text.
 ghost use Rattle.std.specs.Prelude.{◌≡◌, ◌++◌, OnOk, decimal};
+ghost use Rattle.std.specs.Fmt.{signed_decimal};
 ghost use Rattle.status_page.specs.Metrics.{label_octet, label_text, suffix, metric_text, kind_text, header_text};
 
 use crate::fields::MetricKind;
@@ -15,6 +16,14 @@ pub(crate) fn push(text: &mut Vec<u8>, piece: &str) -> Result<(), AllocError>
 /// Appends a number in decimal digits.
 pub(crate) fn push_number(text: &mut Vec<u8>, number: u64) -> Result<(), AllocError>
     ensures { OnOk result (text.new.items ≡ text.old.items ++ decimal number) }
+{
+    let mut digits = itoa::Buffer::new();
+    push(text, digits.format(number))
+}
+
+/// Appends a number in decimal digits, with a minus sign if it is negative.
+pub(crate) fn push_signed(text: &mut Vec<u8>, number: i64) -> Result<(), AllocError>
+    ensures { OnOk result (text.new.items ≡ text.old.items ++ signed_decimal number) }
 {
     let mut digits = itoa::Buffer::new();
     push(text, digits.format(number))

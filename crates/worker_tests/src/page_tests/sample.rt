@@ -18,7 +18,7 @@ fn path_counts() -> PathCounts {
     counts
 }
 
-/// A path whose packets came 12 and 30 sampling instants before their deadlines, and which was given up since.
+/// A path whose packets came 12 to 36 sampling instants before their deadlines, and which was given up since.
 fn heard_path() -> PathState {
     PathState {
         datagrams: 2,
@@ -29,6 +29,8 @@ fn heard_path() -> PathState {
             double: 5,
             unlike: 6,
             late: 7,
+            ahead: 15,
+            repeated: 16,
         }),
         spare: Some(ArrivalMargin {
             second: 17,
@@ -36,6 +38,9 @@ fn heard_path() -> PathState {
             median: 30,
             greatest: 36,
         }),
+        drift: Some(-18),
+        is_astray: true,
+        is_repeating: false,
         socket: Some(SocketState {
             faults: 8,
             has_ended: true,
@@ -58,6 +63,7 @@ fn stream() -> StreamState {
     stream.name = StreamName::from(NAME).ok();
     stream.condition = Condition::Running;
     stream.latency = 240;
+    stream.seconds_left = Some(19);
     stream.counts = counts();
     let _ = stream.paths.try_push(heard_path());
     let _ = stream.paths.try_push(PathState::default());

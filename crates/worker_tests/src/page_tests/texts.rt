@@ -8,11 +8,11 @@ use std::process::Abort;
 pub(super) const STATE: &str =
     "{\"streams\":[{\"name\":\"L\\\"\\\\\\n<b>\",\"state\":\"running\",\"got\":0,\"lost\":1,\
     \"arrived\":0,\"taken\":0,\"double\":0,\"unlike\":0,\"off_grid\":0,\"late\":0,\"ahead\":0,\"wrong_source\":0,\
-    \"restarts\":0,\"latency\":240,\"paths\":[{\"datagrams\":2,\"first\":3,\"packets\":0,\"lost\":4,\
-    \"double\":5,\"unlike\":6,\"late\":7,\"bad\":0,\"wrong_type\":0,\"wrong_length\":0,\"full\":2,\"spare_least\":12,\
-    \"spare_median\":30,\"unexpected\":null,\"socket_faults\":8,\"socket_ended\":1,\"socket_dropped\":9},{\"datagrams\":0,\"first\":0,\"packets\":null,\"lost\":null,\"double\":null,\"unlike\":null,\
-    \"late\":null,\"bad\":null,\"wrong_type\":null,\"wrong_length\":null,\"full\":null,\"spare_least\":null,\
-    \"spare_median\":null,\"unexpected\":null,\"socket_faults\":null,\"socket_ended\":null,\"socket_dropped\":null}]}],\
+    \"restarts\":0,\"latency\":240,\"seconds_left\":19,\"paths\":[{\"datagrams\":2,\"first\":3,\"packets\":0,\"lost\":4,\
+    \"double\":5,\"unlike\":6,\"late\":7,\"ahead\":15,\"repeated\":16,\"bad\":0,\"wrong_type\":0,\"wrong_length\":0,\"full\":2,\"spare_least\":12,\
+    \"spare_median\":30,\"spare_greatest\":36,\"drift_ppm\":-18,\"astray\":1,\"repeating\":0,\"unexpected\":null,\"socket_faults\":8,\"socket_ended\":1,\"socket_dropped\":9},{\"datagrams\":0,\"first\":0,\"packets\":null,\"lost\":null,\"double\":null,\"unlike\":null,\
+    \"late\":null,\"ahead\":null,\"repeated\":null,\"bad\":null,\"wrong_type\":null,\"wrong_length\":null,\"full\":null,\"spare_least\":null,\
+    \"spare_median\":null,\"spare_greatest\":null,\"drift_ppm\":null,\"astray\":null,\"repeating\":null,\"unexpected\":null,\"socket_faults\":null,\"socket_ended\":null,\"socket_dropped\":null}]}],\
     \"outputs\":[{\"peak\":8388608,\"saturated\":2},{\"peak\":0,\"saturated\":2}],\
     \"failed_sends\":[11,13],\"record\":{\"state\":\"ended\",\"datagrams\":14}}";
 
@@ -21,7 +21,7 @@ const EMPTY: &str = "{\"streams\":[],\"outputs\":[],\"failed_sends\":[0,0],\
     \"record\":{\"state\":\"none\",\"datagrams\":null}}";
 
 /// Parts of its metrics.
-const METRICS: [&str; 12] = [
+const METRICS: [&str; 15] = [
     "# HELP darbexum_stream_state Where the stream stands: 1 for the state that it is in, and 0 for the others.\n\
     # TYPE darbexum_stream_state gauge\n\
     darbexum_stream_state{stream=\"0\",name=\"L\\\"\\\\\\n<b>\",state=\"no_packet\"} 0\n\
@@ -33,6 +33,10 @@ const METRICS: [&str; 12] = [
     darbexum_path_first_total{stream=\"0\",name=\"L\\\"\\\\\\n<b>\",path=\"b\"} 0\n",
     "darbexum_path_full_total{stream=\"0\",name=\"L\\\"\\\\\\n<b>\",path=\"a\"} 2\n# HELP ",
     "darbexum_path_spare_least{stream=\"0\",name=\"L\\\"\\\\\\n<b>\",path=\"a\"} 12\n# HELP ",
+    "# TYPE darbexum_path_drift_ppm gauge\n\
+    darbexum_path_drift_ppm{stream=\"0\",name=\"L\\\"\\\\\\n<b>\",path=\"a\"} -18\n# HELP ",
+    "darbexum_path_astray{stream=\"0\",name=\"L\\\"\\\\\\n<b>\",path=\"a\"} 1\n# HELP ",
+    "# TYPE darbexum_stream_seconds_left gauge\ndarbexum_stream_seconds_left{stream=\"0\",name=\"L\\\"\\\\\\n<b>\"} 19\n",
     "# TYPE darbexum_output_peak gauge\ndarbexum_output_peak{output=\"0\"} 8388608\ndarbexum_output_peak{output=\"1\"} 0\n",
     "# TYPE darbexum_output_saturated_total counter\ndarbexum_output_saturated_total{output=\"0\"} 2\n",
     "# TYPE darbexum_path_unexpected_total counter\n# HELP darbexum_path_socket_faults_total ",

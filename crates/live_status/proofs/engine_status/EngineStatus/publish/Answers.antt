@@ -39,5 +39,5 @@ returns-clause-shown g c =
         outputs = subst (λ (l : List OutputState). AreEach (IsEngineOutput engine) (replicate publisher.channels blank_output) l) (sym all)
             (subst (λ (l : List OutputState). AreEach (IsEngineOutput engine) l outputs) c.blank_snapshot-snapshot.ensures.outputs heard);
       },
-      subst (λ (now : ℤ). Shows publisher.streams.items now c.args.has_ended filled publisher.page c.publish.new.self.page) time c.publish.ensures.shown,
+      subst (λ (now : ℤ). Shows publisher.watches.items publisher.streams.items now c.args.has_ended filled publisher.page c.publish.new.self.page) time c.publish.ensures.shown,
     )

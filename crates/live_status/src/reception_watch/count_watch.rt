@@ -1,0 +1,43 @@
+//! A count, and since when it is what it is.
+ghost use Rattle.std.specs.Prelude.{◌≡◌};
+ghost use Rattle.live_status.specs.Watch.{count_after, is_still};
+
+/// The time after which a count that stays stands still, in sampling instants: two seconds.
+const STILL_AFTER: i64 = 96_000;
+
+/// A count of packets, and the time since which no packet was added.
+#[derive(Clone, Copy, Debug)]
+pub(crate) struct CountWatch {
+    count: u64,
+    /// The time of the first update with this count, in sampling instants.
+    since: i64,
+}
+
+impl CountWatch {
+    /// Returns the watch of a count that is 0 at the time `now`, in sampling instants.
+    pub(crate) fn new(now: i64) -> CountWatch
+        ensures { result ≡ record { count = 0; since = now } }
+    {
+        CountWatch {
+            count: 0,
+            since: now,
+        }
+    }
+
+    /// Notes the count at the time `now`, in sampling instants.
+    pub(crate) fn update(&mut self, now: i64, count: u64)
+        ensures { self.new ≡ count_after count now self.old }
+    {
+        if count != self.count {
+            self.count = count;
+            self.since = now;
+        }
+    }
+
+    /// Returns true if the count has stayed for two seconds at the time `now`, in sampling instants.
+    pub(crate) fn is_still(&self, now: i64) -> bool
+        ensures { result ≡ is_still self.now now }
+    {
+        now.saturating_sub(self.since) >= STILL_AFTER
+    }
+}
