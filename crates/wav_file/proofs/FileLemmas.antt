@@ -1,5 +1,5 @@
 -- A file's sizes at its end.
-use Rattle.std.proofs.Common.{◌≡◌, ◌+◌, ℕ, List, [], ◌++◌, Option, Some, None, Result, Ok, Err, OnOk, length, drop, refl, sym, ap, ◌∙◌, arith, append_assoc, append-nil, length-append}
+use Rattle.std.proofs.Common.{◌≡◌, ◌+◌, ℕ, List, [], ◌++◌, Option, Some, None, Result, Ok, Err, OnOk, OnErr, length, drop, refl, sym, ap, ◌∙◌, arith, append_assoc, append-nil, length-append}
 use Rattle.std.proofs.lemmas.List.{drop_at}
 use Rattle.std.specs.Io.KnownBytes.{Appends}
 use Rattle.wav_file.specs.declared.header.WavFormat.{WavFormat}
@@ -48,3 +48,7 @@ finished (Some x) (Some y) c wav octets begun p sizes =
 pub at_ok : {T E P Q : Type 0} (r : Result T E) → (P → Q) → OnOk r P → OnOk r Q
 at_ok (Ok value) follows holds = follows holds
 at_ok (Err fault) follows holds = tt
+
+pub at_err : {T E P Q : Type 0} (r : Result T E) → (P → Q) → OnErr r P → OnErr r Q
+at_err (Ok value) follows holds = tt
+at_err (Err fault) follows holds = follows holds

@@ -7,3 +7,5 @@ pub mod StreamRunLemmas
 pub mod MixRunLemmas
 pub mod MixWavLemmas
 pub mod StreamTrackLemmas
+pub mod PartLemmas
+pub mod StreamPartLemmas

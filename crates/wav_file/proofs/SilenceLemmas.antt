@@ -1,5 +1,5 @@
 -- Silence, chunk by chunk.
-use Rattle.std.proofs.Common.{◌≡◌, ◌≤◌, ◌+◌, ◌*◌, ℕ, zero, suc, List, ◌∷◌, length, take, replicate, Option, refl, ap, sym, ◌∙◌, subst, arith}
+use Rattle.std.proofs.Common.{◌≡◌, ◌≤◌, ◌+◌, ◌-◌, ◌*◌, ℕ, zero, suc, List, ◌∷◌, ◌++◌, length, take, drop, replicate, Option, refl, ap, sym, ◌∙◌, subst, arith, append_assoc, take-append-drop}
 use Rattle.std.proofs.lemmas.List.{length-replicate, replicate-append-replicate, take-replicate}
 use Rattle.std.specs.Io.KnownBytes.{Appends}
 use Rattle.std.proofs.KnownBytes.{Appends-trans}
@@ -9,7 +9,8 @@ use Rattle.rtp_wire.specs.Sample.{octets_per_sample}
 use Rattle.wav_file.specs.declared.header.WavFormat.{WavFormat}
 use Rattle.wav_file.specs.Header.{frame_length}
 use Rattle.wav_file.specs.Samples.{little_16, little_24, little_samples}
-use Rattle.wav_file.specs.File.{HasBroken, WavState}
+use Rattle.wav_file.specs.File.{WavState, silent_octets}
+use Rattle.wav_file.specs.PartFile.{HasPrefix}
 
 zeros_16 : (n : ℕ) → little_16 (replicate (n * 2) 0) ≡ replicate (n * 2) 0
 zeros_16 zero = refl
@@ -52,21 +53,40 @@ count_more old now count done n frame octets before next are =
     let long : length octets ≡ n * frame = ap length are ∙ length-replicate (n * frame) 0 in
     omega (arith, before, next, long)
 
--- a part of it
-pub silence_part : (m n : ℕ) → (k : ℕ) × (take m (replicate {A = ℕ} n 0) ≡ replicate k 0)
-silence_part zero n = (0, refl)
-silence_part (suc m) zero = (0, refl)
-silence_part (suc m) (suc n) = (suc (silence_part m n).0, ap (λ l. 0 ∷ l) (silence_part m n).1)
-
 -- the silence broke off in a chunk
-pub silence_broken : (a b c : Option (List ℕ)) (old now then : WavState) (done frame m n : ℕ) (octets : List ℕ) → now.count ≡ old.count + done * frame → now.format ≡ old.format
-    → Appends a b (replicate (done * frame) 0) → octets ≡ replicate (n * frame) 0 → Appends b c (take m octets) → then ≡ now → HasBroken a c old then
-silence_broken a b c old now then done frame m n octets count format before are part same =
-    let k = silence_part m (n * frame) in record {
-      counted = done * frame;
-      others = k.0;
-      count = ap (λ (w : WavState). w.count) same ∙ count;
-      format = ap (λ (w : WavState). w.format) same ∙ format;
-      wrote = subst (Appends a c) (replicate-append-replicate (done * frame) k.0 0)
-          (Appends-trans a b c (replicate (done * frame) 0) (replicate k.0 0) before (subst (Appends b c) (ap (take m) are ∙ k.1) part));
+pub silence_broken : (a b c : Option (List ℕ)) (old now then : WavState) (done frame m n instants : ℕ) (octets : List ℕ) → now.count ≡ old.count + done * frame → now.format ≡ old.format
+    → frame ≡ frame_length old.format → done + n ≤ instants
+    → Appends a b (replicate (done * frame) 0) → octets ≡ replicate (n * frame) 0 → Appends b c (take m octets) → then ≡ now → HasPrefix a c old then (silent_octets old.format instants)
+silence_broken a b c old now then done frame m n instants octets count format size within before are part same =
+    let front : List ℕ = replicate (done * frame) 0 in
+    let chunk : List ℕ = replicate (n * frame) 0 in
+    let others = (instants - (done + n)) * frame in
+    let behind : List ℕ = replicate others 0 in
+    let rest = take m chunk in
+    let left = drop m chunk in
+    let parts : instants ≡ (done + n) + (instants - (done + n)) = omega (arith, within) in
+    let sum : instants * frame ≡ done * frame + (n * frame + others) =
+    ap (λ k. k * frame) parts ∙ times_add (done + n) (instants - (done + n)) frame ∙ ap (λ k. k + others) (times_add done n frame) ∙ sums (done * frame) (n * frame) others in
+    let long : length front ≡ done * frame = length-replicate (done * frame) 0 in
+    record {
+      octets = front;
+      rest = rest;
+      left = left ++ behind;
+      all = ap (λ k. replicate (instants * k) 0) (sym size) ∙ ap (λ k. replicate k 0) sum
+          ∙ sym (replicate-append-replicate (done * frame) (n * frame + others) 0)
+          ∙ ap (λ l. front ++ l) (sym (replicate-append-replicate (n * frame) others 0))
+          ∙ ap (λ l. front ++ (l ++ behind)) (sym (take-append-drop m chunk))
+          ∙ ap (λ l. front ++ l) (append_assoc rest left behind)
+          ∙ sym (append_assoc front rest (left ++ behind));
+      added = record {
+        added = Appends-trans a b c front rest before (subst (Appends b c) (ap (take m) are) part);
+        count = ap (λ (w : WavState). w.count) same ∙ count ∙ ap (λ k. old.count + k) (sym long);
+        format = ap (λ (w : WavState). w.format) same ∙ format;
+      };
     }
+  where
+    times_add : (x y z : ℕ) → (x + y) * z ≡ x * z + y * z
+    times_add x y z = omega arith
+
+    sums : (x y z : ℕ) → (x + y) + z ≡ x + (y + z)
+    sums x y z = omega arith

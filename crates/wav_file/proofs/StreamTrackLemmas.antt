@@ -20,7 +20,7 @@ use Rattle.wav_file.specs.StreamTrack.{HasTaken, HasTakenAll, HasTracked}
 use Rattle.wav_file.specs.declared.stream_track.StreamTrack.{StreamTrack}
 
 -- the samples of some marks, and of those behind them
-samples_both : (format : WavFormat) (frames : ℕ) (end : Option ℤ) (xs ys : List MarkView)
+pub samples_both : (format : WavFormat) (frames : ℕ) (end : Option ℤ) (xs ys : List MarkView)
     → samples_behind format frames end (xs ++ ys) ≡ samples_behind format frames end xs ++ samples_behind format frames (end_of frames end xs) ys
 samples_both format frames end [] ys = refl
 samples_both format frames end (x ∷ xs) ys =

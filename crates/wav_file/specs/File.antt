@@ -1,7 +1,6 @@
 -- A WAV file while it is written, and whole.
-use Rattle.std.specs.Prelude.{◌≡◌, ◌≤◌, ℕ, ◌+◌, ◌*◌, ◌%◌, ◌==◌, List, [], ◌∷◌, ◌++◌, length, drop, replicate, ⊤, Option, Some, None, if◌then◌else◌}
+use Rattle.std.specs.Prelude.{◌≡◌, ◌≤◌, ℕ, ◌+◌, ◌*◌, ◌%◌, ◌==◌, List, [], ◌∷◌, ◌++◌, length, take, drop, replicate, ⊤, Option, Some, None, if◌then◌else◌}
 use Rattle.wav_file.specs.declared.header.WavFormat.{WavFormat}
-use Rattle.std.specs.Io.KnownBytes.{Appends}
 use Rattle.wav_file.specs.Header.{frame_length, header_octets}
 
 -- the view of a file that is written: its format, and the number of its octets of data
@@ -19,6 +18,12 @@ abbrev pub Overwrites : Option (List ℕ) → Option (List ℕ) → List ℕ →
 Overwrites None new octets = ⊤
 Overwrites (Some old) None octets = ⊥
 Overwrites (Some old) (Some new) octets = length octets ≤ length old → new ≡ octets ++ drop (length octets) old
+
+-- known octets got a beginning of these over their first, before a write failed
+abbrev pub OverwritesPart : Option (List ℕ) → Option (List ℕ) → List ℕ → Type 0
+OverwritesPart None new octets = ⊤
+OverwritesPart (Some old) None octets = ⊥
+OverwritesPart (Some old) (Some new) octets = length octets ≤ length old → (written : ℕ) × (written ≤ length octets) × (new ≡ take written octets ++ drop written old)
 
 -- known octets became these
 abbrev pub Becomes : Option (List ℕ) → Option (List ℕ) → List ℕ → Type 0
@@ -42,11 +47,3 @@ pub record IsBegun (written : Option (List ℕ)) (wav : WavState) (octets rest :
 -- so many sampling instants of silence
 abbrev pub silent_octets : WavFormat → ℕ → List ℕ
 silent_octets format instants = replicate (instants * frame_length format) 0
-
--- octets 0 were added: these count as data, and the others are a part of a payload that broke off
-pub record HasBroken (written written_then : Option (List ℕ)) (wav wav_then : WavState) : Type 0 where
-  pub counted : ℕ
-  pub others : ℕ
-  pub count : wav_then.count ≡ wav.count + counted
-  pub format : wav_then.format ≡ wav.format
-  pub wrote : Appends written written_then (replicate (counted + others) 0)

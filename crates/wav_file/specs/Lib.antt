@@ -3,6 +3,7 @@ pub mod Header
 pub mod File
 pub mod MixSamples
 pub mod MixWav
+pub mod PartFile
 pub mod MixRun
 pub mod StreamSamples
 pub mod StreamTrack

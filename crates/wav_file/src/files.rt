@@ -1,6 +1,6 @@
 //! The creation of a file, and writers whose first octets can be overwritten.
-ghost use Rattle.std.specs.Prelude.{IfOk, [], OnOk};
-ghost use Rattle.wav_file.specs.File.{Holds, Overwrites};
+ghost use Rattle.std.specs.Prelude.{IfOk, [], OnErr, OnOk};
+ghost use Rattle.wav_file.specs.File.{Holds, Overwrites, OverwritesPart};
 
 use crate::fault::FileFault;
 use std::io;
@@ -18,9 +18,11 @@ pub trait CreateFile {
 
 /// A writer whose first octets can be written over, as those of a file can.
 pub trait Overwrite: Write {
-    /// Writes these octets over the first ones. Later writes go to the end again.
+    /// Writes these octets over the first ones. Later writes go to the end again. After an error a prefix of them was
+    /// written.
     fn overwrite(&mut self, octets: &[u8]) -> io::Result<()>
-        ensures bytes { OnOk result (Overwrites (Self.contents self.old) (Self.contents self.new) octets.now) };
+        ensures bytes { OnOk result (Overwrites (Self.contents self.old) (Self.contents self.new) octets.now) }
+        ensures part { OnErr result (OverwritesPart (Self.contents self.old) (Self.contents self.new) octets.now) };
 }
 
 /// A file, or another writer that can seek. Contracts don't know its octets.

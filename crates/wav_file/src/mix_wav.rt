@@ -2,6 +2,8 @@
 ghost use Rattle.std.specs.Prelude.{◌≡◌, IfErr, IfOk, ◌<◌, ◌≤◌, ℕ, List, [], All, OnOk, OnErr};
 ghost use Rattle.wav_file.specs.MixRun.{FailsRecording, RecordsTextOf, IsOfWriters, WritesFront};
 ghost use Rattle.wav_file.specs.MixSamples.{output_format};
+ghost use Rattle.wav_file.specs.File.{Holds};
+ghost use Rattle.wav_file.specs.PartFile.{BreaksOffMix, HasFirst};
 ghost use Rattle.mix_packets.specs.OutSpec.{datagram_length};
 ghost use Rattle.studio_config.specs.Studio.{Studio};
 ghost use Rattle.studio_session.specs.Cursor.{IsReadyFor};
@@ -61,7 +63,8 @@ fn format_of(spec: &StudioSpec) -> WavFormat
 }
 
 /// Writes the report of a session that took no event yet, and its samples to an empty file. Returns the error of a
-/// write to either. The file then has the sizes of its whole payloads, if they can be written.
+/// write to either. The file then holds the samples of the first datagrams, whose sizes are set if they can be written,
+/// and a part of the next one's.
 pub fn write_mix_wav<E: EventSource, W: Write, F: Overwrite>(
     text: &mut TextBuffer,
     writer: &mut W,
@@ -83,6 +86,10 @@ pub fn write_mix_wav<E: EventSource, W: Write, F: Overwrite>(
         → HasPlayed studio (E.events source.now) session 0
         → IsReport studio (E.events source.now) report
         → WritesFront (W.contents writer.old) [] (W.contents writer.new) report) }
+    ensures part { OnErr result ((studio : Studio) (datagrams : List (List ℕ))
+        → IsRunnableBy studio (E.events source.now) → HasPlayed studio (E.events source.now) session 0
+        → AreDatagrams studio (E.events source.now) datagrams → Holds (F.Write.contents file.old) []
+        → BreaksOffMix format datagrams (F.Write.contents file.old) (F.Write.contents file.new)) }
 {
     let mut wav = WavWriter::begin(format, file)?;
     match write_both(text, writer, &mut wav, file, source, session) {
@@ -120,6 +127,10 @@ fn write_both<E: EventSource, W: Write, F: Write>(
         → HasPlayed studio (E.events source.now) session 0
         → IsReport studio (E.events source.now) report
         → WritesFront (W.contents writer.old) [] (W.contents writer.new) report) }
+    ensures part { OnErr result ((studio : Studio) (datagrams : List (List ℕ))
+        → IsRunnableBy studio (E.events source.now) → HasPlayed studio (E.events source.now) session 0
+        → AreDatagrams studio (E.events source.now) datagrams
+        → HasFirst (F.contents file.old) (F.contents file.new) wav.old wav.new datagrams) }
 {
     let mut session = session;
     write_datagrams(text, writer, wav, file, source, &mut session)?;
@@ -151,6 +162,10 @@ fn write_datagrams<E: EventSource, W: Write, F: Write>(
         → IsRunnableBy studio (E.events source.now) → HasPlayed studio (E.events source.now) session.old 0
         → AreDatagrams studio (E.events source.now) datagrams
         → WritesFront (W.contents writer.old) text.old (W.contents writer.new) (datagrams_text datagrams)) }
+    ensures part { OnErr result ((studio : Studio) (datagrams : List (List ℕ))
+        → IsRunnableBy studio (E.events source.now) → HasPlayed studio (E.events source.now) session.old 0
+        → AreDatagrams studio (E.events source.now) datagrams
+        → HasFirst (F.contents file.old) (F.contents file.new) wav.old wav.new datagrams) }
 {
     let mut out = [0; MAX_OUTPUT_OCTETS];
     // The label names the loop in its proof.

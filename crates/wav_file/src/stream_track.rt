@@ -1,11 +1,12 @@
 //! The samples of a stream, written mark by mark.
-ghost use Rattle.std.specs.Prelude.{◌≡◌, ◌+◌, ◌≤◌, length, option_copied, Some, OnOk};
+ghost use Rattle.std.specs.Prelude.{◌≡◌, ◌+◌, ◌≤◌, ◌++◌, length, option_copied, Some, OnErr, OnOk};
 ghost use Rattle.std.specs.Option.{option_to_list};
 ghost use Rattle.rtp_stream.specs.MarkFacts.{IsTime};
 ghost use Rattle.rtp_stream.specs.MarkRef.{body_from, IsShort};
 ghost use Rattle.lane_align.specs.Lane.{frames_between};
 ghost use Rattle.wav_file.specs.MixWav.{HasAdded};
-ghost use Rattle.wav_file.specs.StreamSamples.{body_samples, gap_samples};
+ghost use Rattle.wav_file.specs.StreamSamples.{body_samples, gap_samples, samples_behind};
+ghost use Rattle.wav_file.specs.PartFile.{HasPrefix};
 ghost use Rattle.wav_file.specs.StreamTrack.{HasTracked};
 
 use crate::writer::{WavFault, WavWriter};
@@ -29,16 +30,17 @@ impl StreamTrack {
         file: &mut F,
         mark: Option<MarkRef<'_>>,
     ) -> Result<(), WavFault>
-        ensures { OnOk result
+        ensures ok { OnOk result
             (HasTracked (F.contents file.old) (F.contents file.new) self.old self.new (option_to_list mark.entry)) }
+        ensures part { OnErr result (HasPrefix (F.contents file.old) (F.contents file.new) self.old.wav self.new.wav
+            (samples_behind self.old.wav.format self.old.frames self.old.end (option_to_list mark.entry))) }
     {
         let Some(mark) = mark else {
             return Ok(());
         };
         match mark.kind() {
             MarkKindRef::Slot { media, payload, .. } => {
-                self.add_gap(file, media)?;
-                self.add_body(file, payload)?;
+                self.add_slot(file, media, payload)?;
                 self.end = Some(media + i64::from(self.frames));
                 Ok(())
             }
@@ -46,10 +48,33 @@ impl StreamTrack {
         }
     }
 
+    /// Writes silence up to a media time, and the samples of the packet there.
+    fn add_slot<F: Write>(
+        &mut self,
+        file: &mut F,
+        media: i64,
+        payload: Option<&[u8]>,
+    ) -> Result<(), WavFault>
+        requires short { IsShort (body_from (option_copied payload)) }
+        ensures added { OnOk result (HasAdded (F.contents file.old) (F.contents file.new) self.old.wav self.new.wav
+            (gap_samples self.old.wav.format self.old.end media
+            ++ body_samples self.old.wav.format self.old.frames (body_from (option_copied payload.entry)))) }
+        ensures part { OnErr result (HasPrefix (F.contents file.old) (F.contents file.new) self.old.wav self.new.wav
+            (gap_samples self.old.wav.format self.old.end media
+            ++ body_samples self.old.wav.format self.old.frames (body_from (option_copied payload.entry)))) }
+        ensures frames { self.new.frames ≡ self.old.frames }
+    {
+        self.add_gap(file, media)?;
+        self.add_body(file, payload)
+    }
+
     /// Writes silence up to a media time.
     fn add_gap<F: Write>(&mut self, file: &mut F, media: i64) -> Result<(), WavFault>
         ensures added { OnOk result
             (HasAdded (F.contents file.old) (F.contents file.new) self.old.wav self.new.wav
+            (gap_samples self.old.wav.format self.old.end media)) }
+        ensures part { OnErr result
+            (HasPrefix (F.contents file.old) (F.contents file.new) self.old.wav self.new.wav
             (gap_samples self.old.wav.format self.old.end media)) }
         ensures frames { self.new.frames ≡ self.old.frames }
     {
@@ -64,6 +89,8 @@ impl StreamTrack {
     fn add_body<F: Write>(&mut self, file: &mut F, payload: Option<&[u8]>) -> Result<(), WavFault>
         requires short { IsShort (body_from (option_copied payload)) }
         ensures added { OnOk result (HasAdded (F.contents file.old) (F.contents file.new) self.old.wav self.new.wav
+            (body_samples self.old.wav.format self.old.frames (body_from (option_copied payload.entry)))) }
+        ensures part { OnErr result (HasPrefix (F.contents file.old) (F.contents file.new) self.old.wav self.new.wav
             (body_samples self.old.wav.format self.old.frames (body_from (option_copied payload.entry)))) }
         ensures frames { self.new.frames ≡ self.old.frames }
     {

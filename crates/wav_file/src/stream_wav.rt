@@ -1,12 +1,14 @@
 //! The listing of a trace, with a WAV file of one stream.
-ghost use Rattle.std.specs.Prelude.{◌≡◌, ◌<◌, ◌≤◌, Some, None, slice_get, IfErr, IfOk, ℕ, ℤ, List, [], Option, OnOk};
+ghost use Rattle.std.specs.Prelude.{◌≡◌, ◌<◌, ◌≤◌, Some, None, slice_get, IfErr, IfOk, OnErr, OnOk};
+ghost use Rattle.std.specs.Prelude.{ℕ, ℤ, List, [], Option};
 ghost use Rattle.rtp_stream.specs.declared.stream_spec.Stream.{Stream};
 ghost use Rattle.studio_session.specs.Play.{HasPathsBy, IsRunnableBy, stream_marks};
 ghost use Rattle.wav_file.specs.StreamRun.{FailsBoth, FailsListing, IsUnfit, ListsAndRecords, ListsAndRecordsTextOf};
 ghost use Rattle.studio_session.specs.Event.{TraceEvent};
 ghost use Rattle.studio_session.specs.Cursor.{HasPulled, IsReadyFor, IsRunnable, IsSameCursor};
 ghost use Rattle.wav_file.specs.File.{Becomes, Holds, wav_octets};
-ghost use Rattle.wav_file.specs.StreamSamples.{stream_format, stream_samples};
+ghost use Rattle.wav_file.specs.StreamSamples.{samples_behind, stream_format, stream_samples};
+ghost use Rattle.wav_file.specs.PartFile.{BreaksOffStream, HasPrefix};
 ghost use Rattle.wav_file.specs.StreamTrack.{HasTaken, HasTakenAll, HasTracked};
 ghost use Rattle.wav_file.specs.declared.stream_track.StreamTrack.{StreamTrack};
 
@@ -101,12 +103,18 @@ pub fn write_stream_wav<E: EventSource, F: Overwrite>(
 ) -> Result<(), WavFault>
     requires settled { cursor.old.reading ≡ None }
     requires ready { IsReadyFor (E.events source.now) cursor.old }
-    ensures { OnOk result ((stream : Stream) (number : ℕ) (open_at : ℤ)
+    ensures ok { OnOk result ((stream : Stream) (number : ℕ) (open_at : ℤ)
         → IsRunnable stream number open_at (E.events source.now)
         → HasPulled stream number open_at (E.events source.now) cursor.old 0
         → Holds (F.Write.contents file.old) [] → Becomes (F.Write.contents file.old) (F.Write.contents file.new)
         (wav_octets (stream_format stream)
         (stream_samples stream (stream_marks stream number open_at (E.events source.now))))) }
+    ensures part { OnErr result ((stream : Stream) (number : ℕ) (open_at : ℤ)
+        → IsRunnable stream number open_at (E.events source.now)
+        → HasPulled stream number open_at (E.events source.now) cursor.old 0
+        → Holds (F.Write.contents file.old) [] → BreaksOffStream (stream_format stream)
+        (stream_samples stream (stream_marks stream number open_at (E.events source.now)))
+        (F.Write.contents file.old) (F.Write.contents file.new)) }
 {
     let spec = cursor.spec();
     let format = WavFormat {
@@ -138,11 +146,17 @@ fn add_marks<E: EventSource, F: Write>(
     cursor: &mut Cursor,
 ) -> Result<(), WavFault>
     requires ready { IsReadyFor (E.events source.now) cursor.old }
-    ensures { OnOk result ((stream : Stream) (number : ℕ) (open_at : ℤ)
+    ensures ok { OnOk result ((stream : Stream) (number : ℕ) (open_at : ℤ)
         → IsRunnable stream number open_at (E.events source.now)
         → HasPulled stream number open_at (E.events source.now) cursor.old 0
         → HasTracked (F.contents file.old) (F.contents file.new) track.old track.new
         (stream_marks stream number open_at (E.events source.now))) }
+    ensures part { OnErr result ((stream : Stream) (number : ℕ) (open_at : ℤ)
+        → IsRunnable stream number open_at (E.events source.now)
+        → HasPulled stream number open_at (E.events source.now) cursor.old 0
+        → HasPrefix (F.contents file.old) (F.contents file.new) track.old.wav track.new.wav
+        (samples_behind track.old.wav.format track.old.frames track.old.end
+        (stream_marks stream number open_at (E.events source.now)))) }
 {
     let mut room = [0; MAX_ARRIVAL_OCTETS];
     // The label names the loop in its proof.
@@ -166,13 +180,23 @@ fn add_taken<F: Write>(
         → IsRunnable stream number open_at events
         → HasTaken stream number open_at events made first cursor.old (F.contents file.old) track.old
         → HasTakenAll stream number open_at events made first cursor.new (F.contents file.new) track.new) }
+    ensures part { OnErr result
+        ((stream : Stream) (number : ℕ) (open_at : ℤ) (events : List TraceEvent) (made : Option (List ℕ))
+        (first : StreamTrack)
+        → IsRunnable stream number open_at events
+        → HasTaken stream number open_at events made first cursor.old (F.contents file.old) track.old
+        → HasPrefix made (F.contents file.new) first.wav track.new.wav
+        (samples_behind first.wav.format first.frames first.end (stream_marks stream number open_at events))) }
     ensures settled { OnOk result (cursor.new.reading ≡ None) }
     ensures kept { IsSameCursor cursor.old cursor.new }
 {
     // The label names the loop in its proof.
     'marks: loop {
-        track.add_next(file, cursor.mark())?;
-        if !cursor.pass() {
+        let wrote = track.add_next(file, cursor.mark());
+        // The mark is let go before an error is returned: `pass` says which one it was.
+        let more = cursor.pass();
+        wrote?;
+        if !more {
             return Ok(());
         }
     }

@@ -3,7 +3,8 @@ ghost use Rattle.std.specs.Prelude.{◌≡◌, ◌+◌, ◌≤◌, ◌++◌, ℕ
 ghost use Rattle.std.specs.Io.KnownBytes.{Appends};
 ghost use Rattle.wav_file.specs.Samples.{little_samples};
 ghost use Rattle.wav_file.specs.Header.{header_octets};
-ghost use Rattle.wav_file.specs.File.{Becomes, HasBroken, IsBegun, pad_octets, silent_octets, wav_octets};
+ghost use Rattle.wav_file.specs.PartFile.{BecomesPart, HasPrefix};
+ghost use Rattle.wav_file.specs.File.{Becomes, IsBegun, pad_octets, silent_octets, wav_octets};
 
 use crate::files::Overwrite;
 use crate::header::{WavFormat, header_octets};
@@ -84,7 +85,8 @@ impl WavWriter {
         ensures ok { OnOk result
             (Appends (W.contents writer.old) (W.contents writer.new) (silent_octets self.old.format instants)) }
         ensures counted { OnOk result (self.new ≡ record { format = self.old.format; count = self.old.count + length (silent_octets self.old.format instants) }) }
-        ensures fault { OnErr result (HasBroken (W.contents writer.old) (W.contents writer.new) self.old self.new) }
+        ensures fault { OnErr result (HasPrefix (W.contents writer.old) (W.contents writer.new) self.old self.new
+            (silent_octets self.old.format instants)) }
     {
         let frame = usize::from(self.format.frame_len());
         // Without channels there are no samples, and no chunk would end the loop.
@@ -106,19 +108,26 @@ impl WavWriter {
     /// Writes the sizes of the data to the header, and an octet more behind data of an odd length. Returns an error if
     /// a write fails.
     pub fn finish<W: Overwrite>(self, writer: &mut W) -> Result<(), WavFault>
-        ensures { OnOk result ((octets : List ℕ) → IsBegun (W.Write.contents writer.old) self octets []
+        ensures ok { OnOk result ((octets : List ℕ) → IsBegun (W.Write.contents writer.old) self octets []
             → Becomes (W.Write.contents writer.old) (W.Write.contents writer.new) (wav_octets self.format octets)) }
+        ensures fault { OnErr result ((octets : List ℕ) → IsBegun (W.Write.contents writer.old) self octets []
+            → (n : ℕ) × BecomesPart (W.Write.contents writer.old) (W.Write.contents writer.new) self.format octets
+            (take n (pad_octets (length octets)))) }
     {
-        self.pad(writer)?;
-        self.finish_partial(writer)
+        let padded = self.pad(writer);
+        // The samples are whole without the octet behind them, so their sizes are written in any case.
+        self.finish_partial(writer)?;
+        padded
     }
 
     /// Writes the sizes of the whole payloads to the header, after a failed call. A part of a payload may be behind
     /// them. Returns an error if the write fails.
     pub fn finish_partial<W: Overwrite>(self, writer: &mut W) -> Result<(), WavFault>
-        ensures { OnOk result ((octets rest : List ℕ) → IsBegun (W.Write.contents writer.old) self octets rest
+        ensures ok { OnOk result ((octets rest : List ℕ) → IsBegun (W.Write.contents writer.old) self octets rest
             → Becomes (W.Write.contents writer.old) (W.Write.contents writer.new)
             (header_octets self.format (length octets) ++ octets ++ rest)) }
+        ensures fault { OnErr result ((octets rest : List ℕ) → IsBegun (W.Write.contents writer.old) self octets rest
+            → BecomesPart (W.Write.contents writer.old) (W.Write.contents writer.new) self.format octets rest) }
     {
         let head = header_octets(self.format, self.count);
         match writer.overwrite(head.as_slice()) {
@@ -129,7 +138,9 @@ impl WavWriter {
 
     /// Writes an octet more after data of an odd length, since a chunk of RIFF has an even one.
     fn pad<W: Write>(&self, writer: &mut W) -> Result<(), WavFault>
-        ensures { OnOk result (Appends (W.contents writer.old) (W.contents writer.new) (pad_octets self.now.count)) }
+        ensures ok { OnOk result (Appends (W.contents writer.old) (W.contents writer.new) (pad_octets self.now.count)) }
+        ensures fault { OnErr result ((n : ℕ)
+            × Appends (W.contents writer.old) (W.contents writer.new) (take n (pad_octets self.now.count))) }
     {
         if self.count % 2 == 1 {
             write_octets(writer, &[0])

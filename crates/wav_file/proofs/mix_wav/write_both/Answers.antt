@@ -5,6 +5,7 @@ use Rattle.studio_run.specs.declared.player.PlayFault.TheVariants.{Write}
 use Rattle.wav_file.specs.declared.fault.WavRunFault.TheVariants.{Play}
 use Rattle.wav_file.proofs.FrontLemmas.{front_of_counts, front_of_datagrams, front_of_rest}
 use Rattle.wav_file.proofs.MixWavLemmas.{both_whole}
+use Rattle.wav_file.proofs.PartLemmas.{part_of_all}
 use Rattle.wav_file.proofs.mix_wav.write_both.Goals as goal
 
 pub write_counts-requires : goal.write_counts-requires
@@ -50,3 +51,20 @@ returns-in_err-finish-clause-begun g c =
     (c.in_ok-write_counts.ensures.ok studio run
     (subst (ArePulled studio events) (sym c.as_mut_slice.ensures.value) (c.into_cursors-cursors.ensures.pulled studio events (length recorded.datagrams) recorded.played)))
     c.in_err-finish.ensures.fault)
+
+pub returns-in_err-write_datagrams-clause-part : goal.returns-in_err-write_datagrams-clause-part
+returns-in_err-write_datagrams-clause-part g c =
+    let is : c.from_residual.result ≡ Err c.in_err-write_datagrams.field-0.0 = search rules in
+    rw is c.in_err-write_datagrams.ensures.part
+
+pub returns-in_err-write_counts-clause-part : goal.returns-in_err-write_counts-clause-part
+returns-in_err-write_counts-clause-part g c =
+    let is : c.from_residual-in_err-write_counts.result ≡ Err (Play Write) = search rules in
+    rw is (λ studio datagrams run played are.
+    part_of_all studio (g.E.EventSource.events c.args.source.now) _ _ _ _ _ _ _ _ c.write_datagrams.new.session datagrams (c.in_ok-write_datagrams.ensures.ok studio run played) are)
+
+pub returns-in_err-finish-clause-part : goal.returns-in_err-finish-clause-part
+returns-in_err-finish-clause-part g c =
+    let is : c.from_residual-in_err-finish.result ≡ Err (Play Write) = search rules in
+    rw is (λ studio datagrams run played are.
+    part_of_all studio (g.E.EventSource.events c.args.source.now) _ _ _ _ _ _ _ _ c.write_datagrams.new.session datagrams (c.in_ok-write_datagrams.ensures.ok studio run played) are)

@@ -14,6 +14,7 @@ use Rattle.studio_run.specs.declared.player.PlayFault.TheVariants.{Write}
 use Rattle.wav_file.specs.declared.fault.FileFault.TheVariants.{Write as NotWritten}
 use Rattle.wav_file.specs.declared.fault.WavRunFault.TheVariants.{Play, File}
 use Rattle.wav_file.proofs.FrontLemmas.{front_of_line, front_of_more}
+use Rattle.wav_file.proofs.PartLemmas.{part_of_next, part_of_some}
 use Rattle.wav_file.proofs.MixWavLemmas.{recorded_all, recording_more, recording_none}
 use Rattle.wav_file.proofs.mix_wav.write_datagrams.Goals as goal
 
@@ -99,6 +100,39 @@ returns-in_err-push-in-Some-clause-begun g c =
       is = written_is (datagram_of studio (feeds_of studio events) n) c.rounds.out c.next_datagram.new.out c.in-Some.len gives.1 same within;
       played = gives.2;
     }) are c.in_ok-write_datagram-in-Some.ensures.ok)
+
+pub returns-in_err-write_datagram-in-Some-clause-part : goal.returns-in_err-write_datagram-in-Some-clause-part
+returns-in_err-write_datagram-in-Some-clause-part g c =
+    let is : c.from_residual.result ≡ Err (Play Write) = search rules in
+    rw is (λ studio datagrams run played are.
+    part_of_some studio (g.E.EventSource.events c.args.source.now) _ _ _ _ _ _ _ _ c.rounds.session datagrams (c.rounds.invariant.stands studio run played) are)
+
+pub returns-in_err-push-in-Some-clause-part : goal.returns-in_err-push-in-Some-clause-part
+returns-in_err-push-in-Some-clause-part g c =
+    let events = g.E.EventSource.events c.args.source.now in
+    let inv = c.rounds.invariant in
+    let len : c.in-Some.len ≡ datagram_length c.args.session.now.mixer.packer.spec = c.in-Some.ensures.len ∙ ap datagram_length inv.spec in
+    let short = c.requires.short in
+    let same : length c.next_datagram.new.out ≡ length c.rounds.out = c.next_datagram.auto.out in
+    let long = same ∙ inv.room in
+    let within : c.in-Some.len ≤ length c.rounds.out = omega (arith, len, short, long, same) in
+    let datagram = take c.in-Some.len c.next_datagram.new.out in
+    let enc = c.rounds.wav.format.enc in
+    let behind : take (length datagram - 12) (drop 12 datagram) ≡ drop 12 datagram = take_rest datagram 12 in
+    let broke = c.in_err-push-in-Some.ensures.fault in
+    let is : c.from_residual-in_err-push-in-Some.result ≡ Err (File NotWritten) = search rules in
+    rw is (λ studio datagrams run played are.
+    let r = inv.stands studio run played in
+    let n = length r.datagrams in
+    let gives = c.in-Some.ensures.some studio n run r.given.played in
+    part_of_next studio events _ _ _ _ _ _ _ _ _ _ c.rounds.session c.next_datagram.new.self datagram datagrams broke.0 r
+    (record {
+      ready = sym (c.next_datagram.ensures.given studio n run r.given.played) ∙ ap is_some c.in-Some.is;
+      is = written_is (datagram_of studio (feeds_of studio events) n) c.rounds.out c.next_datagram.new.out c.in-Some.len gives.1 same within;
+      played = gives.2;
+    }) are
+    (subst (λ p. Appends (g.F.Write.contents c.rounds.file) (g.F.Write.contents c.push.new.writer) (take broke.0 (little_samples enc p))) behind broke.1)
+    c.in_err-push-in-Some.ensures.same)
 
 pub returns-in-None-clause-ok : goal.returns-in-None-clause-ok
 returns-in-None-clause-ok g c = λ studio run played.

@@ -38,6 +38,6 @@ returns-clause-ok g c =
       listed = c.in_ok-write_whole_listing.ensures.ok spec c.requires.runnable new;
       made = g.M.File.Write.contents c.in_ok-file.file;
       empty = c.in_ok-file.ensures.empty;
-      file = c.in_ok-write_stream_wav.ensures c.args.stream c.args.number spec.open_at (c.requires.runnable.each c.args.number c.args.stream c.requires.is)
+      file = c.in_ok-write_stream_wav.ensures.ok c.args.stream c.args.number spec.open_at (c.requires.runnable.each c.args.number c.args.stream c.requires.is)
           (subst (λ t. HasPulled c.args.stream c.args.number t events c.in_ok-cursor.cursor 0) open_at (c.in_ok-cursor.ensures.stands events)) c.in_ok-file.ensures.empty;
     }

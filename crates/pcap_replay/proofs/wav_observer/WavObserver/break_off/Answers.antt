@@ -9,4 +9,4 @@ pub returns-in-Ok : goal.returns-in-Ok
 returns-in-Ok g c = λ begun datagrams head sounded.
     let then = g.F.Write.contents c.finish_partial.new.writer in
     ends_broken begun c.args.self datagrams then head sounded
-    (subst (λ (s : SoundState). (octets rest : List ℕ) → IsBegun s.made s.wav octets rest → Becomes s.made then (header_octets s.wav.format (length octets) ++ octets ++ rest)) c.self.view_is c.in-Ok.ensures)
+    (subst (λ (s : SoundState). (octets rest : List ℕ) → IsBegun s.made s.wav octets rest → Becomes s.made then (header_octets s.wav.format (length octets) ++ octets ++ rest)) c.self.view_is c.in-Ok.ensures.ok)

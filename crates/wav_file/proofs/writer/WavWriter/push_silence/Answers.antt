@@ -16,8 +16,8 @@ returns-in_err-push-clause-fault g c =
     let fits : count * frame ≤ 1440 = grind arith in
     let zeros : little_samples now.format.enc (take (count * frame) (replicate 1440 0)) ≡ replicate (count * frame) 0 = rw size (zeros_of now.format count (rw (← size) fits)) in
     let is : c.from_residual.result ≡ Err c.in_err-push.field-0.0 = search rules in
-    rw is (silence_broken _ _ _ c.args.self.now now c.push.new.self c.chunks.done frame c.in_err-push.ensures.fault.0 count _ c.chunks.invariant.count c.chunks.invariant.format
-    c.chunks.invariant.wrote zeros c.in_err-push.ensures.fault.1 c.in_err-push.ensures.same)
+    rw is (silence_broken _ _ _ c.args.self.now now c.push.new.self c.chunks.done frame c.in_err-push.ensures.fault.0 count c.args.instants _ c.chunks.invariant.count c.chunks.invariant.format
+    (size ∙ ap frame_length c.chunks.invariant.format) (omega arith) c.chunks.invariant.wrote zeros c.in_err-push.ensures.fault.1 c.in_err-push.ensures.same)
 
 -- src/writer.rt:89:9
 pub chunks-preserved : goal.chunks-preserved

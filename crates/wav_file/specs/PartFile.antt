@@ -1,0 +1,67 @@
+-- A WAV file that broke off: a write failed before all samples and the sizes were written.
+use Rattle.std.specs.Prelude.{◌≡◌, ◌⊎◌, ℕ, ◌+◌, List, ◌++◌, length, take, drop, ⊤, Option, Some, None}
+use Rattle.std.specs.Io.KnownBytes.{Appends}
+use Rattle.wav_file.specs.declared.header.WavFormat.{WavFormat}
+use Rattle.wav_file.specs.Header.{header_octets}
+use Rattle.wav_file.specs.File.{WavState, pad_octets}
+use Rattle.wav_file.specs.MixSamples.{samples_in}
+
+-- the header of a file whose sizes were written in part: so many octets of it have those of so much data, and the others those of none
+abbrev pub part_header : WavFormat → ℕ → ℕ → List ℕ
+part_header format count written = take written (header_octets format count) ++ drop written (header_octets format 0)
+
+-- known octets became those of a file that broke off: its header, the data of its sizes, and a rest that they leave out
+abbrev pub BecomesPart : Option (List ℕ) → Option (List ℕ) → WavFormat → List ℕ → List ℕ → Type 0
+BecomesPart None new format octets rest = ⊤
+BecomesPart (Some old) None format octets rest = ⊥
+BecomesPart (Some old) (Some new) format octets rest = (written : ℕ) × (new ≡ part_header format (length octets) written ++ octets ++ rest)
+
+-- octets were added: the first of them count as data, and the rest doesn't
+pub record HasPart (made made_then : Option (List ℕ)) (wav wav_then : WavState) (octets rest : List ℕ) : Type 0 where
+  pub added : Appends made made_then (octets ++ rest)
+  pub count : wav_then.count ≡ wav.count + length octets
+  pub format : wav_then.format ≡ wav.format
+
+-- the samples of the first of these datagrams were added, and the first octets of those that follow, which don't count
+pub record HasFirst (made made_then : Option (List ℕ)) (wav wav_then : WavState) (datagrams : List (List ℕ)) : Type 0 where
+  pub whole : ℕ
+  pub rest : List ℕ
+  pub left : List ℕ
+  pub all : samples_in wav.format.enc datagrams ≡ (samples_in wav.format.enc (take whole datagrams) ++ rest) ++ left
+  pub added : HasPart made made_then wav wav_then (samples_in wav.format.enc (take whole datagrams)) rest
+
+-- the first octets of these samples were added: some that count, and a rest that doesn't
+pub record HasPrefix (made made_then : Option (List ℕ)) (wav wav_then : WavState) (samples : List ℕ) : Type 0 where
+  pub octets : List ℕ
+  pub rest : List ℕ
+  pub left : List ℕ
+  pub all : samples ≡ (octets ++ rest) ++ left
+  pub added : HasPart made made_then wav wav_then octets rest
+
+-- a file broke off in its header
+abbrev pub BreaksHeader : WavFormat → Option (List ℕ) → Option (List ℕ) → Type 0
+BreaksHeader format made made_then = (written : ℕ) × Appends made made_then (take written (header_octets format 0))
+
+-- it broke off behind its header: there are the samples of the first of these datagrams, all of each, which its sizes count, and the first
+-- octets of what would have followed: of the samples that are left, and of the octet that makes their number even
+pub record BreaksSamples (format : WavFormat) (datagrams : List (List ℕ)) (made made_then : Option (List ℕ)) : Type 0 where
+  pub whole : ℕ
+  pub rest : List ℕ
+  pub left : List ℕ
+  pub all : samples_in format.enc datagrams ++ pad_octets (length (samples_in format.enc datagrams)) ≡ (samples_in format.enc (take whole datagrams) ++ rest) ++ left
+  pub becomes : BecomesPart made made_then format (samples_in format.enc (take whole datagrams)) rest
+
+abbrev pub BreaksOffMix : WavFormat → List (List ℕ) → Option (List ℕ) → Option (List ℕ) → Type 0
+BreaksOffMix format datagrams made made_then = BreaksHeader format made made_then ⊎ BreaksSamples format datagrams made made_then
+
+-- it broke off behind its header: there are the first octets of these samples, and of the octet that makes their number even; its sizes count
+-- some of them
+pub record BreaksWithin (format : WavFormat) (samples : List ℕ) (made made_then : Option (List ℕ)) : Type 0 where
+  pub octets : List ℕ
+  pub rest : List ℕ
+  pub left : List ℕ
+  pub all : samples ++ pad_octets (length samples) ≡ (octets ++ rest) ++ left
+  pub becomes : BecomesPart made made_then format octets rest
+
+abbrev pub BreaksOffStream : WavFormat → List ℕ → Option (List ℕ) → Option (List ℕ) → Type 0
+BreaksOffStream format samples made made_then = BreaksHeader format made made_then ⊎ BreaksWithin format samples made made_then
