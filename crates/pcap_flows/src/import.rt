@@ -1,5 +1,5 @@
-//! The trace of a capture. The submodules hold its clock and its lines, and the configuration that fits it: the first
-//! packet of each stream, a plan of each, and the text.
+//! The trace of a capture. The submodules hold its clock and its lines, and the configuration that fits it: the times
+//! of each stream, a plan of each, and the text.
 ghost use Rattle.std.specs.Prelude.{◌≡◌, ◌+◌, ◌++◌, ◌<◌, ◌≤◌, OnOk, IfOk, Some, [], length, position};
 ghost use Rattle.pcap_file.specs.Capture.{item_view, packets_left, packets_of};
 ghost use Rattle.pcap_file.specs.Packet.{packet_view};
@@ -31,8 +31,8 @@ use std::alloc::Global;
 
 pub(crate) mod clock;
 pub(crate) mod config;
-mod first_packets;
 mod stream_plan;
+mod stream_times;
 mod trace_lines;
 
 /// The greatest length of a trace, in octets.

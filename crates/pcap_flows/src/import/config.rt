@@ -12,7 +12,8 @@ const MAX_OUTPUTS: usize = 8;
 const MAX_PAYLOAD: usize = 1440;
 
 /// Returns the configuration for the trace of these routes: each stream with an offset by which its first packet is in
-/// time, and an output of the first channels of all streams, at most 8, unchanged. `latency` is in milliseconds; if it
+/// time, or with the clock that follows its sender if capture time less timestamp moved by more than the latency; and
+/// an output of the first channels of all streams, at most 8, unchanged. `latency` is in milliseconds; if it
 /// is none, a stream's latency is twice the greatest skew of its paths, and at least 10 ms. `octets` is the capture,
 /// and `table` has its flows. Returns an error if a stream has no format or no window, or an allocation fails.
 pub fn config_text(
@@ -51,15 +52,29 @@ fn push_stream(text: &mut String, alloc: Global, plan: &StreamPlan) -> Result<()
         format.frames,
         format.pt,
     );
-    let (offset, latency, window, paths) = (plan.offset, plan.latency, plan.window, plan.paths);
+    let (latency, window, paths) = (plan.latency, plan.window, plan.paths);
     let packets = format!(in alloc;
         "[[stream]]\nencoding = \"{enc}\"\nchannels = {channels}\nframes = {frames}\npt = {pt}\n"
     )?;
     text.push_str(&packets)?;
-    let times = format!(in alloc;
-        "clock = \"media\"\noffset = {offset}\nlatency = {latency}\nwindow = {window}\npaths = {paths}\n"
-    )?;
+    push_clock(text, alloc, plan)?;
+    let times = format!(in alloc; "latency = {latency}\nwindow = {window}\npaths = {paths}\n")?;
     text.push_str(&times)
+}
+
+/// Appends the clock of a stream: that of its media with an offset, or the one that follows its sender, and why.
+fn push_clock(text: &mut String, alloc: Global, plan: &StreamPlan) -> Result<(), AllocError> {
+    let (offset, moved) = (plan.times.offset, plan.times.moved());
+    if moved <= u64::from(plan.latency) {
+        let clock = format!(in alloc; "clock = \"media\"\noffset = {offset}\n")?;
+        return text.push_str(&clock);
+    }
+    let (ms, (seconds, ppm)) = (moved / 48, plan.times.rate());
+    let reason = format!(in alloc;
+        "# capture time less timestamp moved by {ms} ms, more than the latency; from first to last {ppm} ppm in {seconds} s\n"
+    )?;
+    text.push_str(&reason)?;
+    text.push_str("clock = \"follow\"\n")
 }
 
 /// Appends the table of the output.

@@ -1,6 +1,6 @@
 //! The streams of a configuration that fits a capture.
 use crate::fault::ImportFault;
-use crate::import::first_packets::{FirstPacket, first_packets_in};
+use crate::import::stream_times::{StreamTimes, stream_times_in};
 use crate::packet_format::{PacketFormat, first_format};
 use crate::routes::{Route, Routes};
 use crate::skew::{push_pairs, skews_of};
@@ -17,8 +17,8 @@ pub(crate) struct StreamPlan {
     pub(crate) format: PacketFormat,
     /// The number of its paths.
     pub(crate) paths: u8,
-    /// The first packet's timestamp minus the reading of the trace's clock at its arrival, modulo 2^32.
-    pub(crate) offset: u32,
+    /// The times of its packets.
+    pub(crate) times: StreamTimes,
     /// The latency in sampling instants at 48 kHz.
     pub(crate) latency: u32,
     /// The window in packets.
@@ -34,14 +34,14 @@ pub(crate) fn stream_plans(
     routes: &Routes,
     latency: Option<u32>,
 ) -> Result<Vec<StreamPlan>, ImportFault> {
-    let first_packets = first_packets_in(alloc, octets, routes)?;
+    let times = stream_times_in(alloc, octets, routes)?;
     let mut plans = Vec::new(alloc);
-    for (number, first) in first_packets.iter().enumerate() {
-        let Some(first) = first else {
+    for (number, own) in times.iter().enumerate() {
+        let Some(own) = own else {
             return Err(ImportFault::NoFormat);
         };
         let places = places_of(alloc, table, routes.list(), number)?;
-        let plan = plan_of(alloc, table, octets, places.as_slice(), first, latency)?;
+        let plan = plan_of(alloc, table, octets, places.as_slice(), own, latency)?;
         if plans.push(plan).is_err() {
             return Err(ImportFault::Memory);
         }
@@ -74,7 +74,7 @@ fn plan_of(
     table: &FlowTable,
     octets: &[u8],
     places: &[usize],
-    first: &FirstPacket,
+    times: &StreamTimes,
     asked: Option<u32>,
 ) -> Result<StreamPlan, ImportFault> {
     let format = first_format(table, places).ok_or(ImportFault::NoFormat)?;
@@ -87,9 +87,7 @@ fn plan_of(
     Ok(StreamPlan {
         format,
         paths,
-        offset: first
-            .ts
-            .wrapping_sub((first.reading % 4_294_967_296) as u32),
+        times: *times,
         latency,
         window,
     })
