@@ -69,8 +69,9 @@ test:
 	tests/sockets $(program)
 	tests/page $(program)
 	tests/networks $(program)
+	tests/senders $(program)
 	tests/library $(program) live
-	@echo "gate: pages, proofs, edits, tests, examples, faults, statuses, blocks, WAV files, charts, captures, SDP files, package, library, engine, memory, live runs, pages and networks passed"
+	@echo "gate: pages, proofs, edits, tests, examples, faults, statuses, blocks, WAV files, charts, captures, SDP files, package, library, engine, memory, live runs, pages, networks and senders passed"
 
 %.ran:
 	$* $(program)

@@ -254,7 +254,7 @@ CASE_PLACES = {
     "One thread": [f"{WORKERS}/tests/alone.rt"],
     "Records and statistics": [f"{RECEPTION}/{name}.rt" for name in ("record_tests/octets", "record_tests/marks", "tally_tests", "drift_tests")],
     "The page": [f"{WORKERS}/page_tests/{name}.rt" for name in ("texts", "requests", "sockets")],
-    "Captures and live runs": ["tests/captures", "tests/loopback", "tests/networks", "tests/page"],
+    "Captures and live runs": ["tests/captures", "tests/loopback", "tests/networks", "tests/page", "tests/senders"],
 }
 ROW = re.compile(r'\bshows:\s*"((?:[^"\\]|\\.)*)"', re.DOTALL)
 TEST = re.compile(r"#\[test\]\s*fn (\w+)")
