@@ -50,7 +50,35 @@ fn write_stream<W: Write>(number: usize, stream: &StreamSpec, output: &mut W) ->
     write!(output, ", type {pt}")?;
     write_source(stream.ssrc(), output)?;
     write_clock(stream.clock(), output)?;
-    write_wait(stream, output)
+    write_wait(stream, output)?;
+    write_warning(stream, output)
+}
+
+/// Writes a warning if the clock of a stream follows its sender and the window spans less than twice the latency.
+// The latency, two packets and the sender's greatest burst have to fit into the window.
+fn write_warning<W: Write>(stream: &StreamSpec, output: &mut W) -> io::Result<()> {
+    let window = u64::from(stream.window()) * u64::from(stream.frames());
+    let wanted = 2 * u64::from(stream.latency());
+    if !is_followed(stream.clock()) || window >= wanted {
+        return Ok(());
+    }
+    write!(
+        output,
+        "  warning: the window spans less than twice the latency "
+    )?;
+    write_millis(wanted, output)?;
+    writeln!(
+        output,
+        ", so bursts of the sender may come too early for it"
+    )
+}
+
+/// Returns true if a clock follows its sender.
+fn is_followed(clock: StreamClock) -> bool {
+    match clock {
+        StreamClock::Follow => true,
+        StreamClock::Media { .. } | StreamClock::Arrival => false,
+    }
 }
 
 /// Writes the source (SSRC) that a stream's packets must have, or that it takes any source.
