@@ -22,11 +22,11 @@ use studio_io::{Clock, Feed, SendCounts, Sink, WorkReport};
 
 /// A way to wait until a feed may have a datagram.
 pub trait IdleWait: Drop {
-    /// Waits until a feed may have a datagram, at most `most` sampling instants at 48 kHz, which may be 0.
+    /// Waits until a feed may have a datagram. Nothing is due for `most` sampling instants at 48 kHz, which may be 0.
+    /// It may end earlier, or later: blocks that become due meanwhile are then sent after it.
     ///
     /// Returns true if the datagrams that arrived are to be judged by the clock reading before the wait, the engine's
-    /// time. After false the clock is read again first. It may end early. If it ends late, the datagrams that arrived
-    /// meanwhile are judged late.
+    /// time, so that none is late for the wait. After false the clock is read again first.
     fn wait_for_input(&mut self, engine: &Engine, most: i64) -> bool;
 }
 
