@@ -74,6 +74,8 @@ pub fn fill_datagrams(counts: PathCounts, state: &mut PathState)
     ensures datagrams { state.new.datagrams ≡ counts.offered }
     ensures copies { (state.new.copies ≡ state.old.copies) × (state.new.spare ≡ state.old.spare)
         × (state.new.first ≡ state.old.first) × (state.new.socket ≡ state.old.socket) }
+    ensures watched { (state.new.drift ≡ state.old.drift) × (state.new.is_astray ≡ state.old.is_astray)
+        × (state.new.is_repeating ≡ state.old.is_repeating) }
 {
     state.datagrams = counts.offered;
     state.counts = Some(counts);
