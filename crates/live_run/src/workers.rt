@@ -56,7 +56,7 @@ pub(crate) fn run_in_workers<'a, R: Threads + Wait + Sync + Clock, E: Write + Se
     let is_shown = status.publisher.is_some();
     let rings = open_rings(alloc, studio, sockets.receiving.len(), is_shown)?;
     let Rings { ends, receivers } = rings;
-    // No flags of sockets: each path has a thread of its own, whose receives may wait.
+    // No flags of sockets: each path has a thread of its own, whose feed may wait.
     let feed_flags = FeedFlags {
         stop: &flags.stop,
         ready: &[],
