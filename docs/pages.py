@@ -148,8 +148,8 @@ def copied_code():
     """Blocks of code that differ from the file that they are said to be of. Indents are left out."""
     plain = lambda text: "\n".join(line.strip() for line in text.splitlines())
     for name in CODE_PAGES:
-        for before, block in re.findall(r"([^\n]*)\n\n```rust\n(.*?)```", page(name), re.DOTALL):
-            names = re.findall(r"`(crates/[^`]+\.rt)`", before)
+        for before, block in re.findall(r"([^\n]*)\n\n```(?:rust|c)\n(.*?)```", page(name), re.DOTALL):
+            names = re.findall(r"`((?:crates|bindings)/[^`]+\.(?:rt|c|md))`", before)
             source = "".join((ROOT / file).read_text() for file in names if (ROOT / file).is_file())
             if plain(block) not in plain(source):
                 yield f"{name} has code that isn't word for word in {', '.join(names) or 'any file that it names'}"
