@@ -41,6 +41,22 @@ def load():
     return f"{os.getloadavg()[0]:.1f}"
 
 
+def ticks():
+    """The ticks of all processors since the system began, and of these the ones that the host of a virtual machine took."""
+    with open("/proc/stat") as file:
+        fields = [int(field) for field in file.readline().split()[1:9]]
+    return sum(fields), fields[7]
+
+
+BEGAN = ticks()
+
+
+def taken():
+    """The percentage of the processors' time that the host of a virtual machine took since the script began."""
+    every, host = (now - then for now, then in zip(ticks(), BEGAN))
+    return 100 * host / max(every, 1)
+
+
 def save(name, words, before, lines):
     """Prints the lines under a head that names the run and the machine, and saves them by the day."""
     with open("/proc/cpuinfo") as file:
@@ -48,7 +64,7 @@ def save(name, words, before, lines):
     day = datetime.date.today().isoformat()
     machine = f"{os.cpu_count()} processors, {model.group(1) if model else 'unknown'}"
     script = os.path.basename(sys.argv[0])
-    text = "\n".join([f"bench/{script} {words}".strip() + f", {day}, {machine}, load {before} to {load()}", "", *lines]) + "\n"
+    text = "\n".join([f"bench/{script} {words}".strip() + f", {day}, {machine}, load {before} to {load()}, {taken():.0f} % taken by the host", "", *lines]) + "\n"
     print(text, end="")
     with open(os.path.join(HERE, "results", f"{name}-{day}.txt"), "w") as file:
         file.write(text)
