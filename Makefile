@@ -26,7 +26,7 @@ help:
 	@echo "make test-memory  what the gate has built, with each allocation refused in turn"
 	@echo "make fmt      lay out every file"
 	@echo "make install  programs, library, man pages, completions, service and alerts below PREFIX (/usr/local), and DESTDIR before it"
-	@echo "make deb      the same as a Debian package, in bin/"
+	@echo "make deb      the same as Debian packages, in bin/: darbexum, libdarbexum0 and libdarbexum-dev"
 	@echo "make clean    what was built and kept"
 
 build: bin/darbexum bin/darbexum-live bin/darbexum-sdp
@@ -82,6 +82,9 @@ scripts += docs/commands
 diff/run.ran:
 	DARBEXUM=$(program) diff/run engine 500
 
+# The Debian packages have the library too.
+tests/package.ran: lib
+
 # What the gate has proved makes the library in a minute.
 tests/library.ran: lib
 	tests/library $(program) still
@@ -105,8 +108,8 @@ install: build lib
 	DESTDIR=$(DESTDIR) PREFIX=$(PREFIX) packaging/install bin/darbexum
 	DESTDIR=$(DESTDIR) PREFIX=$(PREFIX) packaging/install --library bin/library
 
-deb: build
-	packaging/deb bin/darbexum bin
+deb: build lib
+	packaging/deb bin/darbexum bin/library bin
 
 clean:
 	rm -rf bin crates/*/out

@@ -163,7 +163,7 @@ typedef struct darbexum_stream_t {
     uint32_t clock;   /* an enum darbexum_clock */
 } darbexum_stream_t;
 
-/* Makes the engine of a configuration (TOML, docs/FORMATS.md), and frees one that the handle had. After a code the
+/* Makes the engine of a configuration (TOML, docs/CONFIGURATION.md), and frees one that the handle had. After a code the
  * handle keeps what it had. `text` is given the text of the fault, or an empty text, cut so that a 0 fits behind it.
  * Returns 0, NO_TOML, NO_STUDIO or NO_MEMORY. */
 int32_t darbexum_open(darbexum *handle, const uint8_t *config, size_t config_len, uint8_t *text, size_t text_len);
