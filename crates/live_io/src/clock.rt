@@ -86,7 +86,7 @@ impl<R: time::Clock> Clock for SystemClock<'_, R> {
 }
 
 /// A clock by which a thread can rest.
-pub(crate) trait RestClock: Clock {
+pub trait RestClock: Clock {
     /// Rests for so many sampling instants at 48 kHz. The system may make the rest longer.
     fn rest(&mut self, instants: u32);
 }

@@ -8,7 +8,8 @@
 //!    `RunPeriod` has the clock of the run, and decides when the feeds end.
 //! 3. `open_sockets` binds a socket for each path and two for the output, by a `SocketConfig`, except
 //!    those that are inherited. `udp_feeds` makes a `Feed` of each receiving socket. A feed takes what
-//!    its socket has, and waits by a `ReceivePace`, unless flags say which sockets are to be read.
+//!    its socket has, and waits by a `ReceivePace`, unless flags say which sockets are to be read. It reads its
+//!    socket as a `RetryingSocket`, which tries a socket that fails less and less often.
 //!    `UdpSink` is the `Sink` of the two sending sockets.
 //! 4. A `RecordChannel` has two ends of a ring. The thread of the run passes each datagram to its
 //!    `RecordObserver`, which pushes whole blocks and never waits. `write_record`, in another thread,
@@ -21,10 +22,8 @@ mod options;
 mod record;
 mod sockets;
 mod tai;
-#[cfg(test)]
-mod tests;
 
-pub use clock::{RunPeriod, SystemClock};
+pub use clock::{RestClock, RunPeriod, SystemClock};
 pub use options::LiveOptions;
 pub use record::observer::{DatagramOrigin, RecordObserver};
 pub use record::writer::{FileResult, RecordWriter, write_record};
@@ -38,6 +37,7 @@ pub use sockets::names::SocketRole;
 pub use sockets::pace::{ReceivePace, ReceiveWait, common_rest, rest_of};
 pub use sockets::ports::LivePorts;
 pub use sockets::receiver::Receiver;
+pub use sockets::retrying::{DatagramSocket, RetryingSocket};
 pub use sockets::sharing::{PathPlace, have_collision};
 pub use sockets::sink::UdpSink;
 pub use sockets::udp_table::{SocketRow, TableScan, drops_in, read_kernel_drops};

@@ -61,7 +61,7 @@ pub struct SocketHealth {
 
 impl SocketHealth {
     /// Returns the health of a socket that has not failed, and of which the kernel has told nothing.
-    pub(crate) fn new() -> SocketHealth {
+    pub fn new() -> SocketHealth {
         SocketHealth {
             faults: AtomicU64::new(0),
             ended: AtomicBool::new(false),

@@ -20,7 +20,7 @@ const LONGEST_WAIT: i32 = 100;
 const LONGEST_REST: i64 = 4_800;
 
 /// A socket that receives the datagrams of a path.
-pub(crate) trait DatagramSocket: Drop {
+pub trait DatagramSocket: Drop {
     /// Receives a datagram into `buf`, and returns its length in octets, or `None` if it is from an unexpected source.
     /// Returns `ErrorKind::WouldBlock` at once if the socket is empty.
     fn receive(&mut self, buf: &mut [u8]) -> io::Result<Option<usize>>
@@ -39,9 +39,9 @@ pub(crate) trait DatagramSocket: Drop {
 /// An attempt that fails is a fault. The next attempt follows after the delay of `FaultBackoff`, and there is nothing
 /// until then. After 1,000 faults without a datagram the socket has ended.
 #[derive(Drop)]
-pub(crate) struct RetryingSocket<'a, S, C> {
-    pub(crate) socket: S,
-    pub(crate) clock: C,
+pub struct RetryingSocket<'a, S, C> {
+    pub socket: S,
+    pub clock: C,
     backoff: FaultBackoff,
     pace: ReceivePace,
     /// The health that the attempts set, if other threads read it.
@@ -52,7 +52,7 @@ pub(crate) struct RetryingSocket<'a, S, C> {
 
 impl<'a, S: DatagramSocket, C: RestClock> RetryingSocket<'a, S, C> {
     /// Returns a socket that has not failed, and that is read at this pace.
-    pub(crate) fn new(
+    pub fn new(
         socket: S,
         clock: C,
         pace: ReceivePace,
@@ -70,12 +70,12 @@ impl<'a, S: DatagramSocket, C: RestClock> RetryingSocket<'a, S, C> {
     }
 
     /// Returns true if attempts at an empty socket wait, because no flag says if it has a datagram.
-    pub(crate) fn waits(&self) -> bool {
+    pub fn waits(&self) -> bool {
         self.ready.is_none()
     }
 
     /// Receives a datagram into `buf`, and returns a feed's result, or `None` after one from an unexpected source.
-    pub(crate) fn next(&mut self, buf: &mut [u8]) -> Option<FeedAnswer>
+    pub fn next(&mut self, buf: &mut [u8]) -> Option<FeedAnswer>
         ensures { IfSome result (λ answer. IsWithin answer (length buf.old)) }
     {
         if self.backoff.has_ended() {

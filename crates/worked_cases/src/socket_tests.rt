@@ -3,13 +3,10 @@
 //! one place.
 ghost use Rattle.std.specs.Prelude.{[]};
 
-use crate::clock::RestClock;
-use crate::sockets::health::SocketHealth;
-use crate::sockets::pace::ReceivePace;
-use crate::sockets::retrying::{DatagramSocket, RetryingSocket};
-use crate::sockets::sharing::{PathPlace, have_collision};
-use crate::sockets::udp_table::drops_in;
-use crate::tai::{TaiOffset, tai_now};
+use live_io::{
+    DatagramSocket, PathPlace, ReceivePace, RestClock, RetryingSocket, SocketHealth, TaiOffset,
+    drops_in, have_collision, tai_now,
+};
 use std::cell::Cell;
 use std::io::ErrorKind;
 use std::net::Ipv4Addr;
@@ -87,11 +84,9 @@ impl RestClock for TestClock {
 /// A socket under test, with a flag that says when it is to be read.
 type Retrying<'a> = RetryingSocket<'a, TestSocket, TestClock>;
 
-impl Retrying<'_> {
-    /// Lets so many sampling instants pass.
-    fn wait(&mut self, instants: i64) {
-        self.clock.now = self.clock.now.saturating_add(instants);
-    }
+/// Lets so many sampling instants pass.
+fn wait(retrying: &mut Retrying<'_>, instants: i64) {
+    retrying.clock.now = retrying.clock.now.saturating_add(instants);
 }
 
 fn failing_socket<'a>(health: &'a SocketHealth, ready: &'a AtomicBool) -> Retrying<'a> {
@@ -128,7 +123,7 @@ fn a_failing_socket_is_tried_less_often_until_it_ends(rt: HostRuntime) {
         if fault == 1000 {
             break;
         }
-        retrying.wait(delay.saturating_sub(1));
+        wait(&mut retrying, delay.saturating_sub(1));
         assert_eq!(rt;
             retrying.next(&mut buf),
             Some(FeedAnswer::Nothing),
@@ -136,7 +131,7 @@ fn a_failing_socket_is_tried_less_often_until_it_ends(rt: HostRuntime) {
         );
         assert_eq!(rt; u64::from(retrying.socket.receives), fault);
         assert!(rt; !health.has_ended());
-        retrying.wait(1);
+        wait(&mut retrying, 1);
         delay = delay.saturating_mul(2).min(1000 * MILLISECOND);
     }
     assert!(rt; health.has_ended());
@@ -167,7 +162,7 @@ fn a_datagram_ends_the_back_off(rt: HostRuntime) {
         let mut buf = [0u8; 4];
         for _ in 0..3 {
             let _ = retrying.next(&mut buf);
-            retrying.wait(10 * MILLISECOND);
+            wait(&mut retrying, 10 * MILLISECOND);
         }
         retrying.socket.set_result(result);
         assert_eq!(rt; retrying.next(&mut buf), answer, "{result:?}");
@@ -181,20 +176,20 @@ fn a_datagram_ends_the_back_off(rt: HostRuntime) {
             );
             ready.store(true, Ordering::SeqCst);
         }
-        retrying.wait(10 * MILLISECOND);
+        wait(&mut retrying, 10 * MILLISECOND);
         retrying.socket.set_result(Receive::Fault);
         assert_eq!(rt;
             retrying.next(&mut buf),
             Some(FeedAnswer::Fault),
             "{result:?}"
         );
-        retrying.wait(delay.saturating_sub(1));
+        wait(&mut retrying, delay.saturating_sub(1));
         assert_eq!(rt;
             retrying.next(&mut buf),
             Some(FeedAnswer::Nothing),
             "{result:?}"
         );
-        retrying.wait(1);
+        wait(&mut retrying, 1);
         assert_eq!(rt;
             retrying.next(&mut buf),
             Some(FeedAnswer::Fault),
