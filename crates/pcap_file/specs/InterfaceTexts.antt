@@ -1,5 +1,5 @@
 -- The texts of an interface: its name and its description (pcapng, Interface Description Block).
-use Rattle.std.specs.Prelude.{ℕ, List, length, Option, Some, None, option_map, nat_lt, ◌==◌, if◌then◌else◌}
+use Rattle.std.specs.Prelude.{ℕ, List, length, Option, Some, None, nat_lt, ◌==◌, if◌then◌else◌}
 use Rattle.pcap_file.specs.declared.cursor.Format.{Format}
 use Rattle.pcap_file.specs.declared.cursor.Format.TheVariants as format
 use Rattle.pcap_file.specs.declared.decode.endian.Endian.{Endian}

@@ -42,6 +42,7 @@ pub use decode::Packet;
 pub use decode::interface_texts::InterfaceTexts;
 pub use decode::ipv4::{UdpBody, UdpDatagram, UdpPacket};
 pub use decode::record_mark::{RecordMark, decimal_number};
+pub use encode::body::{InterfaceName, interface_name};
 pub use encode::datagram::{MAX_DATAGRAM_LEN, RecordedDatagram, nanoseconds_after};
 pub use encode::recorded_stream::{Description, RecordedStream};
 pub use encode::{

@@ -6,6 +6,7 @@ mod LineLemmas
 mod ReplayLemmas
 mod RoutingLemmas
 mod RecordLemmas
+mod RecordedPathLemmas
 mod RecordPacketsLemmas
 mod WavObserverLemmas
 mod ImportLinesLemmas

@@ -8,6 +8,7 @@ pub mod Observed
 pub mod WavObserver
 pub mod ImportLines
 pub mod Replay
+pub mod RecordedPaths
 pub use Rattle.pcap_file.specs.Packet
 pub use Rattle.pcap_file.specs.Capture
 pub use Rattle.pcap_file.specs.Entries

@@ -1,17 +1,36 @@
 //! The paths of a record, and their comparison with the configuration of a studio.
-ghost use Rattle.std.specs.Prelude.{◌≤◌, length, IfOk, IfSome};
+ghost use Rattle.std.specs.Prelude.{
+  ◌≡◌,
+  ◌≤◌,
+  ◌+◌,
+  ◌↔◌,
+  List,
+  length,
+  IfOk,
+  IfSome,
+  IsOk,
+  IsTrue,
+  IsOkAnd,
+  None,
+  OnOk,
+};
 ghost use Rattle.pcap_file.specs.ReadBuffer.{octets_of};
 ghost use Rattle.pcap_file.specs.Reader.{IsNext};
+ghost use Rattle.pcap_file.specs.Blocks.{interface_text};
+ghost use Rattle.pcap_replay.specs.RecordedPaths.{ArePathsOf, Begins, HasDescription, IsPathOf, recorded_of};
 
 use pcap_file::{
     BlockParser, InterfaceTexts, ReadBuffer, ReaderFault, RecordedStream, has_whole_block,
-    interface_texts, next_block, open_reader,
+    interface_name, interface_texts, next_block, open_reader,
 };
 use rtp_stream::StreamSpec;
 use rtp_wire::Enc;
 use std::alloc::{AllocError, Global};
 use std::io::Read;
 use thiserror::Error;
+
+/// The letter of a stream's first path.
+const FIRST_LETTER: u8 = b'a';
 
 /// A path of a record: its name, and the description of its stream's configuration, as its interface has them.
 #[derive(Drop)]
@@ -47,11 +66,6 @@ impl RecordedPath {
         })
     }
 
-    /// Returns true if this is the path with a letter of the stream with a number.
-    fn is_named(&self, number: usize, letter: u8) -> bool {
-        self.stream() == Some(number) && self.name.as_slice().last() == Some(&letter)
-    }
-
     /// Returns the number of the path's stream, if the name has one.
     fn stream(&self) -> Option<usize> {
         let name = self.name.as_slice();
@@ -63,10 +77,28 @@ impl RecordedPath {
         str::from_utf8(name.get(..space)?).ok()?.parse().ok()
     }
 
-    /// Returns true if this path of a record is that of a stream, by the description of the stream. A record without
-    /// descriptions is compared by its names alone.
-    fn has_description(&self, description: &[u8]) -> bool {
-        self.description.is_empty() || self.description.as_slice() == description
+    /// Returns true if this is the path with a letter of the stream with a number, by its name and its description.
+    fn is_of(&self, number: u16, stream: &StreamSpec, letter: u8) -> bool
+        ensures { IsTrue result ↔ IsPathOf number stream.now letter self.now }
+    {
+        self.is_named(number, letter) && self.is_described_as(stream)
+    }
+
+    /// Returns true if this is the path with a letter of the stream with a number, by its name.
+    fn is_named(&self, number: u16, letter: u8) -> bool
+        ensures { IsTrue result ↔ (self.now.name.items ≡ interface_text number letter) }
+    {
+        self.name.as_slice() == interface_name(number, letter).as_slice()
+    }
+
+    /// Returns true if this path's description is that of a stream, or if it has none, as in records of older versions.
+    fn is_described_as(&self, stream: &StreamSpec) -> bool
+        ensures { IsTrue result ↔ HasDescription stream.now self.now.description.items }
+    {
+        if self.description.is_empty() {
+            return true;
+        }
+        self.description.as_slice() == recorded_stream(stream).description().as_slice()
     }
 }
 
@@ -125,7 +157,63 @@ fn add_path(
 
 /// Returns the first difference between the configuration by which a record with these paths was made and a studio's
 /// streams, stream by stream; `None` if there is none.
-pub fn recording_fault(paths: &[RecordedPath], streams: &[StreamSpec]) -> Option<RecordingFault> {
+pub fn recording_fault(paths: &[RecordedPath], streams: &[StreamSpec]) -> Option<RecordingFault>
+    ensures same { result ≡ None → ArePathsOf 0 streams.now paths.now }
+    ensures different { length streams.now ≤ 16 → ArePathsOf 0 streams.now paths.now → result ≡ None }
+{
+    let misplaced = paths_behind(paths, 0, streams).err()?;
+    let place = paths.len().saturating_sub(misplaced.len());
+    Some(stream_difference(paths, streams).unwrap_or(RecordingFault::Interface(place)))
+}
+
+/// Returns nothing if the paths are those of these streams, of which the first has this number. Otherwise returns the
+/// paths from the first one on that is not, or the end, if a path is missing there.
+fn paths_behind<'a>(
+    paths: &'a [RecordedPath],
+    number: u16,
+    streams: &[StreamSpec],
+) -> Result<(), &'a [RecordedPath]>
+    ensures same { OnOk result (ArePathsOf number streams.now paths.now) }
+    ensures different { number + length streams.now ≤ 16 → ArePathsOf number streams.now paths.now → IsOk result }
+{
+    let [stream, later @ ..] = streams else {
+        return if paths.is_empty() { Ok(()) } else { Err(paths) };
+    };
+    let rest = paths_behind_stream(paths, number, stream, FIRST_LETTER, stream.paths())?;
+    let Some(next) = number.checked_add(1) else {
+        return Err(rest);
+    };
+    paths_behind(rest, next, later)
+}
+
+/// Returns the paths behind so many paths of a stream, of which the first has this letter. If they do not stand there,
+/// returns the paths from the first one on that is not in its place.
+fn paths_behind_stream<'a>(
+    paths: &'a [RecordedPath],
+    number: u16,
+    stream: &StreamSpec,
+    letter: u8,
+    count: u8,
+) -> Result<&'a [RecordedPath], &'a [RecordedPath]>
+    requires letters { letter + count ≤ 255 }
+    ensures same { IfOk result (λ rest. Begins number stream.now letter count paths.now rest.now) }
+    ensures different { (rest : List RecordedPath) → Begins number stream.now letter count paths.now rest
+        → IsOkAnd result (λ found. found.now ≡ rest) }
+{
+    if count == 0 {
+        return Ok(paths);
+    }
+    match paths.split_first() {
+        Some((path, rest)) if path.is_of(number, stream, letter) => {
+            paths_behind_stream(rest, number, stream, letter + 1, count - 1)
+        }
+        _ => Err(paths),
+    }
+}
+
+/// Returns the first difference between the streams of a record with these paths and those of a studio, if there is
+/// one beside the names and the order of the interfaces.
+fn stream_difference(paths: &[RecordedPath], streams: &[StreamSpec]) -> Option<RecordingFault> {
     for (number, stream) in streams.iter().enumerate() {
         let fault = stream_fault(paths, number, stream);
         if fault.is_some() {
@@ -139,7 +227,7 @@ pub fn recording_fault(paths: &[RecordedPath], streams: &[StreamSpec]) -> Option
     if recorded != streams.len() {
         return Some(RecordingFault::Streams(recorded, streams.len()));
     }
-    order_fault(paths, streams)
+    None
 }
 
 /// Returns the first difference between a recorded stream and a stream of a studio.
@@ -193,33 +281,10 @@ fn value_fault(
     None
 }
 
-/// Returns the first interface that is not the path at its place among those of a studio's streams, by its name and by
-/// its description.
-fn order_fault(paths: &[RecordedPath], streams: &[StreamSpec]) -> Option<RecordingFault> {
-    let mut place: usize = 0;
-    for (number, stream) in streams.iter().enumerate() {
-        let description = recorded_stream(stream).description();
-        for path in 0..stream.paths() {
-            let Some(recorded) = paths.get(place) else {
-                return Some(RecordingFault::Interface(place));
-            };
-            let letter = b'a'.saturating_add(path);
-            if !recorded.is_named(number, letter)
-                || !recorded.has_description(description.as_slice())
-            {
-                return Some(RecordingFault::Interface(place));
-            }
-            place = place.saturating_add(1);
-        }
-    }
-    if place < paths.len() {
-        return Some(RecordingFault::Interface(place));
-    }
-    None
-}
-
 /// Returns the configuration of a stream as a record has it.
-fn recorded_stream(stream: &StreamSpec) -> RecordedStream {
+fn recorded_stream(stream: &StreamSpec) -> RecordedStream
+    ensures { result ≡ recorded_of stream.now }
+{
     RecordedStream {
         bits: match stream.enc() {
             Enc::L16 => 16,

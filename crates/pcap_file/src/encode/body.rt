@@ -17,6 +17,9 @@ use itoa::Buffer;
 // 4 of the end.
 pub(crate) type BlockBody = ArrayVec<u8, 128>;
 
+/// The name of an interface. It has at most 7 octets.
+pub type InterfaceName = BlockBody;
+
 /// Appends octets.
 pub(crate) fn push(head: &mut BlockBody, octets: &[u8])
     requires { array_vec_len head.old + length octets.now ≤ 128 }
@@ -102,10 +105,18 @@ fn push_name(head: &mut BlockBody, stream: u16, letter: u8)
     ensures items { head.new.items ≡ head.old.items ++ option_octets 2 (interface_text stream letter) }
     ensures length { array_vec_len head.new ≤ array_vec_len head.old + 12 }
 {
+    push_option(head, 2, interface_name(stream, letter).as_slice());
+}
+
+/// Returns the name of the interface of a stream's path, as `0 a`: the stream's number, a space and the path's letter.
+pub fn interface_name(stream: u16, letter: u8) -> InterfaceName
+    ensures text { result.items ≡ interface_text stream letter }
+    ensures few { array_vec_len result ≤ 7 }
+{
     let mut text = BlockBody::new();
     push(&mut text, Buffer::new().format(stream).as_bytes());
     push(&mut text, &[b' ', letter]);
-    push_option(head, 2, text.as_slice());
+    text
 }
 
 /// Returns the octets before a datagram in its block: the packet's fields, and the IPv4 and UDP headers.

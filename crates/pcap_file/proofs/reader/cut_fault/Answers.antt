@@ -1,4 +1,4 @@
-use Rattle.std.proofs.Common.{length, arith}
+use Rattle.std.proofs.Common.{arith}
 use Rattle.pcap_file.specs.ReadBuffer.{octets_of}
 use Rattle.pcap_file.proofs.ReaderLemmas.{no_cut, one_cut}
 use Rattle.pcap_file.proofs.reader.cut_fault.Goals as goal
