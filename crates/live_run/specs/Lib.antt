@@ -1,5 +1,6 @@
 pub mod Report
 pub mod RunResult
+pub mod Observed
 pub mod LatestStats
 pub mod StreamStatus
 pub mod RunText

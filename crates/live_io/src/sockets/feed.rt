@@ -2,12 +2,12 @@
 ghost use Rattle.std.specs.Prelude.{◌≡◌, [], length, IfOk};
 
 use crate::clock::{RunPeriod, SystemClock};
+use crate::record::observer::DatagramOrigin;
 use crate::sockets::health::SocketHealth;
 use crate::sockets::pace::ReceivePace;
 use crate::sockets::receiver::Receiver;
 use crate::sockets::retrying::RetryingSocket;
 use std::alloc::{AllocError, Global};
-use std::net::SocketAddrV4;
 use std::sync::atomic::{AtomicBool, Ordering};
 use std::time::Clock;
 use studio_io::{Clock as ReadClock, Feed, FeedAnswer};
@@ -61,25 +61,18 @@ impl<'a, R: Clock> UdpFeed<'a, R> {
         }
     }
 
-    /// Returns the path's index among the paths of all streams, ordered by stream and then by path.
-    pub fn path_index(&self) -> u32
-        ensures { result ≡ self.now.path_index }
+    /// Returns the path on which the last datagram arrived, with its two addresses. The source address is 0.0.0.0:0 if
+    /// the receiver keeps no sources.
+    pub fn origin(&self) -> DatagramOrigin
+        ensures path { result.path_index ≡ self.now.path_index }
+        ensures source { result.source ≡ self.now.retrying.socket.last_source }
+        ensures destination { result.destination ≡ self.now.retrying.socket.address }
     {
-        self.path_index
-    }
-
-    /// Returns the source address of the last datagram, or 0.0.0.0:0 if the receiver keeps no sources.
-    pub fn source(&self) -> SocketAddrV4
-        ensures { result ≡ self.now.retrying.socket.last_source }
-    {
-        self.retrying.socket.last_source
-    }
-
-    /// Returns the address to which the path's datagrams are sent.
-    pub fn destination(&self) -> SocketAddrV4
-        ensures { result ≡ self.now.retrying.socket.address }
-    {
-        self.retrying.socket.address
+        DatagramOrigin {
+            path_index: self.path_index,
+            source: self.retrying.socket.last_source,
+            destination: self.retrying.socket.address,
+        }
     }
 
     /// Returns true if nothing more is to be received.

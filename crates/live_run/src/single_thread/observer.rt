@@ -1,6 +1,7 @@
 //! The observer of a run in one thread: its record and its status, if these are wanted.
-ghost use Rattle.std.specs.Prelude.{[], ◌∷◌, None};
+ghost use Rattle.std.specs.Prelude.{◌≡◌, [], ◌∷◌, None};
 ghost use Rattle.engine_run.specs.Observers.{Came, Closed, Hears};
+ghost use Rattle.live_run.specs.Observed.{RecordsClose, RecordsPacket};
 
 use crate::shown_health::ShownHealth;
 use engine_run::RunObserver;
@@ -65,32 +66,53 @@ impl<'a, R: Clock, E: Write + Drop> RunObserver<UdpFeed<'a, R>> for LiveObserver
         octets: &[u8],
         receipt: ArriveOutcome,
         feed: &UdpFeed<'a, R>,
-    ) {
-        if let Some(record) = &mut self.record {
-            let origin = DatagramOrigin {
-                path_index: feed.path_index(),
-                source: feed.source(),
-                destination: feed.destination(),
-            };
-            record.arrived(engine.time(), octets, &origin);
-        }
+    )
+        ensures recorded { (origin : DatagramOrigin)
+            × RecordsPacket engine.now.time origin octets.now self.old.«record» self.new.«record» }
+    {
+        record_datagram(&mut self.record, engine.time(), octets, &feed.origin());
         if let Some(status) = &mut self.status {
             status.note(engine, stream, path, octets, receipt);
         }
     }
 
-    fn before_wait(&mut self, engine: &Engine) {
+    fn before_wait(&mut self, engine: &Engine)
+        ensures recorded { self.new.«record» ≡ self.old.«record» }
+    {
         if let Some(status) = &mut self.status {
             status.publish_if_due(engine);
         }
     }
 
-    fn closed(&mut self, engine: &Engine) {
-        if let Some(record) = &mut self.record {
-            record.closed(engine.time());
-        }
+    fn closed(&mut self, engine: &Engine)
+        ensures recorded { RecordsClose engine.now.time self.old.«record» self.new.«record» }
+    {
+        record_close(&mut self.record, engine.time());
         if let Some(status) = &mut self.status {
             status.publish_last(engine);
         }
+    }
+}
+
+/// Puts the datagram that arrived into the record, if there is one.
+fn record_datagram(
+    record: &mut Option<RecordObserver<'_>>,
+    time: i64,
+    octets: &[u8],
+    origin: &DatagramOrigin,
+)
+    ensures { RecordsPacket time origin.now octets.now «record».old «record».new }
+{
+    if let Some(record) = record {
+        record.arrived(time, octets, origin);
+    }
+}
+
+/// Puts the close into the record, if there is one.
+fn record_close(record: &mut Option<RecordObserver<'_>>, time: i64)
+    ensures { RecordsClose time «record».old «record».new }
+{
+    if let Some(record) = record {
+        record.closed(time);
     }
 }
