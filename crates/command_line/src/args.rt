@@ -114,4 +114,6 @@ pub struct LiveArgs<'a> {
     pub tai_offset: Option<&'a str>,
     /// The path of the run's record, if one is asked for.
     pub record: Option<&'a str>,
+    /// True if the fault of a socket is explained: what it is for, its address, and the system's error.
+    pub verbose: bool,
 }

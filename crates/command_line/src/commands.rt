@@ -164,6 +164,11 @@ const LIVE: &[ArgSpec] = &[
         ..FLAG
     },
     ArgSpec {
+        name: "verbose",
+        help: "Say of a socket that cannot be opened what it is for, where, and the system's error",
+        ..FLAG
+    },
+    ArgSpec {
         name: "one-thread",
         help: "Run in one thread, in place of a worker for each path and stream",
         ..FLAG

@@ -145,6 +145,7 @@ fn live_args<'a>(matches: &ArgMatches<'a>) -> LiveArgs<'a> {
         share_groups: matches.get_flag("share-groups"),
         tai_offset: matches.get_str("clock").map(|_tai| offset),
         record: matches.get_str("record"),
+        verbose: matches.get_flag("verbose"),
     }
 }
 

@@ -42,5 +42,6 @@ pub use sockets::sharing::{PathPlace, have_collision};
 pub use sockets::sink::UdpSink;
 pub use sockets::udp_table::{SocketRow, TableScan, drops_in, read_kernel_drops};
 pub use sockets::unexpected::UnexpectedSources;
+pub use sockets::unopened::{SystemReason, UnopenedSocket, unopened_socket};
 pub use sockets::{SocketConfig, Sockets, open_sockets};
 pub use tai::{TaiOffset, TaiTime, tai_now};

@@ -2,7 +2,7 @@
 //! and `receiver` and `sink` those that receive and send. `feed` makes a feed of a receiver; `unexpected` tests and
 //! counts the sources of datagrams. `sharing` says which paths can be at one place. A socket that fails is read by
 //! `retrying`, as `backoff` says, and one that is empty as `pace` says. `health` has what the sockets count, and
-//! `udp_table` what the kernel counts.
+//! `udp_table` what the kernel counts. `unopened` says which socket could not be opened.
 
 use crate::sockets::addresses::{PathAddress, addresses_of};
 use crate::sockets::health::RunHealth;
@@ -13,6 +13,7 @@ use crate::sockets::receiver::{Receiver, inherited_socket, receiving_socket};
 use crate::sockets::sharing::{PathPlace, have_collision};
 use crate::sockets::sink::UdpSink;
 use crate::sockets::unexpected::UnexpectedSources;
+use crate::sockets::unopened::ADDRESS_IN_USE;
 use std::alloc::{AllocError, Global};
 use std::io;
 use std::io::ErrorKind;
@@ -34,6 +35,7 @@ pub(crate) mod sink;
 pub(crate) mod socket_kind;
 pub(crate) mod udp_table;
 pub(crate) mod unexpected;
+pub(crate) mod unopened;
 
 /// The configuration of a run's sockets, in addition to the studio's addresses.
 #[derive(Clone, Copy)]
@@ -68,7 +70,7 @@ pub fn open_sockets<'a, R: Net>(
     config: SocketConfig<'a>,
 ) -> io::Result<Sockets<'a>> {
     let receiving = open_receivers(rt, alloc, studio, config)?;
-    let sink = UdpSink::bind(rt, &studio.networks().output, config)?;
+    let sink = UdpSink::bind(rt, &studio.networks().output, receiving.len(), config)?;
     Ok(Sockets { receiving, sink })
 }
 
@@ -83,7 +85,8 @@ struct ReceiverPlan<'a> {
 }
 
 /// Returns a socket for each path, ordered by stream and then by path. Before any socket is made it returns
-/// `ErrorKind::AddrInUse` if two of the new ones would be at one place and could not share it.
+/// `ErrorKind::AddrInUse` if two of the new ones would be at one place and could not share it. The health notes the
+/// first socket that cannot be opened.
 fn open_receivers<'a, R: Net>(
     rt: &R,
     alloc: Global,
@@ -96,13 +99,21 @@ fn open_receivers<'a, R: Net>(
         descriptors: config.inherited.descriptors(alloc, studio.streams())?,
         config,
     };
-    if have_collision(plan.new_places(alloc)?.as_slice()) {
-        return Err(io::Error::from(ErrorKind::AddrInUse));
-    }
     let count = config.ports.paths.len();
+    if have_collision(plan.new_places(alloc, count)?.as_slice()) {
+        let fault = io::Error::from_raw_os_error(ADDRESS_IN_USE);
+        return Err(
+            config
+                .health
+                .note_unopened(plan.first_collision(alloc, count)?, fault),
+        );
+    }
     let mut receivers = Vec::with_capacity(alloc, count)?;
     for index in 0..count {
-        receivers.push(plan.receiver(rt, index)?)?;
+        match plan.receiver(rt, index) {
+            Ok(receiver) => receivers.push(receiver)?,
+            Err(fault) => return Err(config.health.note_unopened(index, fault)),
+        }
     }
     Ok(receivers)
 }
@@ -146,15 +157,27 @@ fn place_at(addresses: &[PathAddress], ports: &[u16], index: usize) -> Option<Pa
 }
 
 impl<'a> ReceiverPlan<'a> {
-    /// Returns the places of the paths without inherited sockets. Returns `AllocError` if an allocation fails.
-    fn new_places(&self, alloc: Global) -> Result<Vec<PathPlace>, AllocError> {
-        let mut places = Vec::with_capacity(alloc, self.places.len())?;
-        for index in 0..self.places.len() {
+    /// Returns the places of those of the first so many paths that have no inherited sockets. Returns `AllocError` if an
+    /// allocation fails.
+    fn new_places(&self, alloc: Global, count: usize) -> Result<Vec<PathPlace>, AllocError> {
+        let mut places = Vec::with_capacity(alloc, count)?;
+        for index in 0..count {
             if let Some(place) = self.new_place(index) {
                 places.push(place)?;
             }
         }
         Ok(places)
+    }
+
+    /// Returns the index of the first path that collides with one before it, or `count` if none of so many does. Returns
+    /// `AllocError` if an allocation fails.
+    fn first_collision(&self, alloc: Global, count: usize) -> Result<usize, AllocError> {
+        for index in 0..count {
+            if have_collision(self.new_places(alloc, index.saturating_add(1))?.as_slice()) {
+                return Ok(index);
+            }
+        }
+        Ok(count)
     }
 
     /// Returns the place of the path at an index, or `None` if there is no such path or its socket was inherited.

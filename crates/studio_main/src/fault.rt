@@ -1,6 +1,6 @@
 //! The faults of the program, with their lines on standard error and their exit statuses.
 use file_commands::CommandFault;
-use live_io::InheritedSocketFault;
+use live_io::{InheritedSocketFault, UnopenedSocket};
 use live_run::LiveFault;
 use pcap_file::RecordEnd;
 use std::alloc::{AllocError, AllocFailed};
@@ -26,6 +26,9 @@ pub(crate) enum ProgramFault {
     /// A live run ended early.
     #[error("{0}")]
     Live(#[from] LiveFault),
+    /// A socket of a live run could not be opened, and the fault is to be explained.
+    #[error("device: socket\n{0}")]
+    Socket(UnopenedSocket),
     /// Sockets that the program inherited are refused, or an allocation for them failed.
     #[error("{0}")]
     Inherited(#[from] InheritedSocketFault),
@@ -47,7 +50,7 @@ impl ProgramFault {
             ProgramFault::Live(LiveFault::Memory) => 4,
             ProgramFault::Inherited(InheritedSocketFault::Memory) => 4,
             ProgramFault::Live(_) | ProgramFault::Inherited(_) | ProgramFault::Clock => 5,
-            ProgramFault::RecordEnded(_) | ProgramFault::PathEnded => 5,
+            ProgramFault::Socket(_) | ProgramFault::RecordEnded(_) | ProgramFault::PathEnded => 5,
         }
     }
 

@@ -4,12 +4,12 @@ use command_line::LiveArgs;
 use file_commands::{CommandFault, Host, output_result, parse_studio, table_in};
 use live_io::{
     InheritedSockets, LivePorts, RecordResult, RunHealth, SocketConfig, TaiOffset, TaiTime,
-    UnexpectedSources, tai_now,
+    UnexpectedSources, tai_now, unopened_socket,
 };
 use live_run::{LiveFault, LiveInputs, StreamName, run_studio_live};
 use pcap_file::{CreateRecord, RecordFault};
 use rtp_stream::Path;
-use std::alloc::Global;
+use std::alloc::{AllocError, Global};
 use std::io::Write;
 use std::net::Net;
 use std::random::RandomSource;
@@ -87,7 +87,23 @@ fn run_loaded<R: Threads + Wait + Sync + Net + Clock + RandomSource + Env + Allo
         faults,
         record.as_ref(),
     );
+    if args.verbose && matches!(ran, Err(LiveFault::Socket)) {
+        return Err(explained(alloc, studio, inputs.sockets)?);
+    }
     finish(ran, studio, inputs, args, output)
+}
+
+/// Returns the fault of a run whose sockets could not all be opened, explained if the socket is known. Returns
+/// `AllocError` if an allocation fails.
+fn explained(
+    alloc: Global,
+    studio: &StudioSpec,
+    sockets: SocketConfig<'_>,
+) -> Result<ProgramFault, AllocError> {
+    Ok(match unopened_socket(alloc, studio, sockets)? {
+        Some(unopened) => ProgramFault::Socket(unopened),
+        None => ProgramFault::Live(LiveFault::Socket),
+    })
 }
 
 /// The inputs of a live run in addition to its studio.

@@ -1,6 +1,7 @@
 //! The health of a run's sockets: what the feeds and the sink count, and other threads read.
 
 use std::alloc::{AllocError, Global};
+use std::io;
 use std::sync::atomic::{AtomicBool, AtomicU64, Ordering};
 use studio_config::StudioSpec;
 
@@ -16,6 +17,8 @@ const NO_INODE: u64 = 0;
 pub struct RunHealth {
     paths: Vec<SocketHealth>,
     sends: SendHealth,
+    /// The first socket that could not be opened: 2^32 times one more than its index, and the system's error number.
+    unopened: AtomicU64,
 }
 
 impl RunHealth {
@@ -30,6 +33,7 @@ impl RunHealth {
         Ok(RunHealth {
             paths,
             sends: SendHealth::new(),
+            unopened: AtomicU64::new(0),
         })
     }
 
@@ -41,6 +45,27 @@ impl RunHealth {
     /// Returns the health of the two sockets that send.
     pub fn sends(&self) -> &SendHealth {
         &self.sends
+    }
+
+    /// Notes that a socket could not be opened, and returns the fault. The index is that of a path, ordered by stream and
+    /// then by path, or of a copy of the mix behind them.
+    pub(crate) fn note_unopened(&self, index: usize, fault: io::Error) -> io::Error {
+        let code = fault.raw_os_error().unwrap_or(0);
+        let place = (index as u64).saturating_add(1).min(u64::from(u32::MAX));
+        self.unopened.store(
+            place << 32 | u64::from(code.unsigned_abs()),
+            Ordering::SeqCst,
+        );
+        fault
+    }
+
+    /// Returns the index of the socket that could not be opened, and the system's error number, which is 0 if it gave
+    /// none. Returns `None` if all sockets were opened.
+    pub(crate) fn unopened(&self) -> Option<(usize, i32)> {
+        let noted = self.unopened.load(Ordering::SeqCst);
+        let index = (noted >> 32).checked_sub(1)?;
+        let code = i32::try_from(noted % 0x1_0000_0000).unwrap_or(0);
+        Some((usize::try_from(index).ok()?, code))
     }
 
     /// Returns true if the socket of a path failed so often that the path was given up.

@@ -85,31 +85,35 @@ pub struct UdpSink<'a> {
 
 impl<'a> UdpSink<'a> {
     /// Returns a sink to two ports at the output's addresses, by the inherited sockets if there are any. Returns the
-    /// system's error if it refuses.
+    /// system's error if it refuses; the health notes which socket that was, behind those of `paths` paths.
     pub(crate) fn bind<R: Net>(
         rt: &R,
         addresses: &OutputAddresses,
+        paths: usize,
         config: SocketConfig<'a>,
     ) -> io::Result<UdpSink<'a>> {
         let ttl = addresses.ttl;
         let inherited = config.inherited;
+        let a = Sender::bind(
+            rt,
+            inherited.to_a,
+            addresses.from_a,
+            addresses.to_a,
+            config.ports.to_a,
+            ttl,
+        );
+        let b = Sender::bind(
+            rt,
+            inherited.to_b,
+            addresses.from_b,
+            addresses.to_b,
+            config.ports.to_b,
+            ttl,
+        );
+        let noted = |index: usize, fault: io::Error| config.health.note_unopened(index, fault);
         Ok(UdpSink {
-            a: Sender::bind(
-                rt,
-                inherited.to_a,
-                addresses.from_a,
-                addresses.to_a,
-                config.ports.to_a,
-                ttl,
-            )?,
-            b: Sender::bind(
-                rt,
-                inherited.to_b,
-                addresses.from_b,
-                addresses.to_b,
-                config.ports.to_b,
-                ttl,
-            )?,
+            a: a.map_err(|fault| noted(paths, fault))?,
+            b: b.map_err(|fault| noted(paths.saturating_add(1), fault))?,
             health: config.health.sends(),
         })
     }
