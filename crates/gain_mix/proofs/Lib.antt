@@ -4,3 +4,5 @@ pub mod FrameLemmas
 pub mod ChangeLemmas
 pub mod SilenceLemmas
 pub mod SaturatedLemmas
+pub mod LiveLemmas
+mod WorkedCases

@@ -1,5 +1,5 @@
 -- A matrix of gains, and the changes of it.
-use Rattle.std.specs.Prelude.{ℤ, List, [], ◌∷◌, int_le, if◌then◌else◌}
+use Rattle.std.specs.Prelude.{ℤ, List, [], ◌∷◌, ◌++◌, int_le, int_lt, if◌then◌else◌}
 
 -- the rows before any change, and the rows from each time on
 pub record Changes : Type 0 where
@@ -14,3 +14,22 @@ last_change rows (change ∷ later) t = last_change (if int_le change.0 t then c
 -- the matrix in force at t
 abbrev pub matrix_at : Changes → ℤ → List (List ℤ)
 matrix_at changes t = last_change changes.first changes.later t
+
+-- those of these changes that come before a time
+abbrev pub before : ℤ → List (ℤ × List (List ℤ)) → List (ℤ × List (List ℤ))
+before at [] = []
+before at (change ∷ later) = if int_lt change.0 at then change ∷ before at later else before at later
+
+-- one change more: from its time on its matrix is in force, in place of all that was to change from then on
+abbrev pub with_change : Changes → ℤ → List (List ℤ) → Changes
+with_change changes at rows = record changes { later = before at changes.later ++ (at, rows) ∷ [] }
+
+-- the changes that are left after t, with the last one up to t as the rows before them
+abbrev pub rest_of : List (List ℤ) → List (ℤ × List (List ℤ)) → ℤ → Changes
+rest_of rows [] t = record { first = rows; later = [] }
+rest_of rows (change ∷ later) t =
+    if int_le change.0 t then rest_of change.1 later t else record { first = rows; later = change ∷ later }
+
+-- a schedule from t on: its matrix at t, and the changes that are still to come
+abbrev pub rest_at : Changes → ℤ → Changes
+rest_at changes t = rest_of changes.first changes.later t

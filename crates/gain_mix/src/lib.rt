@@ -2,7 +2,8 @@
 //! once.
 //!
 //! 1. `Matrix::new` takes the gains row by row, one row for each output. `Schedule::new` takes a
-//!    first matrix and later ones with their times. Only these two calls allocate.
+//!    first matrix and later ones with their times. `LiveSchedule::new` takes a schedule into use: `change`
+//!    adds to it, and `pass` lets go of what is past. Only these three constructors allocate.
 //! 2. `mix_frame` mixes the inputs of one frame by a matrix, and `mix_block` those of a block.
 //!    `mix_span` mixes a block by the gains in force at each of its times, and `mix_counted` also
 //!    counts the saturated samples.
@@ -12,11 +13,13 @@
 #![tactic(auto)]
 
 mod four_rows;
+mod live;
 mod matrix;
 mod mix;
 mod saturation;
 mod schedule;
 
+pub use live::{ChangeFault, LiveSchedule};
 pub use matrix::{Matrix, MatrixFault};
 pub use mix::{mix_block, mix_frame};
 pub use saturation::mix_counted;

@@ -98,6 +98,16 @@ impl Matrix {
         self.gains.as_slice()
     }
 
+    /// Replaces the gains, row by row.
+    pub(crate) fn set(&mut self, gains: &[i32])
+        requires len { length gains.now ≡ length self.old * ins_of self.old }
+        requires in_range { All IsGain gains.now }
+        ensures { self.new ≡ rows_of (ins_of self.old) (length self.old) gains.now }
+    {
+        self.gains.copy_from_slice(gains);
+        widen(gains, self.wide.as_mut_slice());
+    }
+
     /// Returns the gains of one output, in 64 bits.
     pub(crate) fn row(&self, output: usize) -> &[i64]
         requires { output < length self.now }
@@ -137,6 +147,16 @@ fn wide_gains(alloc: Global, gains: &[i32]) -> Result<Vec<i64>, AllocError>
     Ok(wide)
 }
 
+/// Writes the same gains in 64 bits.
+fn widen(gains: &[i32], wide: &mut [i64])
+    requires { length wide.old ≡ length gains.now }
+    ensures { wide.new ≡ gains.now }
+{
+    for place in 0..gains.len() {
+        wide[place] = i64::from(gains[place]);
+    }
+}
+
 /// Returns the first fault of these gains, allocation failures aside.
 fn fault_of(outs: usize, ins: usize, gains: &[i32]) -> Option<MatrixFault>
     ensures { result ≡ matrix_fault_of outs ins gains.now }
@@ -158,7 +178,7 @@ fn has_shape(outs: usize, ins: usize, gains: &[i32]) -> bool
 }
 
 /// Returns true if each gain is from -1,048,576 to 1,048,576, which is 16 times the input.
-fn has_range(gains: &[i32]) -> bool
+pub(crate) fn has_range(gains: &[i32]) -> bool
     ensures { result ≡ has_range gains.now }
 {
     // So a sum over 1,024 inputs of 24 bits stays within 2^53, and is exact.

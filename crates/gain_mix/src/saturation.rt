@@ -25,9 +25,10 @@ ghost use Rattle.gain_mix.specs.Changes.{matrix_at};
 ghost use Rattle.gain_mix.specs.Mix.{Is24Bits, IsMixed, mixed_frame, output_sample, rounded_sum, saturated_sum};
 ghost use Rattle.gain_mix.specs.Saturated.{AreAdded, is_saturated, is_saturated_sample, saturated_at, saturated_count};
 
+use crate::live::LiveSchedule;
 use crate::matrix::Matrix;
 use crate::mix::{rounded, saturated, weighted_sum};
-use crate::schedule::{Schedule, mix_span};
+use crate::schedule::mix_span;
 
 /// Returns true if no output sample can hold a sum, once the sum is rounded.
 fn is_past(sum: i64, shift: u32) -> bool
@@ -85,7 +86,7 @@ fn count_frame(matrix: &Matrix, ins: &[i32], outs: &[i32], shift: u32, counts: &
 /// Adds to each output's count the number of its samples that are saturated, of inputs and outputs that `mix_span`
 /// mixed.
 fn count_saturated(
-    schedule: &Schedule,
+    schedule: &LiveSchedule,
     t: i64,
     ins: &[i32],
     outs: &[i32],
@@ -122,7 +123,7 @@ fn count_saturated(
 
 /// Mixes as `mix_span` does, and adds to each output's count the number of its samples that were saturated.
 pub fn mix_counted(
-    schedule: &Schedule,
+    schedule: &LiveSchedule,
     t: i64,
     ins: &[i32],
     outs: &mut [i32],

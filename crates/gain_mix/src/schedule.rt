@@ -17,10 +17,11 @@ ghost use Rattle.std.specs.Prelude.{
   IsOkAnd,
 };
 ghost use Rattle.gain_mix.specs.Gain.{ins_of};
-ghost use Rattle.gain_mix.specs.Changes.{matrix_at};
+ghost use Rattle.gain_mix.specs.Changes.{last_change, matrix_at};
 ghost use Rattle.gain_mix.specs.Mix.{Is24Bits, IsMixed};
-ghost use Rattle.gain_mix.specs.Schedule.{schedule_fault_of, has_one_shape, has_times, is_rising};
+ghost use Rattle.gain_mix.specs.Schedule.{IsChanges, schedule_fault_of, has_one_shape, has_times, is_rising};
 
+use crate::live::LiveSchedule;
 use crate::matrix::Matrix;
 use crate::mix::{is_silent, mix_frame};
 use std::alloc::{AllocError, Global};
@@ -28,10 +29,10 @@ use std::marker::Model;
 use thiserror::Error;
 
 /// The greatest number of changes.
-const CHANGES: usize = 64;
+pub(crate) const CHANGES: usize = 64;
 
 /// The greatest time of a change, 2^60 sampling instants, which is also the greatest reading of a merge's clock.
-const MAX_TIME: i64 = 1 << 60;
+pub(crate) const MAX_TIME: i64 = 1 << 60;
 
 /// The reason why changes are no schedule: the first of these that holds, in this order.
 #[derive(Clone, Copy, Debug, PartialEq, Eq, Error)]
@@ -88,13 +89,7 @@ impl Schedule {
         ensures outs { length result.now ≡ length self.now.first }
         ensures ins { ins_of result.now ≡ ins_of self.now.first }
     {
-        let mut matrix = &self.first;
-        for change in &self.later {
-            if change.0 <= t {
-                matrix = &change.1;
-            }
-        }
-        matrix
+        last_of(&self.first, self.later.as_slice(), t)
     }
 
     /// Returns the matrix before any change.
@@ -107,6 +102,7 @@ impl Schedule {
     /// Returns the changes, each with its time, in order.
     pub fn later(&self) -> &[(i64, Matrix)]
         ensures changes { result.now ≡ self.now.later }
+        ensures sound { IsChanges self.now.first self.now.later }
 
         // So a copy of the schedule can be made of them.
         ensures no_fault { schedule_fault_of self.now.first self.now.later ≡ None }
@@ -152,8 +148,21 @@ impl Schedule {
     }
 }
 
+/// Returns the matrix of the last of these changes at or before a time, else the first matrix.
+pub(crate) fn last_of<'a>(first: &'a Matrix, later: &'a [(i64, Matrix)], t: i64) -> &'a Matrix
+    ensures { result.now ≡ last_change first.now later.now t }
+{
+    let mut matrix = first;
+    for change in later {
+        if change.0 <= t {
+            matrix = &change.1;
+        }
+    }
+    matrix
+}
+
 /// Returns a matrix of the same gains, or an error if an allocation fails.
-fn copied_matrix(alloc: Global, matrix: &Matrix) -> Result<Matrix, AllocError>
+pub(crate) fn copied_matrix(alloc: Global, matrix: &Matrix) -> Result<Matrix, AllocError>
     ensures { IfOk result (λ copy. copy ≡ matrix.now) }
 {
     match Matrix::new(alloc, matrix.outs(), matrix.ins(), matrix.gains()) {
@@ -164,7 +173,7 @@ fn copied_matrix(alloc: Global, matrix: &Matrix) -> Result<Matrix, AllocError>
 }
 
 /// Returns a copy of the changes, or an error if an allocation fails.
-fn copied_changes(
+pub(crate) fn copied_changes(
     alloc: Global,
     changes: &[(i64, Matrix)],
 ) -> Result<Vec<(i64, Matrix)>, AllocError>
@@ -236,7 +245,7 @@ fn is_rising(later: &[(i64, Matrix)]) -> bool
 ///
 /// The shift is 16 for L24 output and 24 for L16 output.
 pub fn mix_span(
-    schedule: &Schedule,
+    schedule: &LiveSchedule,
     t: i64,
     ins: &[i32],
     outs: &mut [i32],

@@ -91,7 +91,7 @@ covered_before (feed ∷ feeds) t u h e =
     ap (λ b. b && are_covered feeds u) (covers_before (cover_of (format_of feed.stream) feed.marks) t u h (both_left (covers (cover_of (format_of feed.stream) feed.marks) t) (are_covered feeds t) e))
     ∙ covered_before feeds t u h (both_right (covers (cover_of (format_of feed.stream) feed.marks) t) (are_covered feeds t) e)
 
-same_rows : (row other : ℕ → List ℤ) (a n : ℕ) → ((f : ℕ) → f < n → row (a + f) ≡ other (a + f)) → flat_map row (range_with_len a n) ≡ flat_map other (range_with_len a n)
+pub same_rows : (row other : ℕ → List ℤ) (a n : ℕ) → ((f : ℕ) → f < n → row (a + f) ≡ other (a + f)) → flat_map row (range_with_len a n) ≡ flat_map other (range_with_len a n)
 same_rows row other a zero same = refl
 same_rows row other a (suc n) same =
     let here : a ≡ a + 0 = omega arith in

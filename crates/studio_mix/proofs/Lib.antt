@@ -9,4 +9,5 @@ pub mod RoomLemmas
 pub mod LawLemmas
 pub mod SaturatedLemmas
 pub mod FirstBlockLemmas
+pub mod ChangedLemmas
 mod WorkedCases

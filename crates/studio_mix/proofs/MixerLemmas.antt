@@ -95,6 +95,7 @@ fed_more studio mixer feeds n i lane feed mark fed at new counted =
     record {
       output = fed.output;
       schedule = fed.schedule;
+      width = fed.width;
       number = fed.number;
       streams = map-set_same (λ (f : Feed). f.stream) feeds i next feed (ap (λ (f : Feed). f.stream) (sym (get_or_from_slice_get feeds i feed feed at))) ∙ fed.streams;
       lanes = record { count = lanes.count; each = lanes.each };

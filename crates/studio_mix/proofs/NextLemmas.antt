@@ -8,7 +8,8 @@ use Rattle.rtp_wire.specs.declared.encoding.Enc.{Enc}
 use Rattle.rtp_wire.specs.declared.encoding.Enc.TheVariants.{L16, L24}
 use Rattle.rtp_wire.specs.Sample.{FitsEncoding}
 use Rattle.lane_align.specs.Lane.{LaneState}
-use Rattle.gain_mix.specs.Changes.{Changes, matrix_at}
+use Rattle.gain_mix.specs.Changes.{Changes, matrix_at, rest_at}
+use Rattle.gain_mix.proofs.LiveLemmas.{rest_rest}
 use Rattle.gain_mix.specs.Gain.{ins_of}
 use Rattle.gain_mix.specs.Mix.{Is24Bits, IsMixed, mixed_frame, output_sample, rounded_sum, saturated_sum, weighted_sum}
 use Rattle.mix_packets.specs.declared.out_spec.Output.{Output}
@@ -67,14 +68,19 @@ mixed_fits enc schedule t ins outs frames s width height shift mixed high wide l
     (rows_fit enc (λ f. mixed_frame (matrix_at schedule (t +ℤ pos f)) (take width (drop (f * width) ins)) (shift_of enc)) 0 frames (λ k. frame_fits enc (matrix_at schedule (t +ℤ pos k)) (take width (drop (k * width) ins))))
 
 -- the mixer stands at the next block
-pub next_fed : (studio : Studio) (mixer : MixerState) (feeds : List Feed) (n : ℕ) (lanes : List LaneState) (packer : PackerState) (counts : List ℕ)
+pub next_fed : (studio : Studio) (mixer : MixerState) (feeds : List Feed) (n : ℕ) (lanes : List LaneState) (packer : PackerState) (counts : List ℕ) (schedule : Changes)
     → HasFeeds studio mixer feeds n → packer ≡ record { spec = mixer.packer.spec; number = mixer.packer.number + 1 }
     → AreFed studio.output.start studio.output.frames lanes feeds (block_start studio.output n +ℤ pos studio.output.frames)
     → AreSaturated studio feeds (n + 1) counts
-    → HasFeeds studio (record { lanes = lanes; schedule = mixer.schedule; packer = packer; saturated = counts }) feeds (n + 1)
-next_fed studio mixer feeds n lanes packer counts fed e moved counted = record {
+    → schedule ≡ rest_at mixer.schedule (block_start studio.output (n + 1)) → ins_of schedule.first ≡ ins_of mixer.schedule.first
+    → HasFeeds studio (record { lanes = lanes; schedule = schedule; packer = packer; saturated = counts }) feeds (n + 1)
+next_fed studio mixer feeds n lanes packer counts schedule fed e moved counted passed wide = record {
   output = ap (λ (p : PackerState). p.spec) e ∙ fed.output;
-  schedule = fed.schedule;
+  schedule =
+      passed
+      ∙ ap (λ (s : Changes). rest_at s (block_start studio.output (n + 1))) fed.schedule
+      ∙ rest_rest studio.schedule.later (block_start studio.output n) (block_start studio.output (n + 1)) (let end = next_start studio.output n in omega (arith, ints, end)) studio.schedule.first;
+  width = wide ∙ fed.width;
   number = ap (λ (p : PackerState). p.number) e ∙ ap (λ k. k + 1) fed.number;
   streams = fed.streams;
   lanes = subst (AreFed studio.output.start studio.output.frames lanes feeds) (next_start studio.output n) moved;
@@ -82,23 +88,24 @@ next_fed studio mixer feeds n lanes packer counts fed e moved counted = record {
 }
 
 -- and is sound
-pub next_sound : (mixer : MixerState) (out : Output) (time : ℤ) (one ins outs : List ℤ) (lanes : List LaneState) (packer : PackerState) (one' ins' outs' : List ℤ) (later : ℤ) (counts : List ℕ)
+pub next_sound : (mixer : MixerState) (out : Output) (time : ℤ) (one ins outs : List ℤ) (lanes : List LaneState) (packer : PackerState) (one' ins' outs' : List ℤ) (later : ℤ) (counts : List ℕ) (schedule : Changes)
     → IsMixer mixer out time one ins outs → time ≤ℤ pos (2 ^ 61 + 192)
     → packer ≡ record { spec = mixer.packer.spec; number = mixer.packer.number + 1 } → later ≡ time +ℤ pos out.frames
     → All (IsLaneAt out.frames (time +ℤ pos out.frames)) lanes → length lanes ≡ length mixer.lanes → lane_channels lanes ≡ lane_channels mixer.lanes
     → length one' ≡ length one → length ins' ≡ length ins → length outs' ≡ length outs → All Is24Bits ins' → length counts ≡ length mixer.saturated
-    → IsMixer (record { lanes = lanes; schedule = mixer.schedule; packer = packer; saturated = counts }) out later one' ins' outs'
-next_sound mixer out time one ins outs lanes packer one' ins' outs' later counts sound early e later_is each count channels len_one len_ins len_outs in_24_bits len_counts = record {
+    → length schedule.first ≡ length mixer.schedule.first → ins_of schedule.first ≡ ins_of mixer.schedule.first
+    → IsMixer (record { lanes = lanes; schedule = schedule; packer = packer; saturated = counts }) out later one' ins' outs'
+next_sound mixer out time one ins outs lanes packer one' ins' outs' later counts schedule sound early e later_is each count channels len_one len_ins len_outs in_24_bits len_counts high wide = record {
   out_is = sound.out_is ∙ sym (ap (λ (p : PackerState). p.spec) e);
   out_ok = sound.out_ok;
   time_is = later_is ∙ ap (λ t. t +ℤ pos out.frames) sound.time_is ∙ next_start out mixer.packer.number ∙ ap (block_start out) (sym (ap (λ (p : PackerState). p.number) e));
   not_late = let few = sound.out_ok.few_frames in omega (arith, ints, few, early, later_is);
   each_lane = subst (λ t. All (IsLaneAt out.frames t) lanes) (sym later_is) each;
   some_lanes = let s = sound.some_lanes in omega (arith, s, count);
-  width = sound.width ∙ sym channels;
-  height = sound.height;
+  width = wide ∙ sound.width ∙ sym channels;
+  height = high ∙ sound.height;
   one_room = len_one ∙ sound.one_room;
-  ins_room = len_ins ∙ sound.ins_room;
+  ins_room = len_ins ∙ sound.ins_room ∙ ap (λ w. out.frames * w) (sym wide);
   outs_room = len_outs ∙ sound.outs_room;
   in_24_bits = in_24_bits;
   counts = len_counts ∙ sound.counts;

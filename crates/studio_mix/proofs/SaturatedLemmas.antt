@@ -90,7 +90,7 @@ from_split studio feeds channel t n (suc m) =
     ap (saturated_from studio feeds channel t) e ∙ omega (arith, first, here)
 
 -- what is counted of a block's inputs is what the studio's values have
-block_counted : (studio : Studio) (feeds : List Feed) (schedule : Changes) (t : ℤ) (ins : List ℤ) (channel s n : ℕ) → schedule ≡ studio.schedule → s ≡ shift_of studio.output.enc
+block_counted : (studio : Studio) (feeds : List Feed) (schedule : Changes) (t : ℤ) (ins : List ℤ) (channel s n : ℕ) → ((f : ℕ) → matrix_at schedule (t +ℤ pos f) ≡ matrix_at studio.schedule (t +ℤ pos f)) → s ≡ shift_of studio.output.enc
     → ((f : ℕ) → f < n → take (ins_of (matrix_at schedule (t +ℤ pos f))) (drop (f * ins_of (matrix_at schedule (t +ℤ pos f))) ins) ≡ studio_values feeds (t +ℤ pos f))
     → saturated_count (λ f. matrix_at schedule (t +ℤ pos f)) ins s channel n ≡ saturated_from studio feeds channel t n
 block_counted studio feeds schedule t ins channel s zero is shift known = refl
@@ -99,13 +99,13 @@ block_counted studio feeds schedule t ins channel s (suc n) is shift known =
     let rows = matrix_at studio.schedule (t +ℤ pos n) in
     ap (λ x. x + saturated_at (matrix n) (take (ins_of (matrix n)) (drop (n * ins_of (matrix n)) ins)) s channel) (block_counted studio feeds schedule t ins channel s n is shift (λ f h. known f (omega (arith, h))))
     ∙ ap (λ v. saturated_from studio feeds channel t n + saturated_at (matrix n) v s channel) (known n (omega arith))
-    ∙ ap (λ h. saturated_from studio feeds channel t n + saturated_at (matrix_at h (t +ℤ pos n)) (studio_values feeds (t +ℤ pos n)) s channel) is
+    ∙ ap (λ m. saturated_from studio feeds channel t n + saturated_at m (studio_values feeds (t +ℤ pos n)) s channel) (is n)
     ∙ ap (λ k. saturated_from studio feeds channel t n + saturated_at rows (studio_values feeds (t +ℤ pos n)) k channel) shift
 
 -- one block more is counted
 pub saturated_next : (studio : Studio) (feeds : List Feed) (n : ℕ) (counts new : List ℕ) (schedule : Changes) (t : ℤ) (ins : List ℤ) (frames s : ℕ)
     → AreSaturated studio feeds n counts → are_covered feeds (block_start studio.output (n + 1)) ≡ true
-    → schedule ≡ studio.schedule → s ≡ shift_of studio.output.enc → frames ≡ studio.output.frames → t ≡ block_start studio.output n
+    → ((f : ℕ) → matrix_at schedule (t +ℤ pos f) ≡ matrix_at studio.schedule (t +ℤ pos f)) → s ≡ shift_of studio.output.enc → frames ≡ studio.output.frames → t ≡ block_start studio.output n
     → ((f : ℕ) → f < frames → take (ins_of (matrix_at schedule (t +ℤ pos f))) (drop (f * ins_of (matrix_at schedule (t +ℤ pos f))) ins) ≡ studio_values feeds (t +ℤ pos f))
     → AreAdded counts new (λ channel. saturated_count (λ f. matrix_at schedule (t +ℤ pos f)) ins s channel frames)
     → AreSaturated studio feeds (n + 1) new

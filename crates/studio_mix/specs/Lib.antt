@@ -7,6 +7,7 @@ pub mod Lanes
 pub mod Room
 pub mod Saturated
 pub mod Mixer
+pub mod Changed
 pub use Rattle.rtp_wire.specs.Sample
 pub use Rattle.rtp_stream.specs.StreamSpecFacts
 pub use Rattle.rtp_stream.specs.MarkFacts

@@ -4,12 +4,12 @@ use Rattle.rtp_stream.specs.MarkFacts.{MarkView}
 use Rattle.lane_align.specs.Lane.{LaneState, has_room_for, is_next, is_wanting}
 use Rattle.gain_mix.specs.Gain.{ins_of}
 use Rattle.gain_mix.specs.Mix.{Is24Bits}
-use Rattle.gain_mix.specs.Changes.{Changes}
+use Rattle.gain_mix.specs.Changes.{Changes, rest_at}
 use Rattle.mix_packets.specs.declared.out_spec.Output.{Output}
 use Rattle.mix_packets.specs.OutSpec.{IsOutput, sample_total}
 use Rattle.mix_packets.specs.Block.{block_start}
 use Rattle.mix_packets.specs.Packer.{PackerState}
-use Rattle.studio_config.specs.Studio.{Studio}
+use Rattle.studio_config.specs.Studio.{Studio, channel_total}
 use Rattle.studio_mix.specs.Feed.{Feed}
 use Rattle.studio_mix.specs.Lanes.{AreFed, IsLaneAt, lane_channels}
 use Rattle.studio_mix.specs.Saturated.{AreSaturated}
@@ -21,10 +21,12 @@ pub record MixerState : Type 0 where
   pub packer : PackerState
   pub saturated : List ℕ
 
--- the mixer of this studio was fed these marks, gave the blocks before this one, and counted their saturated samples
+-- the mixer of this studio was fed these marks, gave the blocks before this one, and counted their saturated samples; it
+-- keeps the schedule from this block on
 pub record HasFeeds (studio : Studio) (mixer : MixerState) (feeds : List Feed) (next : ℕ) : Type 0 where
   pub output : mixer.packer.spec ≡ studio.output
-  pub schedule : mixer.schedule ≡ studio.schedule
+  pub schedule : mixer.schedule ≡ rest_at studio.schedule (block_start studio.output next)
+  pub width : ins_of mixer.schedule.first ≡ channel_total studio.streams
   pub number : mixer.packer.number ≡ next
   pub streams : map (λ (feed : Feed). feed.stream) feeds ≡ studio.streams
   pub lanes : AreFed studio.output.start studio.output.frames mixer.lanes feeds (block_start studio.output next)

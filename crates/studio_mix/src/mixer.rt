@@ -26,11 +26,15 @@ ghost use Rattle.std.specs.Prelude.{
   Some,
   None,
   is_some,
+  IfErr,
   IfOk,
   IfSome,
+  OnErr,
+  OnOk,
 };
 ghost use Rattle.rtp_stream.specs.StreamSpecFacts.{format_of};
 ghost use Rattle.rtp_stream.specs.MarkList.{is_mark_list};
+ghost use Rattle.gain_mix.specs.Changes.{matrix_at};
 ghost use Rattle.lane_align.specs.Cover.{covers, cover_of};
 ghost use Rattle.mix_packets.specs.OutSpec.{datagram_length};
 ghost use Rattle.mix_packets.specs.Block.{block_start};
@@ -41,10 +45,11 @@ ghost use Rattle.studio_mix.specs.Feed.{Feed, unfed};
 ghost use Rattle.studio_mix.specs.Ready.{is_ready};
 ghost use Rattle.studio_mix.specs.Output.{datagram_of};
 ghost use Rattle.studio_mix.specs.Saturated.{AreSaturated};
+ghost use Rattle.studio_mix.specs.Changed.{gains_fault_of, with_gains};
 
 use crate::lane_capacity::greatest_lag;
 use crate::lanes::{are_covered, new_lanes, reach_past, read_lanes};
-use gain_mix::{Schedule, mix_counted};
+use gain_mix::{ChangeFault, LiveSchedule, Matrix, mix_counted};
 use lane_align::Lane;
 use mix_packets::{OutSpec, Packer};
 use rtp_stream::{Mark, MarkRef};
@@ -56,11 +61,12 @@ use studio_config::StudioSpec;
 ///
 /// While the mixer `wants` a mark of a stream, `feed` takes one that it `accepts`. `feed_ref` and `accepts_ref` do so
 /// with a borrowed mark. `keep_ref` takes a mark before it is wanted, if the mixer `has_room` for it. `next_block`
-/// writes the next datagram. Only `new` and `with_room` allocate.
+/// writes the next datagram. `change_gains` changes the gains from a time on that is not before the next block. Only
+/// `new` and `with_room` allocate.
 #[derive(Drop)]
 pub struct Mixer {
     lanes: Vec<Lane>,
-    schedule: Schedule,
+    schedule: LiveSchedule,
     output: OutSpec,
     packer: Packer,
     /// The media time of the next block, in sampling instants.
@@ -117,7 +123,7 @@ impl Mixer {
         let start = output.start();
         let frames = usize::from(output.frames());
         let lanes = new_lanes(alloc, spec.streams(), start, output.frames(), lag)?;
-        let schedule = spec.schedule().duplicate(alloc)?;
+        let schedule = LiveSchedule::new(alloc, spec.schedule(), start)?;
         // A stream has at most 64 channels.
         let one = zeroed(alloc, frames * 64)?;
         let ins = zeroed(alloc, frames * schedule.ins())?;
@@ -171,6 +177,43 @@ impl Mixer {
             → HasFeeds studio self.now feeds number → result ≡ block_start studio.output (number + 1) }
     {
         self.time + i64::from(self.output.frames())
+    }
+
+    /// Returns the media time at which the next block begins, in sampling instants: the first time whose gains can
+    /// still change.
+    pub fn next_block_start(&self) -> i64
+        ensures value { result ≡ block_start self.now.packer.spec self.now.packer.number }
+        ensures stands { (studio : Studio) (feeds : List Feed) (number : ℕ)
+            → HasFeeds studio self.now feeds number → result ≡ block_start studio.output number }
+    {
+        self.time
+    }
+
+    /// Returns the gains in force at a time, if it isn't before the next block; else those of the next block's start.
+    pub fn gains(&self, at: i64) -> &Matrix
+        ensures value { result.now ≡ matrix_at self.now.schedule at }
+        ensures stands { (studio : Studio) (feeds : List Feed) (number : ℕ)
+            → HasFeeds studio self.now feeds number → block_start studio.output number ≤ℤ at
+            → result.now ≡ matrix_at studio.schedule at }
+    {
+        self.schedule.at(at)
+    }
+
+    /// Changes the gains: from `at` on these are in force, row by row, a row for each output channel, in place of all
+    /// that was to change from then on. No block that was returned changes.
+    pub fn change_gains(&mut self, at: i64, gains: &[i32]) -> Result<(), ChangeFault>
+        ensures stands { OnOk result ((studio : Studio) (feeds : List Feed) (number : ℕ)
+            → HasFeeds studio self.old feeds number
+            → HasFeeds (with_gains studio at gains.now) self.new feeds number) }
+        ensures later { OnOk result (block_start self.old.packer.spec self.old.packer.number ≤ℤ at) }
+        ensures fine { OnOk result (gains_fault_of self.old at gains.now ≡ None) }
+        ensures fault { IfErr result (λ fault. gains_fault_of self.old at gains.now ≡ Some fault) }
+        ensures kept { OnErr result (self.new ≡ self.old) }
+        ensures packer { self.new.packer ≡ self.old.packer }
+        ensures lanes { self.new.lanes ≡ self.old.lanes }
+        ensures saturated { self.new.saturated ≡ self.old.saturated }
+    {
+        self.schedule.change(self.time, at, gains)
     }
 
     /// Returns true if the next block needs more marks of a stream.
@@ -321,6 +364,7 @@ impl Mixer {
         );
         let len = self.packer.next(self.outs.as_slice(), out);
         self.time += i64::from(self.output.frames());
+        self.schedule.pass(self.time);
         Some(len)
     }
 }

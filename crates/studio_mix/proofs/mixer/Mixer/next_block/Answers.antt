@@ -3,7 +3,7 @@ use Rattle.std.proofs.lemmas.Int.{ints}
 use Rattle.std.specs.List.{range_with_len}
 use Rattle.rtp_wire.specs.Sample.{FitsEncoding}
 use Rattle.gain_mix.specs.Mix.{Is24Bits, IsMixed, mixed_frame}
-use Rattle.gain_mix.specs.Changes.{matrix_at}
+use Rattle.gain_mix.specs.Changes.{matrix_at, rest_at}
 use Rattle.gain_mix.specs.Gain.{ins_of}
 use Rattle.gain_mix.specs.Saturated.{AreAdded, saturated_count}
 use Rattle.mix_packets.specs.declared.out_spec.Output.{Output}
@@ -16,8 +16,9 @@ use Rattle.studio_mix.specs.Lanes.{AreFed, IsLaneAt, IsReadyLane, lane_channels}
 use Rattle.studio_mix.specs.Mixer.{MixerState, HasFeeds}
 use Rattle.studio_mix.specs.Ready.{are_covered}
 use Rattle.studio_mix.specs.Room.{rooms_of}
-use Rattle.studio_mix.proofs.MixerLemmas.{block_begin}
-use Rattle.studio_mix.proofs.LawLemmas.{ready_covered}
+use Rattle.studio_mix.proofs.MixerLemmas.{block_begin, next_start}
+use Rattle.studio_mix.proofs.LawLemmas.{ready_covered, same_rows}
+use Rattle.studio_mix.proofs.ChangedLemmas.{fed_matrix}
 use Rattle.studio_mix.proofs.SaturatedLemmas.{saturated_next}
 use Rattle.studio_mix.proofs.NextLemmas.{lent, mixed_fits, mixed_rows, next_fed, next_sound, next_datagram}
 use Rattle.studio_mix.proofs.mixer.Mixer.next_block.Goals as goal
@@ -72,7 +73,7 @@ invariant_of-self c =
     let moved : All (IsLaneAt c.from-frames.result (i.time +ℤ pos c.from-frames.result)) c.read_lanes.new.lanes =
     c.read_lanes.ensures.moved i.time (subst (λ n. All (IsLaneAt n i.time) c.as_mut_slice.result.now) (sym frames) (subst (All (IsLaneAt i.output.frames i.time)) (sym c.as_mut_slice.ensures.value) sound.each_lane)) in
     let channels : lane_channels c.read_lanes.new.lanes ≡ lane_channels c.as_mut_slice.result.now = c.read_lanes.ensures.channels in
-    next_sound (record { lanes = i.lanes.items; schedule = i.schedule; packer = i.packer; saturated = i.saturated.items }) i.output i.time i.one.items i.ins.items i.outs.items _ c.next-len.new.self _ _ _ _ _
+    next_sound (record { lanes = i.lanes.items; schedule = i.schedule; packer = i.packer; saturated = i.saturated.items }) i.output i.time i.one.items i.ins.items i.outs.items _ c.next-len.new.self _ _ _ _ _ c.pass.new.self
     sound early c.next-len.ensures.number later
     (subst (All (IsLaneAt i.output.frames (i.time +ℤ pos i.output.frames))) (sym lanes) (subst (λ n. All (IsLaneAt n (i.time +ℤ pos n)) c.read_lanes.new.lanes) frames moved))
     (ap length lanes ∙ c.read_lanes.auto.lanes ∙ ap length c.as_mut_slice.ensures.value)
@@ -82,6 +83,7 @@ invariant_of-self c =
     (ap length outs ∙ c.mix_counted.auto.outs ∙ ap length c.as_mut_slice-4.ensures.value)
     (subst (All Is24Bits) (sym ins) c.read_lanes.ensures.in_24_bits)
     (ap length counts ∙ c.mix_counted.auto.counts ∙ ap length c.as_mut_slice-5.ensures.value)
+    c.pass.ensures.outs c.pass.ensures.ins
 
 pub returns-clause-some : goal.returns-clause-some
 returns-clause-some c = λ studio feeds number fed.
@@ -114,7 +116,9 @@ returns-clause-some c = λ studio feeds number fed.
     let samples : c.mix_counted.new.outs ≡ block_samples studio feeds number =
     mixed_rows i.schedule t c.as_slice.result.now c.mix_counted.new.outs c.from-frames.result c.shift.result (ins_of i.schedule.first) (length i.schedule.first) (λ f. studio_values feeds (block_start studio.output number +ℤ pos f)) mixed high wide len known
     ∙ ap (λ u. flat_map (λ f. mixed_frame (matrix_at i.schedule (u +ℤ pos f)) (studio_values feeds (block_start studio.output number +ℤ pos f)) c.shift.result) (range_with_len 0 c.from-frames.result)) begin
-    ∙ ap (λ h. flat_map (λ f. mixed_frame (matrix_at h (block_start studio.output number +ℤ pos f)) (studio_values feeds (block_start studio.output number +ℤ pos f)) c.shift.result) (range_with_len 0 c.from-frames.result)) fed'.schedule
+    ∙ same_rows (λ f. mixed_frame (matrix_at i.schedule (block_start studio.output number +ℤ pos f)) (studio_values feeds (block_start studio.output number +ℤ pos f)) c.shift.result)
+    (λ f. mixed_frame (matrix_at studio.schedule (block_start studio.output number +ℤ pos f)) (studio_values feeds (block_start studio.output number +ℤ pos f)) c.shift.result) 0 c.from-frames.result
+    (λ f h. ap (λ m. mixed_frame m (studio_values feeds (block_start studio.output number +ℤ pos (0 + f))) c.shift.result) (fed_matrix studio mixer feeds number (block_start studio.output number +ℤ pos (0 + f)) fed' (omega (arith, ints))))
     ∙ ap (λ k. flat_map (λ f. mixed_frame (matrix_at studio.schedule (block_start studio.output number +ℤ pos f)) (studio_values feeds (block_start studio.output number +ℤ pos f)) k) (range_with_len 0 c.from-frames.result)) (c.shift.ensures ∙ ap (λ (o : Output). shift_of o.enc) out)
     ∙ ap (λ n. flat_map (λ f. mixed_samples studio feeds (block_start studio.output number +ℤ pos f)) (range_with_len 0 n)) frames in
     let covered : are_covered feeds (block_start studio.output (number + 1)) ≡ true = ready_covered studio.output feeds number (sym (c.is_ready.ensures.stands studio feeds number fed) ∙ c.if-not-is_ready.false) in
@@ -126,6 +130,10 @@ returns-clause-some c = λ studio feeds number fed.
     subst (λ new. AreAdded i.saturated.items new more) (sym counts) (subst (λ old. AreAdded old c.mix_counted.new.counts more) c.as_mut_slice-5.ensures.value c.mix_counted.ensures.counted) in
     let moved : AreFed studio.output.start c.from-frames.result c.read_lanes.new.lanes feeds (block_start studio.output number +ℤ pos c.from-frames.result) =
     c.read_lanes.ensures.stands studio.output.start feeds (block_start studio.output number) was_fed in
+    let few = sound.out_ok.few_frames in
+    let end = next_start studio.output number in
+    let size : i.output.frames ≡ studio.output.frames = ap (λ (o : Output). o.frames) out in
+    let next : to_z w64 (of_z w64 (to_z w64 (of_z w64 (to_z w64 (of_z w64 i.time) +ℤ to_z w64 (of_z w64 c.from.result))))) ≡ block_start studio.output (number + 1) = omega (arith, ints, c.from.ensures, c.frames-2.ensures.value, begin, end, size) in
     let length_is : c.next-len.result ≡ datagram_length studio.output = c.next-len.ensures.len ∙ ap datagram_length fed'.output in
     let written : c.next-len.new.out ≡ block_datagram i.packer.spec i.packer.number c.as_slice-2.result.now ++ drop (datagram_length i.packer.spec) c.args.out.now = c.next-len.ensures.written in (
       length_is,
@@ -133,10 +141,11 @@ returns-clause-some c = λ studio feeds number fed.
           ∙ ap (λ l. block_datagram i.packer.spec i.packer.number l ++ drop (datagram_length i.packer.spec) c.args.out.now) (c.as_slice-2.ensures.value ∙ back)
           ∙ ap (λ l. l ++ drop (datagram_length i.packer.spec) c.args.out.now) (next_datagram studio mixer feeds number c.mix_counted.new.outs fed' samples)
           ∙ ap (λ k. datagram_of studio feeds number ++ drop k c.args.out.now) (sym c.next-len.ensures.len),
-      next_fed studio mixer feeds number _ c.next-len.new.self _ fed' c.next-len.ensures.number
+      next_fed studio mixer feeds number _ c.next-len.new.self _ c.pass.new.self fed' c.next-len.ensures.number
           (subst (λ ls. AreFed studio.output.start studio.output.frames ls feeds (block_start studio.output number +ℤ pos studio.output.frames)) (sym lanes)
           (subst (λ n. AreFed studio.output.start n c.read_lanes.new.lanes feeds (block_start studio.output number +ℤ pos n)) frames moved))
-          (saturated_next studio feeds number i.saturated.items _ i.schedule t c.as_slice.result.now c.from-frames.result c.shift.result fed'.saturated covered fed'.schedule (c.shift.ensures ∙ ap (λ (o : Output). shift_of o.enc) out) frames begin values counted),
+          (saturated_next studio feeds number i.saturated.items _ i.schedule t c.as_slice.result.now c.from-frames.result c.shift.result fed'.saturated covered (λ f. fed_matrix studio mixer feeds number (t +ℤ pos f) fed' (omega (arith, ints, begin))) (c.shift.ensures ∙ ap (λ (o : Output). shift_of o.enc) out) frames begin values counted)
+          (subst (λ u. c.pass.new.self ≡ rest_at i.schedule u) next c.pass.ensures.rest) c.pass.ensures.ins,
     )
 
 pub returns-clause-rooms : goal.returns-clause-rooms

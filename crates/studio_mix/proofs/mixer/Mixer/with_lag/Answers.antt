@@ -2,7 +2,7 @@ use Rattle.std.proofs.Common.{lit<, ◌≡◌, ◌*◌, pos, length, map, All, s
 use Rattle.std.proofs.lemmas.Int.{ints}
 use Rattle.std.proofs.lemmas.List.{length-replicate}
 use Rattle.std.proofs.lemmas.List.Elements.{All-replicate}
-use Rattle.gain_mix.specs.Changes.{Changes}
+use Rattle.gain_mix.specs.Changes.{Changes, rest_at}
 use Rattle.gain_mix.specs.Gain.{ins_of}
 use Rattle.gain_mix.specs.Mix.{Is24Bits}
 use Rattle.mix_packets.specs.declared.out_spec.Output.{Output}
@@ -27,16 +27,15 @@ invariant_of-result c =
     let start : to_z w64 (of_z w64 c.start-start.result) ≡ out.start = omega (arith, ints, start_is) in
     let frames : c.from-frames.result ≡ out.frames = c.from-frames.ensures ∙ c.frames.ensures.value in
     let each : All (IsLaneAt c.frames-2.result (to_z w64 (of_z w64 c.start-start.result))) c.in_ok-lanes.lanes.items = c.in_ok-lanes.ensures.each in
-    let schedule : c.in_ok-schedule.schedule ≡ c.args.spec.now.schedule = c.in_ok-schedule.ensures ∙ c.schedule.ensures in
     record {
-      out_is = sym (ap (λ (p : PackerState). p.spec) c.new.ensures);
+      out_is = sym (ap (λ (p : PackerState). p.spec) c.new-2.ensures);
       out_ok = sound;
-      time_is = start ∙ sym (first_start out) ∙ ap (block_start out) (sym (ap (λ (p : PackerState). p.number) c.new.ensures));
+      time_is = start ∙ sym (first_start out) ∙ ap (block_start out) (sym (ap (λ (p : PackerState). p.number) c.new-2.ensures));
       not_late = omega (arith, ints, high, start);
       each_lane = subst (λ n. All (IsLaneAt n (to_z w64 (of_z w64 c.start-start.result))) c.in_ok-lanes.lanes.items) c.frames-2.ensures.value each;
       some_lanes = let n = c.in_ok-lanes.ensures.count in let m = studio.some_streams in let v = ap length c.streams.ensures.value in omega (arith, n, m, v);
-      width = ap (λ (h : Changes). ins_of h.first) schedule ∙ studio.ins ∙ ap channel_total (sym c.streams.ensures.value) ∙ sym c.in_ok-lanes.ensures.channels;
-      height = ap (λ (h : Changes). length h.first) schedule ∙ studio.outs ∙ ap (λ (o : Output). o.channels) (sym c.output.ensures);
+      width = c.in_ok-schedule.ensures.ins ∙ ap (λ (h : Changes). ins_of h.first) c.schedule.ensures ∙ studio.ins ∙ ap channel_total (sym c.streams.ensures.value) ∙ sym c.in_ok-lanes.ensures.channels;
+      height = c.in_ok-schedule.ensures.outs ∙ ap (λ (h : Changes). length h.first) c.schedule.ensures ∙ studio.outs ∙ ap (λ (o : Output). o.channels) (sym c.output.ensures);
       one_room = ap length c.in_ok-one.ensures ∙ length-replicate _ (pos 0) ∙ ap (λ n. n * 64) frames;
       ins_room = ap length c.in_ok-ins.ensures ∙ length-replicate _ (pos 0) ∙ ap (λ n. n * c.ins.result) frames ∙ ap (λ w. out.frames * w) c.ins.ensures.first;
       outs_room = ap length c.in_ok-outs.ensures ∙ length-replicate _ (pos 0) ∙ ap (λ n. n * c.from.result) frames ∙ ap (λ w. out.frames * w) (c.from.ensures ∙ c.channels.ensures.value);
@@ -54,9 +53,14 @@ returns-clause-stands c =
     let start : to_z w64 (of_z w64 c.start-start.result) ≡ out.start = omega (arith, ints, start_is) in
     let fed : AreFed (to_z w64 (of_z w64 c.start-start.result)) c.frames-2.result c.in_ok-lanes.lanes.items (unfed c.streams.result.now) (to_z w64 (of_z w64 c.start-start.result)) = c.in_ok-lanes.ensures.fed in
     record {
-      output = ap (λ (p : PackerState). p.spec) c.new.ensures ∙ c.output.ensures;
-      schedule = c.in_ok-schedule.ensures ∙ c.schedule.ensures;
-      number = ap (λ (p : PackerState). p.number) c.new.ensures;
+      output = ap (λ (p : PackerState). p.spec) c.new-2.ensures ∙ c.output.ensures;
+      schedule =
+          c.in_ok-schedule.ensures.rest
+          ∙ ap (λ (h : Changes). rest_at h (to_z w64 (of_z w64 c.start-start.result))) c.schedule.ensures
+          ∙ ap (rest_at c.args.spec.now.schedule) (start ∙ sym (first_start out))
+          ∙ ap (λ (o : Output). rest_at c.args.spec.now.schedule (block_start o 0)) c.output.ensures;
+      width = c.in_ok-schedule.ensures.ins ∙ ap (λ (h : Changes). ins_of h.first) c.schedule.ensures ∙ c.streams.ensures.sound.ins;
+      number = ap (λ (p : PackerState). p.number) c.new-2.ensures;
       streams = unfed_streams c.args.spec.now.streams;
       lanes =
           subst (λ (o : Output). AreFed o.start o.frames c.in_ok-lanes.lanes.items (unfed c.args.spec.now.streams) (block_start o 0)) c.output.ensures
