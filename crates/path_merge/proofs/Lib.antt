@@ -42,6 +42,9 @@ pub mod FullNumberLemmas
 pub mod SentHistoryLemmas
 pub mod NearLemmas
 pub mod SameClockLemmas
+pub mod EndLemmas
+pub mod PastLemmas
+pub mod HeardOnceLemmas
 pub mod HeardLemmas
 pub mod GainLemmas
 pub mod LentLemmas

@@ -34,4 +34,5 @@ pub mod Goal
 pub mod ReadingSteps
 pub mod ClockLag
 pub mod FollowLaws
+pub mod HeardOnce
 pub mod Run

@@ -35,8 +35,11 @@ ghost use Rattle.rtp_stream.specs.declared.event.Event.{Event};
 ghost use Rattle.rtp_stream.specs.declared.event.Event.TheVariants.{Arrive, Tick, Close};
 ghost use Rattle.rtp_stream.specs.History.{time_of, is_closed, is_well_timed};
 ghost use Rattle.rtp_stream.specs.Anchor.{deadline_of, next_number};
-ghost use Rattle.rtp_stream.specs.Grid.{is_on_grid};
-ghost use Rattle.rtp_stream.specs.Epochs.{anchor_of, last_of};
+ghost use Rattle.rtp_stream.specs.declared.fate.Fate.TheVariants.{Restarted};
+ghost use Rattle.rtp_stream.specs.Fate.{fate_of};
+ghost use Rattle.rtp_stream.specs.Grid.{end_of_copies, extended_number, is_on_grid};
+ghost use Rattle.rtp_stream.specs.Probation.{is_off};
+ghost use Rattle.rtp_stream.specs.Epochs.{anchor_of, anchors_of, last_of};
 ghost use Rattle.rtp_stream.specs.Copies.{copies_of, copies_of_all, first_copy, with_epoch};
 ghost use Rattle.rtp_stream.specs.Marks.{end_mark, marks_of};
 ghost use Rattle.rtp_stream.specs.EpochLaws.{HasSpans};
@@ -56,6 +59,7 @@ ghost use Rattle.rtp_stream.specs.Counts.{counts_of, fates_of};
 ghost use Rattle.rtp_stream.specs.Standing.{is_following};
 ghost use Rattle.rtp_stream.specs.declared.stream_spec.StreamClock.TheVariants.{Arrival, Follow};
 ghost use Rattle.path_merge.specs.FollowLaws.{IsNeverAstray, by_clock};
+ghost use Rattle.path_merge.specs.HeardOnce.{GoOn, HasFewPaths, RisesFrom, numbers_heard};
 ghost use Rattle.path_merge.specs.Merge.{HasHistory};
 ghost use Rattle.path_merge.specs.ClockLag.{IsDue, KeepUp};
 ghost use Rattle.path_merge.specs.Clock.{clock_fault_of};
@@ -243,4 +247,23 @@ pub fn a_sender_in_time_is_heard_as_by_arrival()
     ensures marks { (stream : Stream) (open_at : ℤ) (events : List Event) →
         IsNeverAstray (by_clock Follow stream) open_at events →
         marks_of (by_clock Follow stream) open_at events ≡ marks_of (by_clock Arrival stream) open_at events }
+{}
+
+/// An epoch that a packet in step opens begins past all that was heard in the epoch before: no copy that came in time
+/// there has its number or a greater one. So nothing is heard twice if the sender's numbers go on, which is so unless
+/// a probation opened an epoch: the sender's numbers of all slots with a payload, counted on over the epochs, rise.
+/// A packet that is in step and less than 2^26 from the number that its sender gave it has that number
+/// (`aliases_are_off_grid`).
+pub fn an_epoch_begins_past_all_that_was_heard()
+    ensures past { (stream : Stream) (open_at : ℤ) (events : List Event) (anchor : Anchor) (path : ℕ)
+        (packet : Packet) →
+        0 < stream.frames → HasFewPaths events → anchor_of stream open_at events ≡ Some anchor →
+        fate_of stream open_at events path packet ≡ Restarted →
+        is_off stream anchor (next_number stream anchor (time_of open_at events)) packet ≡ false →
+        end_of_copies (copies_of stream open_at events)
+        ≤ extended_number packet (next_number stream anchor (time_of open_at events)) }
+    ensures once { (stream : Stream) (open_at : ℤ) (events : List Event) →
+        0 < stream.frames → is_well_timed open_at events ≡ true → HasFewPaths events →
+        GoOn stream open_at events (anchors_of stream open_at events) →
+        RisesFrom (pos 0) (numbers_heard stream open_at events) }
 {}

@@ -47,7 +47,8 @@ pub use clock::{ClockFault, clock_fault};
 pub use event_list::{RunFault, run_merge};
 pub use goal::Goal;
 pub use laws::{
-    a_sender_in_time_is_heard_as_by_arrival, aliases_are_off_grid, arrivals_change_no_mark,
+    a_sender_in_time_is_heard_as_by_arrival, aliases_are_off_grid,
+    an_epoch_begins_past_all_that_was_heard, arrivals_change_no_mark,
     each_epoch_recovers_its_numbers, each_number_is_handed_on_once, marks_are_a_mark_list,
     marks_keep_up_with_the_clock, merges_stand_at_their_histories, near_numbers_open_one_epoch,
     next_number_is_the_least_due, nothing_follows_a_close, sent_numbers_are_recovered,
