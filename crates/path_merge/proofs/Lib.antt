@@ -45,6 +45,8 @@ pub mod SameClockLemmas
 pub mod EndLemmas
 pub mod PastLemmas
 pub mod HeardOnceLemmas
+pub mod HeardOnceCases
 pub mod HeardLemmas
+pub mod InStepLemmas
 pub mod GainLemmas
 pub mod LentLemmas

@@ -1,5 +1,5 @@
 //! The calls of a merge that take packets.
-ghost use Rattle.std.specs.Prelude.{◌≡◌, ◌||◌, ℕ, ◌^◌, ◌<◌, List, ℤ, Some, None, true, false};
+ghost use Rattle.std.specs.Prelude.{◌≡◌, ◌||◌, ℕ, ◌^◌, ◌<◌, List, ℤ, Some, None, Ok, true, false};
 ghost use Rattle.rtp_stream.specs.declared.anchor.Anchor.{Anchor};
 ghost use Rattle.rtp_stream.specs.declared.event.Event.{Event};
 ghost use Rattle.rtp_stream.specs.declared.fate.Fate.TheVariants.{Restarted};
@@ -8,20 +8,32 @@ ghost use Rattle.rtp_stream.specs.PacketRef.{packet_of};
 ghost use Rattle.rtp_stream.specs.Counts.{is_counted_fate, is_taken_fate};
 ghost use Rattle.rtp_stream.specs.Fate as fate;
 ghost use Rattle.rtp_stream.specs.Grid.{in_room};
+ghost use Rattle.rtp_stream.specs.Probation.{is_off};
 ghost use Rattle.rtp_stream.specs.PathTrack.{room_by};
+ghost use Rattle.rtp_stream.specs.Standing.{is_following};
 ghost use Rattle.rtp_stream.specs.declared.stream_spec.Stream.{Stream};
 
 use super::Merge;
 use crate::window::Window;
 use rtp_stream::{
-    Anchor, Fate, Packet, PacketRef, Path, Probation, Track, continues_media_time, fate_of_first,
-    fate_of_put, is_off_place, is_taken, media_of_first, media_of_restart, place_of, room_of,
-    update_probation, update_track,
+    Anchor, Fate, Packet, PacketRef, Path, Probation, StreamClock, Track, continues_media_time,
+    fate_of_first, fate_of_put, is_off_place, is_taken, media_of_first, media_of_restart, place_of,
+    room_of, update_probation, update_track,
 };
 
 /// The greatest number of arrivals that are counted, 2^62.
 // An arrival after so many changes nothing, so that counts never wrap.
 const MAX_ARRIVALS: u64 = 4_611_686_018_427_387_904;
+
+/// Returns true if the clock follows its sender, so that each arrival is judged by its path's track.
+fn follows_sender(clock: StreamClock) -> bool
+    ensures { result ≡ is_following clock }
+{
+    match clock {
+        StreamClock::Follow => true,
+        StreamClock::Media { .. } | StreamClock::Arrival => false,
+    }
+}
 
 /// Returns true if an arrival may open an epoch: it completes a probation, or its sender is astray.
 fn is_either(completes: bool, slips: bool) -> bool
@@ -106,20 +118,56 @@ impl<V: Window> Merge<V> {
         ensures restart { opens_epoch self.old anchor path (packet_of packet.now) ≡ true
             → IsRestartStep self.old.spec self.old self.new anchor path (packet_of packet.now) result }
     {
+        if follows_sender(self.spec.clock()) {
+            // A copy, for the reason given in `offer_ref`.
+            let judged = *packet;
+            return self.offer_elsewhere(path, &judged);
+        }
         let next = self.window.base();
-        let room = room_of(&self.spec, &anchor, next, &self.tracks);
+        let room = u64::from(self.spec.window());
         match place_of(&self.spec, &anchor, next, self.next_media, room, packet) {
-            Ok(number) => self.offer_at(anchor, Ok(number), path, packet),
+            Ok(number) => self.offer_in_time(anchor, number, path, packet),
             Err(_) => {
-                // A copy, for the reason given in `offer_ref`.
                 let rare = *packet;
                 self.offer_elsewhere(path, &rare)
             }
         }
     }
 
+    /// Takes a packet in time, by a clock that doesn't follow its sender.
+    #[inline(always)]
+    fn offer_in_time(
+        &mut self,
+        anchor: Anchor,
+        number: u64,
+        path: Path,
+        packet: &PacketRef<'_>,
+    ) -> Fate
+        requires anchored { self.old.anchor ≡ Some anchor }
+        requires open_yet { self.old.closed ≡ false }
+        requires room { self.old.counts.arrived < 2 ^ 62 }
+        requires fits { Fits self.old.spec (packet_of packet.now) }
+        requires plain { is_following self.old.spec.clock ≡ false }
+        requires place { Ok number
+            ≡ fate.place_of (in_room self.old.spec self.old.spec.window) anchor self.old.base (packet_of packet.now) }
+        ensures { IsNextStep self.old.spec self.old self.new anchor path (packet_of packet.now) result }
+    {
+        self.note_in_step(path, packet);
+        self.put_or_refuse(anchor, Ok(number), path, packet)
+    }
+
+    /// Adds a packet that is in step to its path's probation, by a clock that doesn't follow its sender.
+    #[inline(always)]
+    fn note_in_step(&mut self, path: Path, packet: &PacketRef<'_>)
+        ensures { (a : Anchor) → is_following self.old.spec.clock ≡ false
+            → is_off self.old.spec a self.old.base (packet_of packet.now) ≡ false
+            → IsHeardStep self.old self.new a path (packet_of packet.now) }
+    {
+        let _ = update_probation(&mut self.probations, path, &self.spec, false, packet);
+    }
+
     /// Takes an arrival at an anchored merge, whatever its place is.
-    // Out of line, since most packets have a place in the window, and `offer_next` takes these itself.
+    // Out of line, since by most clocks most packets have a place in the window, and `offer_next` takes these itself.
     #[inline(never)]
     fn offer_elsewhere(&mut self, path: Path, packet: &PacketRef<'_>) -> Fate
         requires open_yet { self.old.closed ≡ false }

@@ -1,10 +1,11 @@
-use Rattle.std.proofs.Common.{arith, ap, sym, ◌∙◌, rules}
+use Rattle.std.proofs.Common.{◌≡◌, false, arith, ap, subst, sym, ◌∙◌, rules}
 use Rattle.std.proofs.lemmas.Int.{ints}
 use Rattle.rtp_stream.specs.PacketRef.{packet_of}
-use Rattle.rtp_stream.specs.Fate.{place_of}
-use Rattle.rtp_stream.specs.Grid.{in_room}
-use Rattle.rtp_stream.specs.PathTrack.{room_by}
+use Rattle.rtp_stream.specs.Probation.{is_off}
+use Rattle.rtp_stream.specs.Standing.{is_following}
 use Rattle.path_merge.specs.MergeState.{MergeState}
+use Rattle.path_merge.specs.Steps.{opens_epoch}
+use Rattle.path_merge.proofs.InStepLemmas.{in_step_stays, placed_in_step}
 use Rattle.path_merge.proofs.SoundLemmas.{anchored_at, base_small, due_times, media_small}
 use Rattle.path_merge.proofs.merge.Merge.offer_next.Goals as goal
 
@@ -31,50 +32,23 @@ place_of-requires-clause-media_high g c =
     let t = due_times _ c.self.inside.next_media c.args.anchor c.self.invariant is_a open_yet in
     omega (arith, ints, t.media_low, t.media_high)
 
-pub place_of-requires-clause-room : goal.place_of-requires-clause-room
-place_of-requires-clause-room g c = omega (arith, c.room_of-room.ensures.few, c.self.invariant.spec_ok.narrow)
-
-pub offer_at-requires-clause-place : goal.offer_at-requires-clause-place
-offer_at-requires-clause-place g c =
-    sym (c.in-Ok.is) ∙ c.place_of.ensures ∙ ap (λ r. place_of (in_room c.self.inside.spec r) c.args.anchor c.base-next.result (packet_of c.args.packet.now)) c.room_of-room.ensures.value ∙ ap (λ b. place_of (in_room c.self.inside.spec (room_by c.self.inside.spec c.args.anchor b c.self.inside.tracks)) c.args.anchor b (packet_of c.args.packet.now)) c.base-next.ensures ∙ ap (λ (m : MergeState). place_of (in_room m.spec (room_by m.spec c.args.anchor m.base m.tracks)) c.args.anchor m.base (packet_of c.args.packet.now)) c.self.view_is
-
-pub returns-in-Err-clause-next : goal.returns-in-Err-clause-next
-returns-in-Err-clause-next g c = c.offer_elsewhere.ensures.next c.args.anchor c.requires.anchored
-
-pub returns-in-Err-clause-restart : goal.returns-in-Err-clause-restart
-returns-in-Err-clause-restart g c = c.offer_elsewhere.ensures.restart c.args.anchor c.requires.anchored
-
 pub place_of-requires-clause-low : goal.place_of-requires-clause-low
 place_of-requires-clause-low g c = search rules
-
-pub offer_at-requires-clause-anchored : goal.offer_at-requires-clause-anchored
-offer_at-requires-clause-anchored g c = search rules
-
-pub offer_at-requires-clause-open_yet : goal.offer_at-requires-clause-open_yet
-offer_at-requires-clause-open_yet g c = search rules
-
-pub offer_at-requires-clause-room : goal.offer_at-requires-clause-room
-offer_at-requires-clause-room g c = search rules
-
-pub offer_at-requires-clause-fits : goal.offer_at-requires-clause-fits
-offer_at-requires-clause-fits g c = search rules
-
-pub offer_elsewhere-requires-clause-open_yet : goal.offer_elsewhere-requires-clause-open_yet
-offer_elsewhere-requires-clause-open_yet g c = search rules
-
-pub offer_elsewhere-requires-clause-room : goal.offer_elsewhere-requires-clause-room
-offer_elsewhere-requires-clause-room g c = search rules
-
-pub offer_elsewhere-requires-clause-fits : goal.offer_elsewhere-requires-clause-fits
-offer_elsewhere-requires-clause-fits g c = search rules
-
-pub returns-in-Ok-clause-next : goal.returns-in-Ok-clause-next
-returns-in-Ok-clause-next g c = search rules
-
-pub returns-in-Ok-clause-restart : goal.returns-in-Ok-clause-restart
-returns-in-Ok-clause-restart g c = search rules
 
 pub place_of-requires-clause-anchor_high : goal.place_of-requires-clause-anchor_high
 place_of-requires-clause-anchor_high g c =
     let is_a = ap (λ (m : MergeState). m.anchor) c.self.view_is ∙ c.requires.anchored in
     omega (arith, ints, (anchored_at _ c.self.inside.next_media _ c.args.anchor is_a c.self.invariant.anchored).bounds.media_high)
+
+pub returns-then-follows_sender-clause-next : goal.returns-then-follows_sender-clause-next
+returns-then-follows_sender-clause-next g c = c.offer_elsewhere.ensures.next c.args.anchor c.requires.anchored
+
+pub returns-in-Ok-clause-restart : goal.returns-in-Ok-clause-restart
+returns-in-Ok-clause-restart g c = λ opens.
+    let plain : is_following c.args.self.now.spec.clock ≡ false = sym (ap (λ (m : MergeState). is_following m.spec.clock) c.self.view_is) ∙ sym (ap is_following c.clock.ensures) ∙ sym c.follows_sender.ensures ∙ c.if-follows_sender.false in
+    let here : is_off c.self.inside.spec c.args.anchor c.base-next.result (packet_of c.args.packet.now) ≡ false = placed_in_step c.self.inside.spec _ c.args.anchor c.base-next.result (packet_of c.args.packet.now) c.in-Ok.number (sym c.in-Ok.is ∙ c.place_of.ensures) in
+    let on : is_off c.args.self.now.spec c.args.anchor c.args.self.now.base (packet_of c.args.packet.now) ≡ false = subst (λ (m : MergeState). is_off m.spec c.args.anchor m.base (packet_of c.args.packet.now) ≡ false) c.self.view_is (subst (λ b. is_off c.self.inside.spec c.args.anchor b (packet_of c.args.packet.now) ≡ false) c.base-next.ensures here) in
+    absurd (let stays : opens_epoch c.args.self.now c.args.anchor c.args.path (packet_of c.args.packet.now) ≡ false = in_step_stays c.args.self.now c.args.anchor c.args.path (packet_of c.args.packet.now) plain on in cc)
+
+pub returns-in-Err-clause-next : goal.returns-in-Err-clause-next
+returns-in-Err-clause-next g c = c.offer_elsewhere-in-Err.ensures.next c.args.anchor c.requires.anchored
