@@ -15,3 +15,4 @@ pub mod MixTurnLemmas
 pub mod MixLemmas
 pub mod DatagramLemmas
 pub mod OpenLemmas
+pub mod ChangedLemmas

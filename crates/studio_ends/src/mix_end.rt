@@ -7,6 +7,7 @@ use crate::mix_end::marks_in::take_streams;
 use crate::rings::drained::any_stream_open;
 use crate::rings::marks::MarkConsumer;
 use crate::stream_end::turns::StreamDone;
+use gain_mix::ChangeFault;
 use rtp_stats::MixStatsSender;
 use studio_mix::Mixer;
 
@@ -59,6 +60,9 @@ fn send_stats(
 impl MixEnd {
     // Imported here, since the struct depends on what its file imports, and some of these name the struct.
     ghost use Rattle.std.specs.Prelude.{
+      IfErr,
+      OnErr,
+      OnOk,
       ◌↔◌,
       ◌<◌,
       ◌+◌,
@@ -70,12 +74,14 @@ impl MixEnd {
       Some,
       true,
     };
+    ghost use Rattle.mix_packets.specs.Block.{block_start};
     ghost use Rattle.mix_packets.specs.OutSpec.{datagram_length};
     ghost use Rattle.rtrb.specs.Ring.{all_sent, IsFinishedOf};
     ghost use Rattle.rtp_stream.specs.MarkFacts.{MarkView};
     ghost use Rattle.studio_config.specs.Studio.{Studio};
     ghost use Rattle.studio_mix.specs.Feed.{Feed};
     ghost use Rattle.studio_mix.specs.Blocks.{AreBlocks};
+    ghost use Rattle.studio_mix.specs.Changed.{gains_fault_of, with_gains};
     ghost use Rattle.studio_mix.specs.Saturated.{AreSaturated};
     ghost use Rattle.studio_ends.specs.declared.rings.TokenConsumer.{TokenConsumer};
     ghost use Rattle.studio_ends.specs.AcceptedFeeds.{accepted_feeds, received_total};
@@ -131,6 +137,39 @@ impl MixEnd {
             strange,
             len,
         }
+    }
+
+    /// Returns the media time at which the next block begins, in sampling instants: the first time whose gains can
+    /// still change.
+    pub fn next_block_start(&self) -> i64
+        ensures value { result ≡ block_start self.now.mixer.packer.spec self.now.mixer.packer.number }
+        ensures stands { (studio : Studio) (number : ℕ) → MixHasFeeds studio self.now number
+            → result ≡ block_start studio.output number }
+    {
+        self.mixer.next_block_start()
+    }
+
+    /// Changes the gains: from `at` on, in sampling instants of the media clock, these are in force, in place of all
+    /// that was to change from then on. They are in units of 1/65,536, row by row, a row for each output channel.
+    ///
+    /// `at` is not before `next_block_start`, so no datagram that was written changes. Up to 64 changes may be to
+    /// come. An error changes nothing.
+    pub fn change_gains(&mut self, at: i64, gains: &[i32]) -> Result<(), ChangeFault>
+        ensures stands { OnOk result ((studio : Studio) (number : ℕ) → MixHasFeeds studio self.old number
+            → MixHasFeeds (with_gains studio at gains.now) self.new number) }
+        ensures given { OnOk result ((studio : Studio) (datagrams : List (List ℕ))
+            → HasGiven studio self.old datagrams
+            → HasGiven (with_gains studio at gains.now) self.new datagrams) }
+        ensures fine { OnOk result (gains_fault_of self.old.mixer at gains.now ≡ None) }
+        ensures fault { IfErr result (λ fault. gains_fault_of self.old.mixer at gains.now ≡ Some fault) }
+        ensures kept { OnErr result (self.new ≡ self.old) }
+        ensures sides { self.new.sides ≡ self.old.sides }
+        ensures sender { self.new.sender ≡ self.old.sender }
+        ensures packer { self.new.mixer.packer ≡ self.old.mixer.packer }
+        ensures lanes { self.new.mixer.lanes ≡ self.old.mixer.lanes }
+        ensures saturated { self.new.mixer.saturated ≡ self.old.mixer.saturated }
+    {
+        self.mixer.change_gains(at, gains)
     }
 
     /// Takes the token of a finished stream. The caller passes it to the stream whose end returned it.
