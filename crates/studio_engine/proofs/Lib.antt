@@ -5,3 +5,4 @@ pub mod KeepLemmas
 pub mod EngineLemmas
 pub mod CountsLemmas
 pub mod DeadlineLemmas
+pub mod ChangedLemmas

@@ -27,10 +27,13 @@ ghost use Rattle.std.specs.Prelude.{
   OnErr,
 };
 ghost use Rattle.rtp_stream.specs.declared.stream_spec.Stream.{Stream};
+ghost use Rattle.gain_mix.specs.Changes.{matrix_at};
+ghost use Rattle.mix_packets.specs.Block.{block_start};
 ghost use Rattle.mix_packets.specs.OutSpec.{datagram_length};
 ghost use Rattle.path_merge.specs.Clock.{clock_fault_of};
 ghost use Rattle.studio_config.specs.Studio.{Studio};
 ghost use Rattle.studio_session.specs.Event.{TraceEvent, Arrival, Reading, Closing};
+ghost use Rattle.studio_mix.specs.Changed.{gains_fault_of, with_gains};
 ghost use Rattle.studio_mix.specs.Saturated.{AreSaturated};
 ghost use Rattle.studio_session.specs.Play.{feeds_of};
 ghost use Rattle.studio_session.specs.ArriveOutcome.{receipt_of};
@@ -54,6 +57,7 @@ use crate::dispatch::{push_close, push_datagram, push_reading};
 use crate::early_marks::keep_early_marks;
 use crate::fault::{ArriveFault, Unfinished};
 use crate::next_block::next_datagram;
+use gain_mix::{ChangeFault, Matrix};
 use mix_packets::OutSpec;
 use path_merge::{ClockFault, Counts, Path, StreamSpec, clock_fault};
 use rtp_stream::PathCounts;
@@ -69,8 +73,9 @@ const MAX_EVENTS: usize = 4_611_686_018_427_387_904;
 
 /// A studio as one object.
 ///
-/// `arrive`, `turn` and `close` take input. `turn`, and `drain` after a close, return datagrams. `time`, `stream`,
-/// `next_deadline`, `stream_deadline`, `counts`, `path_counts`, `saturated` and `settled` read. Only `new` allocates.
+/// `arrive`, `turn` and `close` take input, and `change_gains` moves the gains at any time between. `turn`, and `drain`
+/// after a close, return datagrams. `time`, `stream`, `next_deadline`, `stream_deadline`, `next_block_start`, `gains`,
+/// `counts`, `path_counts`, `saturated` and `settled` read. Only `new` allocates.
 #[derive(Drop)]
 pub struct Engine {
     mixer: Mixer,
@@ -266,6 +271,34 @@ impl Engine {
         given
     }
 
+    /// Changes the gains: from `at` on, in sampling instants of the media clock, these are in force, in place of all
+    /// that was to change from then on. They are in units of 1/65,536, row by row, a row for each output channel.
+    ///
+    /// `at` is not before `next_block_start`, so no datagram that was returned changes. Up to 64 changes may be to
+    /// come. An error changes nothing.
+    pub fn change_gains(&mut self, at: i64, gains: &[i32]) -> Result<(), ChangeFault>
+        ensures stands { OnOk result ((studio : Studio) (events : List TraceEvent) (datagrams : List (List ℕ))
+            → HasSession studio self.old events datagrams
+            → HasSession (with_gains studio at gains.now) self.new events datagrams) }
+        ensures ready { OnOk result ((studio : Studio) (events : List TraceEvent) (datagrams : List (List ℕ))
+            → HasGivenReady studio self.old events datagrams
+            → HasGivenReady (with_gains studio at gains.now) self.new events datagrams) }
+        ensures fine { OnOk result (gains_fault_of self.old.mixer at gains.now ≡ None) }
+        ensures fault { IfErr result (λ fault. gains_fault_of self.old.mixer at gains.now ≡ Some fault) }
+        ensures kept { OnErr result (self.new ≡ self.old) }
+        ensures output { self.new.mixer.packer ≡ self.old.mixer.packer }
+        ensures lanes { self.new.mixer.lanes ≡ self.old.mixer.lanes }
+        ensures saturated { self.new.mixer.saturated ≡ self.old.mixer.saturated }
+        ensures cursors { self.new.cursors ≡ self.old.cursors }
+        ensures time { self.new.time ≡ self.old.time }
+        ensures turning { self.new.turning ≡ self.old.turning }
+        ensures closed { self.new.closed ≡ self.old.closed }
+        ensures settled { self.new.settled ≡ self.old.settled }
+        ensures count { self.new.count ≡ self.old.count }
+    {
+        self.mixer.change_gains(at, gains)
+    }
+
     /// Closes the streams: no later packet and no later clock reading is taken. The error changes nothing: a turn
     /// isn't finished.
     pub fn close(&mut self) -> Result<(), Unfinished>
@@ -335,6 +368,26 @@ impl Engine {
             return None;
         }
         reading_past(self.time, &self.mixer, self.cursors.as_slice())
+    }
+
+    /// Returns the media time at which the next block begins, in sampling instants: the first time whose gains can
+    /// still change.
+    pub fn next_block_start(&self) -> i64
+        ensures value { result ≡ block_start self.now.mixer.packer.spec self.now.mixer.packer.number }
+        ensures stands { (studio : Studio) (events : List TraceEvent) (datagrams : List (List ℕ))
+            → HasSession studio self.now events datagrams → result ≡ block_start studio.output (length datagrams) }
+    {
+        self.mixer.next_block_start()
+    }
+
+    /// Returns the gains in force at a media time that is not before the next block.
+    pub fn gains(&self, at: i64) -> &Matrix
+        ensures value { result.now ≡ matrix_at self.now.mixer.schedule at }
+        ensures stands { (studio : Studio) (events : List TraceEvent) (datagrams : List (List ℕ))
+            → HasSession studio self.now events datagrams → block_start studio.output (length datagrams) ≤ℤ at
+            → result.now ≡ matrix_at studio.schedule at }
+    {
+        self.mixer.gains(at)
     }
 
     /// Returns the output.
