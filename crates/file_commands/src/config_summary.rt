@@ -1,4 +1,7 @@
 //! The summary of a configuration: lines for its streams and their paths, the output and its copies, and the gains.
+ghost use Rattle.std.specs.Prelude.{◌≡◌};
+ghost use Rattle.file_commands.specs.Warning as spec;
+
 use gain_mix::Matrix;
 use mix_packets::OutSpec;
 use rtp_stream::{Path, StreamClock, StreamSpec};
@@ -54,29 +57,30 @@ fn write_stream<W: Write>(number: usize, stream: &StreamSpec, output: &mut W) ->
     write_warning(stream, output)
 }
 
-/// Writes a warning if the clock of a stream follows its sender and the window spans less than twice the latency.
-// The latency, two packets and the sender's greatest burst have to fit into the window.
+/// Writes a warning if the window of a stream is too short for its clock.
 fn write_warning<W: Write>(stream: &StreamSpec, output: &mut W) -> io::Result<()> {
-    let window = u64::from(stream.window()) * u64::from(stream.frames());
-    let wanted = 2 * u64::from(stream.latency());
-    if !is_followed(stream.clock()) || window >= wanted {
+    if !is_window_short(stream) {
         return Ok(());
     }
     write!(
         output,
         "  warning: the window spans less than twice the latency "
     )?;
-    write_millis(wanted, output)?;
+    write_millis(2 * u64::from(stream.latency()), output)?;
     writeln!(
         output,
         ", so bursts of the sender may come too early for it"
     )
 }
 
-/// Returns true if a clock follows its sender.
-fn is_followed(clock: StreamClock) -> bool {
-    match clock {
-        StreamClock::Follow => true,
+/// Returns true if the clock of a stream follows its sender, and the window spans less than twice the latency.
+// The latency, two packets and the sender's greatest burst have to fit into the window.
+fn is_window_short(stream: &StreamSpec) -> bool
+    ensures { result ≡ spec.is_window_short stream.now }
+{
+    let window = u64::from(stream.window()) * u64::from(stream.frames());
+    match stream.clock() {
+        StreamClock::Follow => window < 2 * u64::from(stream.latency()),
         StreamClock::Media { .. } | StreamClock::Arrival => false,
     }
 }

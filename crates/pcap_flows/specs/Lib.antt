@@ -3,6 +3,7 @@ pub mod ReceivedNumbers
 pub mod Flow
 pub mod FlowTable
 pub mod Clock
+pub mod StreamTimes
 pub mod TraceLines
 pub mod Trace
 pub mod SamePackets

@@ -3,6 +3,7 @@ use crate::fault::ImportFault;
 use crate::import::stream_plan::{StreamPlan, stream_plans};
 use crate::routes::Routes;
 use crate::table::FlowTable;
+use rtp_stream::StreamClock;
 use std::alloc::{AllocError, Global};
 
 /// The greatest number of channels of an output.
@@ -64,12 +65,11 @@ fn push_stream(text: &mut String, alloc: Global, plan: &StreamPlan) -> Result<()
 
 /// Appends the clock of a stream: that of its media with an offset, or the one that follows its sender, and why.
 fn push_clock(text: &mut String, alloc: Global, plan: &StreamPlan) -> Result<(), AllocError> {
-    let (offset, moved) = (plan.times.offset, plan.times.moved());
-    if moved <= u64::from(plan.latency) {
+    if let StreamClock::Media { offset } = plan.times.clock_for(plan.latency) {
         let clock = format!(in alloc; "clock = \"media\"\noffset = {offset}\n")?;
         return text.push_str(&clock);
     }
-    let (ms, (seconds, ppm)) = (moved / 48, plan.times.rate());
+    let (ms, (seconds, ppm)) = (plan.times.moved() / 48, plan.times.rate());
     let reason = format!(in alloc;
         "# capture time less timestamp moved by {ms} ms, more than the latency; from first to last {ppm} ppm in {seconds} s\n"
     )?;

@@ -1,10 +1,14 @@
-//! The times of streams: their first packets, and how far capture time less timestamp moved.
+//! The times of streams: their first packets, how far capture time less timestamp moved, and the clock that fits them.
+ghost use Rattle.std.specs.Prelude.{◌≡◌};
+ghost use Rattle.pcap_flows.specs.StreamTimes as spec;
+
 use crate::fault::ImportFault;
 use crate::import::clock::CaptureClock;
 use crate::import::route_in;
 use crate::packet::flow_packet;
 use crate::routes::Routes;
 use pcap_file::open;
+use rtp_stream::StreamClock;
 use std::alloc::Global;
 
 /// The times of a stream's packets in a capture. Times are in sampling instants at 48 kHz.
@@ -42,15 +46,42 @@ impl StreamTimes {
     // Both timestamp and clock reading may wrap, so their difference is taken modulo 2^32: half of that is 12 hours.
     fn add(&mut self, ts: u32, reading: u64) {
         let late = signed(self.offset.wrapping_sub(offset_at(ts, reading)));
+        self.note(late, reading);
+    }
+
+    /// Adds a packet that came so much later than its timestamp says.
+    fn note(&mut self, late: i64, reading: u64)
+        ensures { self.new ≡ spec.times_with self.old late reading }
+    {
         self.last = reading;
-        self.least = self.least.min(late);
-        self.greatest = self.greatest.max(late);
+        if late < self.least {
+            self.least = late;
+        }
+        if late > self.greatest {
+            self.greatest = late;
+        }
         self.end = late;
     }
 
     /// Returns the time within which capture time less timestamp stays.
-    pub(crate) fn moved(&self) -> u64 {
+    pub(crate) fn moved(&self) -> u64
+        ensures { result ≡ spec.moved_by self.now }
+    {
         self.greatest.abs_diff(self.least)
+    }
+
+    /// Returns the clock of the stream with a latency in sampling instants: that of its media, by the first packet's
+    /// offset, if capture time less timestamp stays within the latency, or else the one that follows its sender.
+    pub(crate) fn clock_for(&self, latency: u32) -> StreamClock
+        ensures { result ≡ spec.clock_for self.now latency }
+    {
+        if self.moved() <= u64::from(latency) {
+            StreamClock::Media {
+                offset: self.offset,
+            }
+        } else {
+            StreamClock::Follow
+        }
     }
 
     /// Returns the seconds from the first packet to the last, and by how many parts per million packets came earlier
@@ -72,7 +103,9 @@ impl StreamTimes {
 }
 
 /// Returns the number nearest to 0 that is this one modulo 2^32.
-fn signed(number: u32) -> i64 {
+fn signed(number: u32) -> i64
+    ensures { result ≡ spec.nearest_to_zero number }
+{
     let number = i64::from(number);
     if number < 2_147_483_648 {
         number
