@@ -13,7 +13,7 @@ use Rattle.rtp_stream.specs.Copies.{copies_of, copies_of_all}
 use Rattle.rtp_stream.specs.History.{at_places}
 use Rattle.rtp_stream.specs.Marks.{marks_from, marks_of}
 use Rattle.rtp_stream.specs.Standing.{standings_from}
-use Rattle.path_merge.specs.HeardOnce.{goes_on, number_before, numbers_heard}
+use Rattle.path_merge.specs.HeardOnce.{goes_on, number_before, numbers_heard, shift_of}
 
 -- L24, one channel, six sampling instants a packet, a latency of two packets, a window of eight
 abbrev stream : Stream
@@ -34,6 +34,11 @@ late_for_good = Arrive 0 (packet 0) ∷ Tick (pos 100) ∷ packets 1 8 ++ Tick (
 numbers_go_on_over_an_epoch : numbers_heard stream (pos 0) late_for_good ≡ pos 131066 ∷ pos 131074 ∷ []
 unfolding anchor_of anchors_of anchors_from copies_of copies_of_all at_places standings_from marks_of marks_from
 numbers_go_on_over_an_epoch = refl
+
+-- the numbers of epoch 1 are a cycle of 65,536 less than the sender's
+a_cycle_less : shift_of stream (pos 0) late_for_good (record (anchor_from stream (pos 100) (packet 8)) { epoch = 1 }) ≡ pos 65536
+unfolding anchor_of anchors_of anchors_from copies_of copies_of_all at_places standings_from
+a_cycle_less = refl
 
 -- with 131081 due next, the packet of seq 2 is number 131074
 its_number_in_the_epoch_before : number_before (anchor_from stream (pos 100) (packet 8)) 131081 ≡ 131074

@@ -38,10 +38,10 @@ use Rattle.rtp_stream.specs.declared.mark.MarkKind.TheVariants.{End, Quiet, Slot
 use Rattle.rtp_stream.specs.declared.packet.Packet.{Packet}
 
 -- the parts of two equal lists
-head_same : {A : Type 0} {x y : A} {xs ys : List A} → (x ∷ xs) ≡ (y ∷ ys) → x ≡ y
+pub head_same : {A : Type 0} {x y : A} {xs ys : List A} → (x ∷ xs) ≡ (y ∷ ys) → x ≡ y
 head_same e = cc
 
-tail_same : {A : Type 0} {x y : A} {xs ys : List A} → (x ∷ xs) ≡ (y ∷ ys) → xs ≡ ys
+pub tail_same : {A : Type 0} {x y : A} {xs ys : List A} → (x ∷ xs) ≡ (y ∷ ys) → xs ≡ ys
 tail_same e = cc
 
 first_same : {a b c d : ℕ} → ◌≡◌ {A = ℕ × ℕ} (a, b) (c, d) → a ≡ c
@@ -61,13 +61,13 @@ on_both true true e = refl
 on_both true false e = cc
 on_both false y e = cc
 
-same_number : (b : Anchor) (packet : Packet) (next : ℕ) → b.number ≡ 65536 + packet.seq → number_before b next ≡ extended_number packet next
+pub same_number : (b : Anchor) (packet : Packet) (next : ℕ) → b.number ≡ 65536 + packet.seq → number_before b next ≡ extended_number packet next
 same_number b packet next is =
     let low : b.number - 65536 ≡ packet.seq = omega (arith, is) in
     ap (λ s. unsigned_abs (nearest_number 32768 s (pos next))) low
 
 module _ (stream : Stream) (open_at : ℤ) (some : 0 < stream.frames) where
-  in_step : (a b : Anchor) (next : ℕ) (packet : Packet) → b.number ≡ 65536 + packet.seq → b.timestamp ≡ packet.ts → b.source ≡ packet.ssrc → goes_on stream a next b ≡ true → is_off stream a next packet ≡ false
+  pub in_step : (a b : Anchor) (next : ℕ) (packet : Packet) → b.number ≡ 65536 + packet.seq → b.timestamp ≡ packet.ts → b.source ≡ packet.ssrc → goes_on stream a next b ≡ true → is_off stream a next packet ≡ false
   in_step a b next packet number stamp source go =
       on_both (nat_eq packet.ssrc a.source) (is_on_grid stream a (extended_number packet next) packet.ts)
       (sym (ap (λ s. nat_eq s a.source && is_on_grid stream a (number_before b next) b.timestamp) source
@@ -106,7 +106,7 @@ module _ (stream : Stream) (open_at : ℤ) (some : 0 < stream.frames) where
         none Close le = refl
         none (Arrive path packet) le = by_anchor (anchor_of stream open_at (events ++ Arrive path packet ∷ [])) (copies_under (in_room stream (room_in_force stream open_at (last_of (anchors_of stream open_at (events ++ Arrive path packet ∷ []))) events)) (time_of open_at events) (is_counting events) (anchor_of stream open_at (events ++ Arrive path packet ∷ [])) packet) le
 
-    due_stays : (a : Anchor) (place : ℕ) → place ≤ length events → due_at stream open_at (events ++ event ∷ []) a place ≡ due_at stream open_at events a place
+    pub due_stays : (a : Anchor) (place : ℕ) → place ≤ length events → due_at stream open_at (events ++ event ∷ []) a place ≡ due_at stream open_at events a place
     due_stays a place le = ap (λ l. next_number stream a (time_of open_at l)) (take-append-le place events (event ∷ []) le)
 
     past_stays : (i : ℕ) (a : Anchor) (later : List (ℕ × Anchor)) → a.epoch ∷ epochs_in later ≡ numbers_from i (suc (length later)) → i + suc (length later) ≤ limit_of stream (anchor_of stream open_at (events ++ event ∷ [])) → AllWithin (length events) later → PastFrom events a later → PastFrom (events ++ event ∷ []) a later

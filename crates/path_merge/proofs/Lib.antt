@@ -46,6 +46,7 @@ pub mod EndLemmas
 pub mod PastLemmas
 pub mod HeardOnceLemmas
 pub mod HeardOnceCases
+pub mod SentOnceLemmas
 pub mod HeardLemmas
 pub mod InStepLemmas
 pub mod GainLemmas

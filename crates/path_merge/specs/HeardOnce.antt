@@ -1,5 +1,5 @@
 -- What is heard over epochs: nothing twice, as long as the sender's numbers go on.
-use Rattle.std.specs.Prelude.{◌≡◌, ℕ, ◌-◌, ◌<◌, Bool, true, ◌&&◌, nat_eq, List, [], ◌∷◌, ◌++◌, take, ℤ, pos, ◌+ℤ◌, ◌-ℤ◌, ◌≤ℤ◌, if◌then◌else◌, unsigned_abs}
+use Rattle.std.specs.Prelude.{◌≡◌, ℕ, ◌-◌, ◌<◌, Bool, true, ◌&&◌, nat_eq, List, [], ◌∷◌, ◌++◌, take, ℤ, pos, ◌+ℤ◌, ◌-ℤ◌, ◌≤ℤ◌, Option, Some, None, if◌then◌else◌, unsigned_abs}
 use Rattle.rtp_stream.specs.Nearest.{nearest_number}
 use Rattle.rtp_stream.specs.declared.stream_spec.Stream.{Stream}
 use Rattle.rtp_stream.specs.declared.anchor.Anchor.{Anchor}
@@ -12,9 +12,10 @@ use Rattle.rtp_stream.specs.declared.event.Event.TheVariants.{Arrive, Tick, Clos
 use Rattle.rtp_stream.specs.History.{time_of}
 use Rattle.rtp_stream.specs.Anchor.{next_number}
 use Rattle.rtp_stream.specs.Grid.{is_on_grid}
-use Rattle.rtp_stream.specs.Epochs.{anchors_of}
+use Rattle.rtp_stream.specs.Epochs.{anchor_of, anchors_of}
 use Rattle.rtp_stream.specs.MarkFacts.{MarkView}
 use Rattle.rtp_stream.specs.Marks.{marks_of}
+use Rattle.rtp_stream.specs.Sent.{Arrives, Closes, IsNear, SentEvent, SentPacket, Ticks, wire_packet}
 
 -- each arrival is on one of the four paths that a stream may have
 abbrev pub HasFewPaths : List Event → Type 0
@@ -77,3 +78,20 @@ numbers_heard stream open_at events = heard_among (shift_among stream open_at ev
 abbrev pub RisesFrom : ℤ → List ℤ → Type 0
 RisesFrom limit [] = Unit {0}
 RisesFrom limit (n ∷ numbers) = (limit ≤ℤ n) × RisesFrom (n +ℤ pos 1) numbers
+
+-- how far the numbers of an anchor's epoch are from the sender's
+abbrev pub shift_of : Stream → ℤ → List Event → Anchor → ℤ
+shift_of stream open_at events a = shift_among stream open_at events (anchors_of stream open_at events) a.epoch
+
+-- the sender's number lies within this reach of the one that is due next in the epoch in force
+abbrev pub IsNearInForce : Stream → ℤ → ℕ → List Event → Option Anchor → ℤ → Type 0
+IsNearInForce stream open_at reach events None number = Unit {0}
+IsNearInForce stream open_at reach events (Some a) number = IsNear reach (next_number stream a (time_of open_at events)) (number -ℤ shift_of stream open_at events a)
+
+-- that of each arrival does, after these events
+abbrev pub AreNear : Stream → Anchor → ℤ → ℕ → List Event → List SentEvent → Type 0
+AreNear stream first open_at reach before [] = Unit {0}
+AreNear stream first open_at reach before (Arrives path packet ∷ sent) =
+    IsNearInForce stream open_at reach before (anchor_of stream open_at before) packet.number × AreNear stream first open_at reach (before ++ Arrive path (wire_packet stream first packet) ∷ []) sent
+AreNear stream first open_at reach before (Ticks u ∷ sent) = AreNear stream first open_at reach (before ++ Tick u ∷ []) sent
+AreNear stream first open_at reach before (Closes ∷ sent) = AreNear stream first open_at reach (before ++ Close ∷ []) sent

@@ -9,6 +9,7 @@ ghost use Rattle.std.specs.Prelude.{
   ℤ,
   pos,
   ◌+ℤ◌,
+  ◌-ℤ◌,
   ◌≤ℤ◌,
   ◌<ℤ◌,
   List,
@@ -46,20 +47,23 @@ ghost use Rattle.rtp_stream.specs.EpochLaws.{HasSpans};
 ghost use Rattle.rtp_stream.specs.Sent.{
   BeginsWith,
   HasEqualCopies,
+  IsNear,
   IsOneEpoch,
   IsWithinReach,
   OpensNoEpoch,
   SentEvent,
+  SentPacket,
   marks_by_number,
   sent_copies_after,
   timestamp_in_step,
   wire_history,
+  wire_packet,
 };
 ghost use Rattle.rtp_stream.specs.Counts.{counts_of, fates_of};
 ghost use Rattle.rtp_stream.specs.Standing.{is_following};
 ghost use Rattle.rtp_stream.specs.declared.stream_spec.StreamClock.TheVariants.{Arrival, Follow};
 ghost use Rattle.path_merge.specs.FollowLaws.{IsNeverAstray, by_clock};
-ghost use Rattle.path_merge.specs.HeardOnce.{GoOn, HasFewPaths, RisesFrom, numbers_heard};
+ghost use Rattle.path_merge.specs.HeardOnce.{AreNear, GoOn, HasFewPaths, RisesFrom, numbers_heard, shift_of};
 ghost use Rattle.path_merge.specs.Merge.{HasHistory};
 ghost use Rattle.path_merge.specs.ClockLag.{IsDue, KeepUp};
 ghost use Rattle.path_merge.specs.Clock.{clock_fault_of};
@@ -266,4 +270,17 @@ pub fn an_epoch_begins_past_all_that_was_heard()
         0 < stream.frames → is_well_timed open_at events ≡ true → HasFewPaths events →
         GoOn stream open_at events (anchors_of stream open_at events) →
         RisesFrom (pos 0) (numbers_heard stream open_at events) }
+    ensures sent { (stream : Stream) (first anchor : Anchor) (open_at : ℤ) (sent : List SentEvent)
+        (packet : SentPacket) →
+        IsStream stream → BeginsWith stream first open_at sent → AreNear stream first open_at (2 ^ 25) [] sent →
+        is_closed (wire_history stream first sent) ≡ false →
+        GoOn stream open_at (wire_history stream first sent) (anchors_of stream open_at (wire_history stream first sent))
+        → anchor_of stream open_at (wire_history stream first sent) ≡ Some anchor →
+        IsNear (2 ^ 25) (next_number stream anchor (time_of open_at (wire_history stream first sent)))
+        (packet.number -ℤ shift_of stream open_at (wire_history stream first sent) anchor) →
+        is_off stream anchor (next_number stream anchor (time_of open_at (wire_history stream first sent)))
+        (wire_packet stream first packet) ≡ false →
+        pos (extended_number (wire_packet stream first packet)
+        (next_number stream anchor (time_of open_at (wire_history stream first sent))))
+        +ℤ shift_of stream open_at (wire_history stream first sent) anchor ≡ packet.number }
 {}
