@@ -31,6 +31,8 @@ pub enum FileCommand<'a> {
     Chart(&'a str),
     /// The summary of a configuration, in lines for people.
     Check(&'a str),
+    /// The keys of a configuration, with what each may be.
+    ConfigHelp,
     /// The RTP flows of a capture.
     Streams(StreamsArgs<'a>),
     /// A capture as a trace, or a configuration that fits it.

@@ -86,7 +86,8 @@ fn command_parsers<'a>(
 fn program_of<'a>(alloc: Global, commands: Vec<Command<'a>>) -> Result<Command<'a>, AllocError> {
     let about =
         "Receives studio audio over IP, from a trace or live. Formats: docs/FORMATS.md. Without a word it lists \
-             the marks of the trace on standard input, by the configuration of examples/first";
+             the marks of the trace on standard input, by the configuration of examples/first. `darbexum help config` \
+             lists the keys of a configuration";
     let command = Command::new(alloc, "darbexum")
         .about(about)
         .version("0.3.0")

@@ -15,12 +15,24 @@ const GAP: u64 = 60;
 /// Returns the command that the words ask for. The program's name is not among the words. Help and the version are
 /// errors too, with their texts, and so is an allocation failure.
 pub fn parse_args<'a>(alloc: Global, words: &'a [String]) -> Result<CliCommand<'a>, Error> {
+    if asks_for_keys(words) {
+        return Ok(CliCommand::File(FileCommand::ConfigHelp));
+    }
     let matches = program_parser(alloc)?.try_get_matches_from(words)?;
     let command = parse_command(alloc, &matches)?;
     if draws_stdin(&command) {
         return Err(chart_of_stdin(alloc)?);
     }
     Ok(command)
+}
+
+/// Returns true if the words are `help config`.
+// Clap's own command `help` takes the name of a command alone.
+fn asks_for_keys(words: &[String]) -> bool {
+    match words {
+        [help, config] => help.as_str() == "help" && config.as_str() == "config",
+        _ => false,
+    }
 }
 
 /// Returns true if a chart of the capture on standard input is asked for.

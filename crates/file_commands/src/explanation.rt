@@ -12,7 +12,7 @@ use std::alloc::{AllocError, Global};
 use studio_config::{ConfigTable, Key, SpecError, SpecErrorKind};
 use toml::{Table, Value};
 
-mod allowed;
+pub(crate) mod allowed;
 mod config_lines;
 
 /// The payloads that a packet may have, as text.

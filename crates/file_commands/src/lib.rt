@@ -3,7 +3,7 @@
 //! `run_marks`, `run_play`, `run_chart`, `run_check`, `run_streams`, `run_import` and `run_replay`
 //! each run one command, with the arguments that `command_line` found. They write the text of the
 //! command to `output`, or return a `CommandFault`, which has its line and exit status.
-//! `run_quick_start` is the run without words.
+//! `run_quick_start` is the run without words, and `run_config_help` lists the keys of a configuration.
 //!
 //! The caller passes a `Host`, which opens and creates files by path: no command opens a file itself.
 //! No command writes a file that it also reads, by any of the file's paths.
@@ -12,6 +12,7 @@
 
 mod capture_flows;
 mod config;
+mod config_help;
 mod config_summary;
 mod explanation;
 mod fault;
@@ -24,6 +25,7 @@ mod streams_command;
 mod trace_commands;
 
 pub use config::{parse_studio, read_config, table_in};
+pub use config_help::run_config_help;
 pub use fault::{CaptureInputFault, CommandFault, ConfigFault, output_result};
 pub use host::Host;
 pub use import_command::run_import;

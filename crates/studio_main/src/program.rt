@@ -6,8 +6,9 @@ use clap::Error;
 use clap::error::ErrorKind;
 use command_line::{CliCommand, FileCommand, parse_args};
 use file_commands::{
-    CommandFault, Host, read_config, run_chart, run_check, run_import, run_marks, run_marks_to_wav,
-    run_marks_with_counts, run_play, run_play_to_wav, run_quick_start, run_replay, run_streams,
+    CommandFault, Host, read_config, run_chart, run_check, run_config_help, run_import, run_marks,
+    run_marks_to_wav, run_marks_with_counts, run_play, run_play_to_wav, run_quick_start,
+    run_replay, run_streams,
 };
 use std::alloc::Global;
 use std::io::Write;
@@ -106,6 +107,7 @@ fn run_file_command<H: Host>(
         }
         FileCommand::Chart(path) => run_chart(host, alloc, path, input, output),
         FileCommand::Check(path) => run_check(host, alloc, path, output),
+        FileCommand::ConfigHelp => run_config_help(output),
         FileCommand::Streams(args) => run_streams(host, alloc, args, output),
         FileCommand::Import(path, args) => run_import(host, alloc, path, &args, output, faults),
         FileCommand::Replay(config, args) => {

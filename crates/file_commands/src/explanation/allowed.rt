@@ -2,7 +2,7 @@
 use studio_config::{ConfigTable, Key};
 
 /// All keys of configurations.
-const KEYS: [Key; 38] = [
+pub(crate) const KEYS: [Key; 38] = [
     Key::OpenAt,
     Key::Stream,
     Key::Output,
