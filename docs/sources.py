@@ -242,7 +242,7 @@ CASE_PLACES = {
     "Traces": [
         *(f"examples/{name}" for name in ("first", "wrapped", "lost", "arrival-clock", "two-streams", "unlike-packets", "every-key")),
         *(f"examples/{name}" for name in ("silent-stream", "long-latency", "gain-change", "restart", "four-paths")),
-        *(f"examples/follow-{name}" for name in ("late", "early", "paths", "early-path", "pause", "flood")),
+        *(f"examples/follow-{name}" for name in ("late", "early", "paths", "early-path", "pause", "stall", "flood")),
         "examples/capture",
         "examples/blocks",
         f"{STUDIO}/tests/players.rt",
