@@ -46,7 +46,7 @@ abbrev pub GoOn : Stream → ℤ → List Event → List (ℕ × Anchor) → Typ
 GoOn stream open_at events [] = Unit {0}
 GoOn stream open_at events ((place, a) ∷ later) = AllGoOn stream open_at events a later
 
--- how far an epoch's numbers are from those that the sender's have from epoch 0 on, where those of this anchor are so far
+-- how far the sender's numbers, which are those of epoch 0 counted on, are from the numbers of an epoch, where they are so far from those of this anchor's epoch
 abbrev pub shift_from : Stream → ℤ → List Event → ℕ → ℤ → Anchor → List (ℕ × Anchor) → ℤ
 shift_from stream open_at events epoch shift a [] = shift
 shift_from stream open_at events epoch shift a ((place, b) ∷ later) =
@@ -56,7 +56,7 @@ abbrev pub shift_among : Stream → ℤ → List Event → List (ℕ × Anchor) 
 shift_among stream open_at events [] epoch = pos 0
 shift_among stream open_at events ((place, a) ∷ later) epoch = shift_from stream open_at events epoch (pos 0) a later
 
--- the sender's number of a slot with a payload, where its epoch's numbers are so far from those
+-- the sender's number of a slot with a payload, where it is so far from the slot's
 abbrev pub number_heard : ℕ → ℤ → Body → List ℤ
 number_heard number shift (Got payload) = (pos number +ℤ shift) ∷ []
 number_heard number shift Lost = []
@@ -79,7 +79,7 @@ abbrev pub RisesFrom : ℤ → List ℤ → Type 0
 RisesFrom limit [] = Unit {0}
 RisesFrom limit (n ∷ numbers) = (limit ≤ℤ n) × RisesFrom (n +ℤ pos 1) numbers
 
--- how far the numbers of an anchor's epoch are from the sender's
+-- how far the sender's numbers are from those of an anchor's epoch
 abbrev pub shift_of : Stream → ℤ → List Event → Anchor → ℤ
 shift_of stream open_at events a = shift_among stream open_at events (anchors_of stream open_at events) a.epoch
 
@@ -88,7 +88,7 @@ abbrev pub IsNearInForce : Stream → ℤ → ℕ → List Event → Option Anch
 IsNearInForce stream open_at reach events None number = Unit {0}
 IsNearInForce stream open_at reach events (Some a) number = IsNear reach (next_number stream a (time_of open_at events)) (number -ℤ shift_of stream open_at events a)
 
--- that of each arrival does, after these events
+-- and so does the number of each arrival of these, after those events
 abbrev pub AreNear : Stream → Anchor → ℤ → ℕ → List Event → List SentEvent → Type 0
 AreNear stream first open_at reach before [] = Unit {0}
 AreNear stream first open_at reach before (Arrives path packet ∷ sent) =

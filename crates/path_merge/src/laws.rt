@@ -254,10 +254,11 @@ pub fn a_sender_in_time_is_heard_as_by_arrival()
 {}
 
 /// An epoch that a packet in step opens begins past all that was heard in the epoch before: no copy that came in time
-/// there has its number or a greater one. So nothing is heard twice if the sender's numbers go on, which is so unless
-/// a probation opened an epoch: the sender's numbers of all slots with a payload, counted on over the epochs, rise.
-/// A packet that is in step and less than 2^26 from the number that its sender gave it has that number
-/// (`aliases_are_off_grid`).
+/// there has its number or a greater one. So nothing is heard twice unless a probation opened an epoch: the numbers of
+/// all slots with a payload, counted on over the epochs, rise.
+///
+/// These are the numbers that the sender gave its packets, if the number of each lies from 2^25 below the one due next
+/// to just below 2^25 above it, counted on over the epochs.
 pub fn an_epoch_begins_past_all_that_was_heard()
     ensures past { (stream : Stream) (open_at : ℤ) (events : List Event) (anchor : Anchor) (path : ℕ)
         (packet : Packet) →
@@ -274,8 +275,9 @@ pub fn an_epoch_begins_past_all_that_was_heard()
         (packet : SentPacket) →
         IsStream stream → BeginsWith stream first open_at sent → AreNear stream first open_at (2 ^ 25) [] sent →
         is_closed (wire_history stream first sent) ≡ false →
-        GoOn stream open_at (wire_history stream first sent) (anchors_of stream open_at (wire_history stream first sent))
-        → anchor_of stream open_at (wire_history stream first sent) ≡ Some anchor →
+        GoOn stream open_at (wire_history stream first sent)
+        (anchors_of stream open_at (wire_history stream first sent)) →
+        anchor_of stream open_at (wire_history stream first sent) ≡ Some anchor →
         IsNear (2 ^ 25) (next_number stream anchor (time_of open_at (wire_history stream first sent)))
         (packet.number -ℤ shift_of stream open_at (wire_history stream first sent) anchor) →
         is_off stream anchor (next_number stream anchor (time_of open_at (wire_history stream first sent)))
