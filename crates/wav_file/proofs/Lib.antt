@@ -1,4 +1,5 @@
 pub mod FileLemmas
+pub mod LiveLemmas
 pub mod HeaderLemmas
 pub mod SamplesLemmas
 pub mod SilenceLemmas

@@ -1,6 +1,7 @@
 pub mod Samples
 pub mod Header
 pub mod File
+pub mod LiveFile
 pub mod MixSamples
 pub mod MixWav
 pub mod PartFile

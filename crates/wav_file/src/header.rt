@@ -27,7 +27,7 @@ pub struct WavFormat {
 
 impl WavFormat {
     /// Returns the number of octets of a sampling instant.
-    pub(crate) fn frame_len(self) -> u16
+    pub fn frame_len(self) -> u16
         ensures { result ≡ frame_length self }
     {
         u16::from(self.channels) * self.enc.octets() as u16

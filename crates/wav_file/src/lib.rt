@@ -9,6 +9,9 @@
 //!   file beyond 4 GiB, `push` the samples of a payload, and `finish` the sizes. If `push` fails,
 //!   call `finish_partial`: it sets the sizes to those of the whole payloads before.
 //!
+//! - A live run writes a `LiveWavFile`, which a `CreateLiveWav` makes. Its sizes are renewed while it
+//!   grows, by `WavWriter::renew`, in an order that a power failure can cut anywhere.
+//!
 //! The caller keeps the file, an `Overwrite`. `SeekFile` makes one of any file that seeks.
 //! `WavWriter` does not allocate.
 #![tactic(auto)]
@@ -16,6 +19,7 @@
 mod fault;
 mod files;
 mod header;
+mod live_file;
 mod mix_wav;
 mod samples;
 mod stream_track;
@@ -25,6 +29,7 @@ mod writer;
 pub use fault::{FileFault, StreamWavFault, WavRunFault};
 pub use files::{CreateFile, Overwrite, SeekFile};
 pub use header::WavFormat;
+pub use live_file::{CreateLiveWav, LiveWavFault, LiveWavFile, WavEnd};
 pub use mix_wav::{play_to_wav, write_mix_wav};
 pub use stream_wav::{list_to_wav, write_stream_wav};
 pub use writer::{WavFault, WavWriter};

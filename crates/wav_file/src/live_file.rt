@@ -1,0 +1,67 @@
+//! The file of audio that is written live: its creation, its sizes, and the cut of its end.
+ghost use Rattle.std.specs.Prelude.{◌≡◌, [], IfOk, OnOk, OnErr};
+ghost use Rattle.wav_file.specs.File.{Holds, Overwrites, OverwritesPart};
+ghost use Rattle.wav_file.specs.LiveFile.{IsCut};
+
+use std::io;
+use std::io::Write;
+use thiserror::Error;
+
+/// The reason for which a live run's WAV file ends before the run.
+#[derive(Clone, Copy, Debug, PartialEq, Eq, Error)]
+pub enum WavEnd {
+    /// A write failed.
+    #[error("write")]
+    Write,
+    /// The file was so slow that what waits for it filled its room in memory.
+    #[error("too slow")]
+    Slow,
+}
+
+/// The error because of which a live run has no WAV file.
+#[derive(Clone, Copy, Debug, PartialEq, Eq)]
+pub enum LiveWavFault {
+    /// There is a file at its path, or something else.
+    Exists,
+    /// The file cannot be created.
+    NotCreated,
+}
+
+/// The file of a live run's audio.
+pub trait LiveWavFile: Write {
+    /// Holds while all octets of the file are on its device.
+    ghost synced: { Self → Type 0 };
+
+    /// Waits until all octets of the file are on its device, as fdatasync(2) does.
+    fn sync(&mut self) -> io::Result<()>
+        ensures synced { OnOk result (synced self.new) }
+        ensures same { Self.contents self.new ≡ Self.contents self.old };
+
+    /// Writes these octets over the first ones. Later writes go to the end again. After an error a prefix of them was
+    /// written.
+    // Only once all octets are on the device: after a power failure the sizes never count samples that are not there.
+    fn overwrite(&mut self, octets: &[u8]) -> io::Result<()>
+        requires synced { synced self.old }
+        ensures bytes { OnOk result (Overwrites (Self.contents self.old) (Self.contents self.new) octets.now) }
+        ensures part { OnErr result (OverwritesPart (Self.contents self.old) (Self.contents self.new) octets.now) };
+
+    /// Cuts the file to its first `len` octets. Later writes go behind them.
+    fn cut(&mut self, len: u64) -> io::Result<()>
+        ensures octets { OnOk result (IsCut (Self.contents self.old) (Self.contents self.new) len) };
+
+    /// Reports that the file ends before its run, behind so many blocks. Called once at most, when the file is
+    /// finished.
+    fn report(&mut self, end: WavEnd, blocks: u64)
+        ensures { Self.contents self.new ≡ Self.contents self.old };
+}
+
+/// A creator of a live run's WAV file. A run creates it once all that can fail before it did not.
+pub trait CreateLiveWav {
+    /// The type of the file.
+    type Audio: LiveWavFile + Send + Drop;
+
+    /// Creates an empty file where nothing is. Returns `Exists` if something is there, which stays as it is, and
+    /// `NotCreated` if the file cannot be created for another reason.
+    fn create_wav(&self) -> Result<Self::Audio, LiveWavFault>
+        ensures empty { IfOk result (λ file. Holds (Self.Audio.Write.contents file) []) };
+}
