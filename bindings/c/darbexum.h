@@ -80,7 +80,11 @@ enum darbexum_code {
     DARBEXUM_NO_TOML = -10,   /* the configuration is not TOML in UTF-8, or has more than 1,048,576 octets */
     DARBEXUM_NO_STUDIO = -11, /* the configuration has a fault; the text says where */
     DARBEXUM_NO_MEMORY = -12, /* an allocation failed */
-    DARBEXUM_NONE = -13       /* there is none */
+    DARBEXUM_NONE = -13,      /* there is none */
+    DARBEXUM_BAD_SHAPE = -14, /* the gains are not one for each output channel and each input channel */
+    DARBEXUM_BAD_GAIN = -15,  /* a gain is below -1,048,576 or above 1,048,576 */
+    DARBEXUM_BAD_TIME = -16,  /* the time is before the next block, or past 2^60 */
+    DARBEXUM_TOO_MANY = -17   /* 64 changes before the time are still to come */
 };
 
 /* What became of a datagram: what `darbexum_arrive` returns. docs/RECEPTION.md has the rules. */
@@ -195,6 +199,17 @@ int32_t darbexum_next_deadline(darbexum *handle, int64_t *reading);
 
 /* Writes the last clock reading that was taken, or the opening time. Returns 0 or NO_ENGINE. */
 int32_t darbexum_time(darbexum *handle, int64_t *time);
+
+/* Changes the gains: from `at` on, in sampling instants of the media clock, these are in force, in place of all that was
+ * to change from then on. They are in units of 1/65,536 (65,536 is a gain of 1), row by row: a row for each output
+ * channel, with a gain in it for each channel of each stream. No datagram that was returned changes, and no memory is
+ * taken. May be called at any time, between two datagrams of a turn too. Returns 0, NO_ENGINE, or the first of
+ * BAD_SHAPE, BAD_GAIN, BAD_TIME and TOO_MANY. */
+int32_t darbexum_change_gains(darbexum *handle, int64_t at, const int32_t *gains, size_t len);
+
+/* Writes the media time at which the next block begins: the first time whose gains can still change. Pass it to
+ * `darbexum_change_gains` for a change that is heard as soon as can be. Returns 0 or NO_ENGINE. */
+int32_t darbexum_next_block_start(darbexum *handle, int64_t *start);
 
 /* Returns 1 if the engine was closed and all datagrams were returned: the counts are complete then. Returns 0 if not,
  * or NO_ENGINE. */

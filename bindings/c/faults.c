@@ -28,6 +28,8 @@ static void expect_empty(darbexum *engine) {
     EXPECT(darbexum_drain(engine, room, sizeof room), DARBEXUM_NO_ENGINE);
     EXPECT(darbexum_next_deadline(engine, &time), DARBEXUM_NO_ENGINE);
     EXPECT(darbexum_time(engine, &time), DARBEXUM_NO_ENGINE);
+    EXPECT(darbexum_next_block_start(engine, &time), DARBEXUM_NO_ENGINE);
+    EXPECT(darbexum_change_gains(engine, 0, &(int32_t){0}, 1), DARBEXUM_NO_ENGINE);
     EXPECT(darbexum_settled(engine), DARBEXUM_NO_ENGINE);
     EXPECT(darbexum_streams(engine), 0);
     EXPECT(darbexum_output(engine, &output), DARBEXUM_NO_ENGINE);
@@ -84,6 +86,29 @@ static void expect_structs(darbexum *engine) {
     EXPECT(count, 7);
     EXPECT(darbexum_saturated(engine, 0, &count), 0);
     EXPECT(count, 0);
+}
+
+/* Changes of the one gain of an engine that has given no block. The last leaves it at 1. */
+static void expect_gains(darbexum *engine) {
+    const int64_t last = (int64_t)1 << 60;
+    int32_t gains[2] = {65536, 65536};
+    int64_t start = -1;
+    EXPECT(darbexum_next_block_start(engine, &start), 0);
+    EXPECT(start, 0);
+    EXPECT(darbexum_change_gains(engine, 0, gains, 0), DARBEXUM_BAD_SHAPE);
+    EXPECT(darbexum_change_gains(engine, -1, gains, 2), DARBEXUM_BAD_SHAPE);
+    gains[0] = 1048577;
+    EXPECT(darbexum_change_gains(engine, -1, gains, 1), DARBEXUM_BAD_GAIN);
+    gains[0] = INT32_MIN;
+    EXPECT(darbexum_change_gains(engine, -1, gains, 1), DARBEXUM_BAD_GAIN);
+    gains[0] = 65536;
+    EXPECT(darbexum_change_gains(engine, -1, gains, 1), DARBEXUM_BAD_TIME);
+    EXPECT(darbexum_change_gains(engine, last + 1, gains, 1), DARBEXUM_BAD_TIME);
+    EXPECT(darbexum_change_gains(engine, INT64_MAX, gains, 1), DARBEXUM_BAD_TIME);
+    for (int64_t at = 1; at <= 64; at++) EXPECT(darbexum_change_gains(engine, at, gains, 1), 0);
+    EXPECT(darbexum_change_gains(engine, last, gains, 1), DARBEXUM_TOO_MANY);
+    EXPECT(darbexum_change_gains(engine, 0, gains, 1), 0);
+    EXPECT(darbexum_change_gains(engine, last, gains, 1), 0);
 }
 
 static void expect_run(darbexum *engine) {
@@ -154,6 +179,7 @@ int main(int count, char **words) {
     /* After a code the handle keeps its engine. */
     expect_open(&engine, "=", 1, DARBEXUM_NO_TOML, no_toml);
     expect_structs(&engine);
+    expect_gains(&engine);
     expect_run(&engine);
     /* Opened again: the engine before is freed. */
     expect_open(&engine, config, len, 0, "");
@@ -167,10 +193,10 @@ int main(int count, char **words) {
     expect_open(&engine, config, sizeof config, DARBEXUM_NO_TOML, no_toml);
     darbexum_free(&engine);
     EXPECT(darbexum_version(), DARBEXUM_VERSION);
-    for (int code = -14; code <= 0; code++) {
+    for (int code = -18; code <= 0; code++) {
         size_t told_len = darbexum_fault_text(code, (uint8_t *)told, sizeof told);
         EXPECT(told_len, strlen(told));
-        EXPECT(!strcmp(told, "unknown code"), code == -14);
+        EXPECT(!strcmp(told, "unknown code"), code == -18);
         EXPECT(!strcmp(told, "no fault"), code == 0);
     }
     EXPECT(darbexum_fault_text(INT32_MIN, (uint8_t *)told, 0), strlen("unknown code"));

@@ -19,6 +19,7 @@
 #include <string>
 #include <string_view>
 #include <utility>
+#include <vector>
 
 namespace Darbexum {
 
@@ -97,6 +98,20 @@ public:
         std::int64_t time = 0;
         checked(darbexum_time(&handle_, &time));
         return time;
+    }
+
+    // Returns the media time at which the next block begins: the first time whose gains can still change.
+    std::int64_t next_block_start() {
+        std::int64_t start = 0;
+        checked(darbexum_next_block_start(&handle_, &start));
+        return start;
+    }
+
+    // From `at` on these gains are in force, in units of 1/65,536, row by row: a row for each output channel. They replace
+    // all that was to change from then on.
+    void change_gains(std::int64_t at, const std::vector<std::int32_t> &gains) {
+        const std::int32_t none = 0;
+        checked(darbexum_change_gains(&handle_, at, gains.empty() ? &none : gains.data(), gains.size()));
     }
 
     bool settled() { return checked(darbexum_settled(&handle_)) == 1; }

@@ -136,7 +136,7 @@ def losses(room, shares):
 
 def inspect(_):
     done = run("gst-inspect-1.0", "darbexummix")
-    words = "sink_%u_%u", "Availability: On request", "application/x-rtp", "config", "location", "media-clock", "offset", "stats", "Mixer/Network/RTP/Audio"
+    words = "sink_%u_%u", "Availability: On request", "application/x-rtp", "config", "location", "media-clock", "offset", "stats", "change-gains", "Mixer/Network/RTP/Audio"
     lacking = [word for word in words if word not in done.stdout]
     expect("gst-inspect", done.returncode == 0 and not lacking, (lacking, done.stdout, done.stderr))
 

@@ -453,6 +453,19 @@ static GstStructure *stats_of(GstDarbexumMix *self) {
     return stats;
 }
 
+/* The action signal change-gains. */
+static gint64 change_gains(GstDarbexumMix *self, gint64 at, GVariant *gains) {
+    static const gint32 none;
+    gsize len;
+    if (!gains || !g_variant_is_of_type(gains, G_VARIANT_TYPE("ai"))) return DARBEXUM_BAD_SHAPE;
+    const gint32 *row_by_row = g_variant_get_fixed_array(gains, &len, sizeof *row_by_row);
+    g_mutex_lock(&self->lock);
+    gint64 code = at < 0 ? darbexum_next_block_start(&self->engine, &at) : 0;
+    if (code == 0) code = darbexum_change_gains(&self->engine, at, len ? row_by_row : &none, len);
+    g_mutex_unlock(&self->lock);
+    return code < 0 ? code : at;
+}
+
 static void set_property(GObject *object, guint id, const GValue *value, GParamSpec *spec) {
     GstDarbexumMix *self = GST_DARBEXUM_MIX(object);
     g_mutex_lock(&self->lock);
@@ -504,6 +517,10 @@ static void gst_darbexum_mix_class_init(GstDarbexumMixClass *class) {
         "Nanoseconds that are added to the clock", G_MININT64 / 4, G_MAXINT64 / 4, 0, writable));
     g_object_class_install_property(object, PROP_STATS, g_param_spec_boxed("stats", "Statistics",
         "The counts of all streams and paths", GST_TYPE_STRUCTURE, G_PARAM_READABLE | G_PARAM_STATIC_STRINGS));
+    /* change-gains(at, gains) -> the time from which the gains are in force, or a code of darbexum.h. `at` is a media time, or
+     * -1 for the next block; `gains` is a GVariant of type ai, row by row, in units of 1/65,536. */
+    g_signal_new_class_handler("change-gains", G_TYPE_FROM_CLASS(class), G_SIGNAL_RUN_LAST | G_SIGNAL_ACTION,
+        G_CALLBACK(change_gains), NULL, NULL, NULL, G_TYPE_INT64, 2, G_TYPE_INT64, G_TYPE_VARIANT);
     element->request_new_pad = request_pad;
     element->release_pad = release_pad;
     element->change_state = change_state;

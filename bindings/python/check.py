@@ -37,10 +37,16 @@ def main():
     assert outcomes == [darbexum.Outcome.DOUBLE]
     refused(lambda: engine.arrive(1, 0, PACKET), -3)
     refused(lambda: engine.arrive(0, 2, PACKET), -4)
+    # From the third instant on twice as loud; then as it was, in place of that.
+    assert engine.change_gains([[131072]], 2) == 2 and engine.change_gains([[65536]]) == 0
+    refused(lambda: engine.change_gains([[1, 2]]), -14)
+    refused(lambda: engine.change_gains([[1048577]]), -15)
+    refused(lambda: engine.change_gains([[1]], -1), -16)
     assert engine.next_deadline() == 12
     datagrams = engine.turn(12)
     assert [datagram[12:] for datagram in datagrams] == [PACKET[12:]]
     assert [list(row) for row in engine.samples(datagrams[0])] == [[1], [2], [3], [4], [5], [6]]
+    assert engine.next_block_start == 6
     refused(lambda: engine.turn(11), -6)
     refused(lambda: engine.path_counts(0, 2), -4)
     refused(lambda: engine.saturated(1), -13)

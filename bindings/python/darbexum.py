@@ -116,6 +116,8 @@ _CALLS = {
     "drain": (c.c_ssize_t, _HANDLE, _OCTETS, _LENGTH),
     "next_deadline": (c.c_int32, _HANDLE, c.POINTER(c.c_int64)),
     "time": (c.c_int32, _HANDLE, c.POINTER(c.c_int64)),
+    "change_gains": (c.c_int32, _HANDLE, c.c_int64, c.POINTER(c.c_int32), _LENGTH),
+    "next_block_start": (c.c_int32, _HANDLE, c.POINTER(c.c_int64)),
     "settled": (c.c_int32, _HANDLE),
     "streams": (c.c_size_t, _HANDLE),
     "output": (c.c_int32, _HANDLE, c.POINTER(Output)),
@@ -218,6 +220,23 @@ class Engine:
         time = c.c_int64()
         _checked(_call("time")(self._at, c.byref(time)))
         return time.value
+
+    @property
+    def next_block_start(self):
+        """The media time at which the next block begins: the first time whose gains can still change."""
+        start = c.c_int64()
+        _checked(_call("next_block_start")(self._at, c.byref(start)))
+        return start.value
+
+    def change_gains(self, gains, at=None):
+        """Changes the gains from a media time on, or from the next block on: a row of gains for each output channel, in
+        units of 1/65,536. They replace all that was to change from then on. Returns the time."""
+        at = self.next_block_start if at is None else at
+        flat = [gain for row in gains for gain in row]
+        if not (-(1 << 63) <= at < 1 << 63 and all(-(1 << 31) <= gain < 1 << 31 for gain in flat)):
+            raise ValueError("the time or a gain is out of range")
+        _checked(_call("change_gains")(self._at, at, (c.c_int32 * len(flat))(*flat), len(flat)))
+        return at
 
     @property
     def settled(self):

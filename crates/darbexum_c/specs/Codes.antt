@@ -1,6 +1,9 @@
 -- The numbers that stand for results.
-use Rattle.std.specs.Prelude.{ℕ, ℤ, pos, negsuc, nat_lt, length, slice_get, Option, Some, None, if◌then◌else◌, option_map}
+use Rattle.std.specs.Prelude.{ℕ, ℤ, List, pos, negsuc, nat_lt, length, slice_get, Option, Some, None, if◌then◌else◌, option_map}
+use Rattle.gain_mix.specs.declared.live.ChangeFault.{ChangeFault}
+use Rattle.gain_mix.specs.declared.live.ChangeFault.TheVariants.{Shape, Range, Time, TooMany}
 use Rattle.mix_packets.specs.OutSpec.{datagram_length}
+use Rattle.studio_mix.specs.Changed.{gains_fault_of}
 use Rattle.path_merge.specs.Clock.{clock_fault_of}
 use Rattle.path_merge.specs.declared.clock.ClockFault.{ClockFault}
 use Rattle.path_merge.specs.declared.clock.ClockFault.TheVariants.{WentBack, TooFar, Closed as ClosedClock}
@@ -15,7 +18,7 @@ use Rattle.rtp_stream.specs.declared.stream_spec.StreamClock.TheVariants.{Media,
 use Rattle.studio_session.specs.declared.receipt.ArriveOutcome.{ArriveOutcome}
 use Rattle.studio_session.specs.declared.receipt.ArriveOutcome.TheVariants.{Offered, Bad, WrongType, WrongLength}
 
--- DARBEXUM_NO_ENGINE, -1, to DARBEXUM_NONE, -13
+-- DARBEXUM_NO_ENGINE, -1, to DARBEXUM_TOO_MANY, -17
 abbrev pub no_engine : ℤ
 no_engine = negsuc 0
 
@@ -55,6 +58,18 @@ no_memory = negsuc 11
 abbrev pub none : ℤ
 none = negsuc 12
 
+abbrev pub bad_shape : ℤ
+bad_shape = negsuc 13
+
+abbrev pub bad_gain : ℤ
+bad_gain = negsuc 14
+
+abbrev pub bad_time : ℤ
+bad_time = negsuc 15
+
+abbrev pub too_many : ℤ
+too_many = negsuc 16
+
 abbrev pub fate_code : Fate → ℕ
 fate_code Closed = 0
 fate_code CountersFull = 1
@@ -88,6 +103,20 @@ abbrev pub clock_fault_code : ClockFault → ℤ
 clock_fault_code WentBack = went_back
 clock_fault_code TooFar = too_far
 clock_fault_code ClosedClock = closed
+
+abbrev pub change_fault_code : ChangeFault → ℤ
+change_fault_code Shape = bad_shape
+change_fault_code Range = bad_gain
+change_fault_code Time = bad_time
+change_fault_code TooMany = too_many
+
+abbrev pub gains_code : Option ChangeFault → ℤ
+gains_code None = pos 0
+gains_code (Some fault) = change_fault_code fault
+
+-- whether a change of gains is taken
+abbrev pub gains_code_of : EngineState → ℤ → List ℤ → ℤ
+gains_code_of engine at gains = gains_code (gains_fault_of engine.mixer at gains)
 
 -- why a datagram isn't taken: its path is no path of any stream, or the engine's fault
 abbrev pub arrive_code_of : EngineState → ℕ → ℕ → Option ℤ

@@ -23,6 +23,10 @@ fault_text_of code =
     else if int_eq code code_is.no_studio then codes "the configuration describes no studio"
     else if int_eq code code_is.no_memory then codes "out of memory"
     else if int_eq code code_is.none then codes "there is none"
+    else if int_eq code code_is.bad_shape then codes "the gains are not one for each output and input channel"
+    else if int_eq code code_is.bad_gain then codes "a gain is below -1048576 or above 1048576"
+    else if int_eq code code_is.bad_time then codes "the time is before the next block, or past 2^60"
+    else if int_eq code code_is.too_many then codes "64 changes before the time are still to come"
     else unnamed_text_of code
 
 -- a room after a text was written to its front: as much of the text as fits before a 0, the 0, and what was behind it

@@ -23,13 +23,15 @@ ghost use Rattle.std.specs.Prelude.{
 ghost use Rattle.rtp_stream.specs.declared.stream_spec.Stream.{Stream};
 ghost use Rattle.mix_packets.specs.OutSpec.{datagram_length};
 ghost use Rattle.studio_config.specs.Studio.{Studio};
+ghost use Rattle.studio_mix.specs.Changed.{with_gains};
 ghost use Rattle.studio_session.specs.Event.{TraceEvent, Arrival};
 ghost use Rattle.studio_session.specs.ArriveOutcome.{receipt_of};
 ghost use Rattle.studio_engine.specs.Session.{Gives, HasGivenReady, HasSession, shut, turned};
 ghost use Rattle.darbexum_c.specs.Codes as code;
 
 use crate::codes::{
-    NO_PATH, SHORT_ROOM, UNFINISHED, arrive_fault_code, clock_fault_code, outcome_code,
+    NO_PATH, SHORT_ROOM, UNFINISHED, arrive_fault_code, change_fault_code, clock_fault_code,
+    outcome_code,
 };
 use path_merge::Path;
 use studio_engine::Engine;
@@ -79,6 +81,23 @@ pub(crate) fn turn(engine: &mut Engine, now: i64, out: &mut [u8]) -> isize
         Ok(Some(len)) => len as isize,
         Ok(None) => 0,
         Err(fault) => clock_fault_code(fault) as isize,
+    }
+}
+
+/// Changes the gains from a time on.
+pub(crate) fn change_gains(engine: &mut Engine, at: i64, gains: &[i32]) -> i32
+    ensures stands { result ≡ pos 0 → (studio : Studio) (events : List TraceEvent) (datagrams : List (List ℕ))
+        → HasSession studio engine.old events datagrams
+        → HasSession (with_gains studio at gains.now) engine.new events datagrams }
+    ensures ready { result ≡ pos 0 → (studio : Studio) (events : List TraceEvent) (datagrams : List (List ℕ))
+        → HasGivenReady studio engine.old events datagrams
+        → HasGivenReady (with_gains studio at gains.now) engine.new events datagrams }
+    ensures exact { result ≡ code.gains_code_of engine.old at gains.now }
+    ensures kept { result <ℤ pos 0 → engine.new ≡ engine.old }
+{
+    match engine.change_gains(at, gains) {
+        Ok(()) => 0,
+        Err(fault) => change_fault_code(fault),
     }
 }
 

@@ -2,6 +2,7 @@
 ghost use Rattle.std.specs.Prelude.{◌≡◌, ◌<ℤ◌, pos};
 ghost use Rattle.darbexum_c.specs.Codes as code;
 
+use gain_mix::ChangeFault;
 use path_merge::{ClockFault, Fate};
 use rtp_stream::StreamClock;
 use studio_engine::ArriveFault;
@@ -33,6 +34,14 @@ pub(crate) const NO_STUDIO: i32 = -11;
 pub(crate) const NO_MEMORY: i32 = -12;
 /// There is none.
 pub(crate) const NONE: i32 = -13;
+/// The gains are not one for each output channel and input channel.
+pub(crate) const BAD_SHAPE: i32 = -14;
+/// A gain is below -1,048,576 or above 1,048,576.
+pub(crate) const BAD_GAIN: i32 = -15;
+/// The time is before the next block, or past 2^60.
+pub(crate) const BAD_TIME: i32 = -16;
+/// 64 changes before the time are still to come.
+pub(crate) const TOO_MANY: i32 = -17;
 
 /// Returns the number of a fate.
 fn fate_code(fate: Fate) -> i32
@@ -99,5 +108,18 @@ pub(crate) fn clock_fault_code(fault: ClockFault) -> i32
         ClockFault::WentBack => WENT_BACK,
         ClockFault::TooFar => TOO_FAR,
         ClockFault::Closed => CLOSED,
+    }
+}
+
+/// Returns the number of the reason why a change of gains wasn't taken.
+pub(crate) fn change_fault_code(fault: ChangeFault) -> i32
+    ensures value { result ≡ code.change_fault_code fault }
+    ensures below { result <ℤ pos 0 }
+{
+    match fault {
+        ChangeFault::Shape => BAD_SHAPE,
+        ChangeFault::Range => BAD_GAIN,
+        ChangeFault::Time => BAD_TIME,
+        ChangeFault::TooMany => TOO_MANY,
     }
 }

@@ -24,6 +24,7 @@ ghost use Rattle.std.specs.Prelude.{
 ghost use Rattle.rtp_stream.specs.declared.stream_spec.Stream.{Stream};
 ghost use Rattle.mix_packets.specs.OutSpec.{datagram_length};
 ghost use Rattle.studio_config.specs.Studio.{Studio};
+ghost use Rattle.studio_mix.specs.Changed.{with_gains};
 ghost use Rattle.studio_session.specs.Event.{TraceEvent, Arrival};
 ghost use Rattle.studio_session.specs.ArriveOutcome.{receipt_of};
 ghost use Rattle.studio_engine.specs.Engine.{EngineState};
@@ -101,6 +102,37 @@ pub extern "C" fn darbexum_turn(
         return NO_ENGINE as isize;
     };
     let answer = calls::turn(&mut engine, now, out);
+    handle.put(engine);
+    answer
+}
+
+/// Changes the gains: from `at` on, in sampling instants of the media clock, these are in force, in place of all that
+/// was to change from then on. They are in units of 1/65,536, row by row, a row for each output channel. No datagram
+/// that was returned changes. Returns 0, or a code.
+#[unsafe(no_mangle)]
+pub extern "C" fn darbexum_change_gains(
+    alloc: Global,
+    handle: &mut Handle,
+    at: i64,
+    gains: &[i32],
+) -> i32
+    ensures stands { result ≡ pos 0 → Moves handle.old.engine handle.new.engine
+        (λ before after. (studio : Studio) (events : List TraceEvent) (datagrams : List (List ℕ))
+        → HasSession studio before events datagrams
+        → HasSession (with_gains studio at gains.now) after events datagrams) }
+    ensures ready { result ≡ pos 0 → Moves handle.old.engine handle.new.engine
+        (λ before after. (studio : Studio) (events : List TraceEvent) (datagrams : List (List ℕ))
+        → HasGivenReady studio before events datagrams
+        → HasGivenReady (with_gains studio at gains.now) after events datagrams) }
+    ensures empty { handle.old.engine ≡ None → result ≡ code.no_engine }
+    ensures exact { (engine : EngineState) → handle.old.engine ≡ Some engine
+        → result ≡ code.gains_code_of engine at gains.now }
+    ensures kept { result <ℤ pos 0 → handle.new.engine ≡ handle.old.engine }
+{
+    let Some(mut engine) = handle.take(alloc) else {
+        return NO_ENGINE;
+    };
+    let answer = calls::change_gains(&mut engine, at, gains);
     handle.put(engine);
     answer
 }

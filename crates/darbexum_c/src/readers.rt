@@ -17,6 +17,7 @@ ghost use Rattle.std.specs.Prelude.{
   None,
   IsSomeAnd,
 };
+ghost use Rattle.mix_packets.specs.Block.{block_start};
 ghost use Rattle.studio_config.specs.Studio.{Studio};
 ghost use Rattle.studio_mix.specs.Saturated.{AreSaturated};
 ghost use Rattle.studio_session.specs.Event.{TraceEvent};
@@ -83,6 +84,33 @@ pub extern "C" fn darbexum_time(alloc: Global, handle: &mut Handle, time: &mut i
         return NO_ENGINE;
     };
     *time = engine.time();
+    handle.put(engine);
+    0
+}
+
+/// Writes the media time at which the next block begins, in sampling instants: the first time whose gains can still
+/// change. Returns 0, or a code.
+#[unsafe(no_mangle)]
+pub extern "C" fn darbexum_next_block_start(
+    alloc: Global,
+    handle: &mut Handle,
+    start: &mut i64,
+) -> i32
+    ensures value { result ≡ pos 0 → IsSomeAnd handle.old.engine
+        (λ engine. start.new ≡ block_start engine.mixer.packer.spec engine.mixer.packer.number) }
+    ensures stands { result ≡ pos 0 → IsSomeAnd handle.old.engine
+        (λ engine. (studio : Studio) (events : List TraceEvent) (datagrams : List (List ℕ))
+        → HasSession studio engine events datagrams
+        → start.new ≡ block_start studio.output (length datagrams)) }
+    ensures empty { handle.old.engine ≡ None → result ≡ code.no_engine }
+    ensures fine { (engine : EngineState) → handle.old.engine ≡ Some engine → result ≡ pos 0 }
+    ensures unwritten { result <ℤ pos 0 → start.new ≡ start.old }
+    ensures kept { handle.new.engine ≡ handle.old.engine }
+{
+    let Some(engine) = handle.take(alloc) else {
+        return NO_ENGINE;
+    };
+    *start = engine.next_block_start();
     handle.put(engine);
     0
 }

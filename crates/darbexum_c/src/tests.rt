@@ -1,8 +1,10 @@
 //! Tests of the calls, as C makes them, with the numbers that it is given.
 use crate::handle::Handle;
-use crate::input::{darbexum_arrive, darbexum_close, darbexum_drain, darbexum_turn};
+use crate::input::{
+    darbexum_arrive, darbexum_change_gains, darbexum_close, darbexum_drain, darbexum_turn,
+};
 use crate::lifetime::{darbexum_free, darbexum_open};
-use crate::readers::{darbexum_settled, darbexum_streams};
+use crate::readers::{darbexum_next_block_start, darbexum_settled, darbexum_streams};
 use crate::record_calls::{
     darbexum_counts, darbexum_output, darbexum_path_counts, darbexum_stream,
 };
@@ -47,6 +49,37 @@ fn a_packet_goes_through_a_handle(rt: HostRuntime) {
     assert!(&rt; darbexum_settled(alloc, &mut handle) == 1);
     darbexum_free(alloc, &mut handle);
     assert!(&rt; darbexum_close(alloc, &mut handle) == -1);
+}
+
+/// A change of gains for the next block's third sampling instant is heard from there on, and its faults are told apart.
+#[test]
+fn gains_move_between_datagrams(rt: HostRuntime) {
+    let alloc = rt.alloc();
+    let mut handle = Handle::empty(alloc);
+    let mut told = [0u8; 4];
+    let mut out = [0u8; 1452];
+    let mut start = -1;
+    assert!(&rt; darbexum_next_block_start(alloc, &mut handle, &mut start) == -1);
+    assert!(&rt; darbexum_change_gains(alloc, &mut handle, 0, &[0]) == -1);
+    assert!(&rt; darbexum_open(alloc, &mut handle, CONFIG, &mut told) == 0);
+    assert!(&rt; darbexum_change_gains(alloc, &mut handle, 2, &[0, 0]) == -14);
+    assert!(&rt; darbexum_change_gains(alloc, &mut handle, 2, &[1_048_577]) == -15);
+    assert!(&rt; darbexum_change_gains(alloc, &mut handle, -1, &[0]) == -16);
+    assert!(&rt; darbexum_change_gains(alloc, &mut handle, 2, &[131_072]) == 0);
+    assert!(&rt; darbexum_arrive(alloc, &mut handle, 0, 0, &PACKET) == 6);
+    assert!(&rt; darbexum_turn(alloc, &mut handle, 12, &mut out) == 30);
+    // The samples 1 to 6, of which the last four are twice as loud.
+    assert!(&rt; &out[12..18] == &PACKET[12..18]);
+    assert!(&rt; &out[18..30] == &[0, 0, 6, 0, 0, 8, 0, 0, 10, 0, 0, 12]);
+    assert!(&rt; darbexum_next_block_start(alloc, &mut handle, &mut start) == 0);
+    assert!(&rt; start == 6);
+    assert!(&rt; darbexum_change_gains(alloc, &mut handle, 5, &[0]) == -16);
+    for at in 7..71 {
+        assert!(&rt; darbexum_change_gains(alloc, &mut handle, at, &[0]) == 0);
+    }
+    assert!(&rt; darbexum_change_gains(alloc, &mut handle, 71, &[0]) == -17);
+    // One that replaces the others finds a place.
+    assert!(&rt; darbexum_change_gains(alloc, &mut handle, 70, &[0]) == 0);
 }
 
 /// A text that is no configuration leaves the handle empty, and its fault has a text that ends in a 0.

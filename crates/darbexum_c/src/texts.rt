@@ -3,8 +3,8 @@ ghost use Rattle.std.specs.Prelude.{◌≡◌};
 ghost use Rattle.darbexum_c.specs.Texts.{fault_text_of, room_after, unnamed_text_of};
 
 use crate::codes::{
-    CLOSED, FULL, NO_ENGINE, NO_MEMORY, NO_PATH, NO_STREAM, NO_STUDIO, NO_TOML, NONE, SHORT_ROOM,
-    TOO_FAR, UNFINISHED, WENT_BACK,
+    BAD_GAIN, BAD_SHAPE, BAD_TIME, CLOSED, FULL, NO_ENGINE, NO_MEMORY, NO_PATH, NO_STREAM,
+    NO_STUDIO, NO_TOML, NONE, SHORT_ROOM, TOO_FAR, TOO_MANY, UNFINISHED, WENT_BACK,
 };
 
 /// Writes a text to the front of a room, cut so that a 0 fits behind it. An empty room stays empty.
@@ -37,6 +37,10 @@ pub(crate) fn fault_text(code: i32) -> &'static str
         NO_STUDIO => "the configuration describes no studio",
         NO_MEMORY => "out of memory",
         NONE => "there is none",
+        BAD_SHAPE => "the gains are not one for each output and input channel",
+        BAD_GAIN => "a gain is below -1048576 or above 1048576",
+        BAD_TIME => "the time is before the next block, or past 2^60",
+        TOO_MANY => "64 changes before the time are still to come",
         _ => unnamed_text(code),
     }
 }

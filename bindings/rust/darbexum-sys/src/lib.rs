@@ -75,6 +75,8 @@ extern "C" {
     pub fn darbexum_drain(handle: *mut Handle, out: *mut u8, len: usize) -> isize;
     pub fn darbexum_next_deadline(handle: *mut Handle, reading: *mut i64) -> i32;
     pub fn darbexum_time(handle: *mut Handle, time: *mut i64) -> i32;
+    pub fn darbexum_change_gains(handle: *mut Handle, at: i64, gains: *const i32, len: usize) -> i32;
+    pub fn darbexum_next_block_start(handle: *mut Handle, start: *mut i64) -> i32;
     pub fn darbexum_settled(handle: *mut Handle) -> i32;
     pub fn darbexum_streams(handle: *mut Handle) -> usize;
     pub fn darbexum_output(handle: *mut Handle, output: *mut Output) -> i32;

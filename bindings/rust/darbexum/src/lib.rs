@@ -131,6 +131,20 @@ impl Engine {
         time
     }
 
+    /// Returns the media time at which the next block begins: the first time whose gains can still change.
+    pub fn next_block_start(&mut self) -> i64 {
+        let mut start = 0;
+        unsafe { sys::darbexum_next_block_start(&mut self.handle, &mut start) };
+        start
+    }
+
+    /// Changes the gains: from `at` on these are in force, in units of 1/65,536, row by row, a row for each output channel.
+    /// They replace all that was to change from then on. No datagram that was returned changes.
+    pub fn change_gains(&mut self, at: i64, gains: &[i32]) -> Result<(), Error> {
+        checked(unsafe { sys::darbexum_change_gains(&mut self.handle, at, gains.as_ptr(), gains.len()) })?;
+        Ok(())
+    }
+
     /// Returns true if the engine was closed and all datagrams were returned.
     pub fn settled(&mut self) -> bool {
         unsafe { sys::darbexum_settled(&mut self.handle) == 1 }

@@ -33,6 +33,27 @@ fn a_packet_goes_through_an_engine() {
 }
 
 #[test]
+fn gains_move_from_their_time_on() {
+    let mut engine = Engine::new(CONFIG).unwrap();
+    assert_eq!(engine.arrive(0, 0, &PACKET), Ok(Outcome::Taken));
+    assert_eq!(engine.next_block_start(), 0);
+    assert_eq!(engine.change_gains(0, &[0, 0]).unwrap_err().code, -14);
+    assert_eq!(engine.change_gains(0, &[]).unwrap_err().code, -14);
+    assert_eq!(engine.change_gains(0, &[1_048_577]).unwrap_err().code, -15);
+    assert_eq!(engine.change_gains(-1, &[0]).unwrap_err().code, -16);
+    assert_eq!(engine.change_gains(5, &[131_072]), Ok(()));
+    let mut turn = engine.turn(12);
+    let datagram = turn.next().unwrap().map(|datagram| datagram[12..].to_vec());
+    assert_eq!(datagram, Some([&PACKET[12..27], &[0, 0, 12]].concat()));
+    assert_eq!(turn.next(), Ok(None));
+    assert_eq!(engine.next_block_start(), 6);
+    for at in 6..70 {
+        assert_eq!(engine.change_gains(at + 1, &[0]), Ok(()));
+    }
+    assert_eq!(engine.change_gains(71, &[0]).unwrap_err().code, -17);
+}
+
+#[test]
 fn a_failed_call_has_a_code_and_a_text() {
     assert_eq!(Engine::new("open_at = 0\n").err().map(|error| (error.code, error.text)), Some((-11, "stream: missing".into())));
     assert_eq!(Engine::new("=").err().map(|error| error.code), Some(-10));
