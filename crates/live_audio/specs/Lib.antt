@@ -1,0 +1,3 @@
+pub mod AudioWriter
+pub mod Room
+pub mod Tap

@@ -1,0 +1,50 @@
+//! The two ends of a run's audio.
+ghost use Rattle.std.specs.Prelude.{◌≡◌, ◌≤◌, ℕ, [], Some, false, slice_get, IfOk};
+ghost use Rattle.rtrb.specs.Ring.{IsPair, known_free, sent};
+ghost use Rattle.rtp_stream.specs.declared.stream_spec.Stream.{Stream};
+ghost use Rattle.wav_file.specs.MixSamples.{output_format};
+ghost use Rattle.live_audio.specs.AudioWriter.{IsFresh};
+ghost use Rattle.live_audio.specs.Room.{room_for};
+
+use crate::result::AudioResult;
+use crate::room::ring_octets;
+use crate::tap::AudioTap;
+use crate::writer::{AudioWriter, format_of};
+use rtrb::RingBuffer;
+use std::alloc::{AllocError, Global};
+use studio_config::StudioSpec;
+
+/// The two ends of a run's audio, over one ring.
+#[derive(Drop)]
+pub struct AudioChannel<'a> {
+    /// The end that takes the samples of the mix.
+    pub tap: AudioTap<'a>,
+    /// The end that writes them to the file.
+    pub writer: AudioWriter<'a>,
+}
+
+impl<'a> AudioChannel<'a> {
+    /// Returns the two ends of the audio of a run of this studio. Both set their part of `audio`. Returns `AllocError`
+    /// if an allocation fails.
+    pub fn new(
+        alloc: Global,
+        studio: &StudioSpec,
+        audio: &'a AudioResult,
+    ) -> Result<AudioChannel<'a>, AllocError>
+        ensures pair { IfOk result (λ channel. IsPair channel.tap.ring channel.writer.ring) }
+        ensures open { IfOk result (λ channel. channel.tap.ended ≡ false) }
+        ensures none { IfOk result (λ channel. sent channel.tap.ring ≡ []) }
+        ensures room { IfOk result (λ channel. (place : ℕ) (stream : Stream)
+            → slice_get studio.now.streams place ≡ Some stream
+            → room_for (output_format studio.now.output) stream.latency ≤ known_free channel.tap.ring) }
+        ensures fresh { IfOk result (λ channel. IsFresh studio.now.output channel.writer) }
+    {
+        let output = studio.output();
+        let room = ring_octets(format_of(output), studio.streams());
+        let (producer, consumer) = RingBuffer::new(alloc, room)?;
+        Ok(AudioChannel {
+            tap: AudioTap::new(producer, audio),
+            writer: AudioWriter::new(consumer, output, audio),
+        })
+    }
+}

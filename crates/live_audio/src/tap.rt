@@ -1,0 +1,59 @@
+//! The end of a ring into which the samples of the mix are put, a block as a whole or not at all.
+ghost use Rattle.std.specs.Prelude.{◌≡◌, ◌≤◌, drop, length, false};
+ghost use Rattle.live_audio.specs.Tap.{Puts, StaysEnded};
+
+use crate::result::AudioResult;
+use rtrb::Producer;
+use wav_file::WavEnd;
+
+/// The end of a ring in the run's thread, into which the samples of each datagram are put. It never waits.
+#[derive(Drop)]
+pub struct AudioTap<'a> {
+    ring: Producer<u8>,
+    /// True once a block was not put. Nothing is put any more.
+    ended: bool,
+    /// The result of the file, in which the reason of its end is set.
+    audio: &'a AudioResult,
+}
+
+impl<'r> AudioTap<'r> {
+    /// Returns the end of a ring, into which it has put nothing yet.
+    pub(crate) fn new(ring: Producer<u8>, audio: &'r AudioResult) -> AudioTap<'r>
+        ensures ring { result.ring ≡ ring }
+        ensures open { result.ended ≡ false }
+    {
+        AudioTap {
+            ring,
+            ended: false,
+            audio,
+        }
+    }
+
+    /// Puts the samples of a datagram of the mix, which are behind the twelve octets of its header, if the ring has
+    /// room for all of them. The first block without room ends the file.
+    pub fn put(&mut self, datagram: &[u8])
+        ensures puts { Puts self.old (drop 12 datagram.now) self.new }
+        ensures ended { StaysEnded self.old self.new }
+    {
+        // Nothing is put after a block that is missing: the file would have a hole in the middle.
+        if self.ended {
+            return;
+        }
+        if self.ring.push_entire_slice(samples_of(datagram)).is_err() {
+            self.ended = true;
+            self.audio.set_end(WavEnd::Slow);
+        }
+    }
+}
+
+/// Returns the octets behind a datagram's header.
+// An RTP header has 12 octets (RFC 3550, 5.1): the output has no CSRC list and no extension.
+fn samples_of(datagram: &[u8]) -> &[u8]
+    ensures { result.now ≡ drop 12 datagram.now }
+{
+    if datagram.len() >= 12 {
+        &datagram[12..]
+    } else {
+        &[]
+    }
+}
