@@ -1,6 +1,6 @@
 -- No copy in time since an anchor is past the end of the arrivals that stand under it.
-use Rattle.std.proofs.Common.{◌≡◌, ℕ, zero, suc, ◌+◌, ◌<◌, ◌≤◌, max, Bool, true, false, not, ◌&&◌, ◌||◌, List, [], ◌∷◌, ◌++◌, length, Option, Some, None, ℤ, pos, ◌+ℤ◌, ◌-ℤ◌, ◌<ℤ◌, negsuc, refl, sym, ap, subst, ◌∙◌, arith, append-nil, if◌then◌else◌, unsigned_abs}
-use Rattle.std.specs.Prelude.{nat_eq, nat_le, nat_lt}
+use Rattle.std.proofs.Common.{◌≡◌, ℕ, zero, suc, ◌+◌, ◌<◌, ◌≤◌, max, Bool, true, false, ◌&&◌, ◌||◌, List, [], ◌∷◌, ◌++◌, length, Option, Some, None, ℤ, pos, ◌+ℤ◌, ◌-ℤ◌, ◌<ℤ◌, refl, sym, ap, subst, ◌∙◌, arith, append-nil, if◌then◌else◌, unsigned_abs}
+use Rattle.std.specs.Prelude.{nat_eq}
 use Rattle.std.specs.Int.{int_rem_euclid}
 use Rattle.std.proofs.lemmas.Bool.Decides.{nat_tests}
 use Rattle.std.proofs.lemmas.Int.{ints}
@@ -11,7 +11,7 @@ use Rattle.path_merge.proofs.FirstLemmas.{is_first}
 use Rattle.path_merge.proofs.HistoryLemmas.{by_last_event, or_else}
 use Rattle.rtp_stream.specs.Anchor.{anchor_from, can_anchor, first_media_time, is_first_in_reach, is_source_wanted, media_time_of, next_number, restart_from, restart_media_time}
 use Rattle.rtp_stream.specs.Epochs.{anchors_after, anchors_at, anchors_of, can_restart, continues_media_time, copies_since, copies_under_at, is_all_given, last_of, placed}
-use Rattle.rtp_stream.specs.Grid.{end_of_copies, extended_number, in_room, is_in_time, is_on_grid}
+use Rattle.rtp_stream.specs.Grid.{end_of_copies, extended_number, in_room, is_in_time}
 use Rattle.rtp_stream.specs.History.{is_counting, time_of}
 use Rattle.rtp_stream.specs.Probation.{completes_probation, heard_since}
 use Rattle.rtp_stream.specs.Standing.{end_of_standings, end_since, is_following, is_slip, room_since, standing_after, standings_at, standings_on, standings_since}

@@ -5,8 +5,7 @@ use Rattle.std.proofs.lemmas.Bool.Decides.{nat_tests}
 use Rattle.std.proofs.lemmas.Int.{ints}
 use Rattle.std.proofs.lemmas.List.{take-append-le}
 use Rattle.std.proofs.Math.Seq.{take-append_seam}
-use Rattle.path_merge.proofs.AnchorLemmas.{AllWithin, HasEpochs, all_within, has_epochs}
-use Rattle.path_merge.proofs.AnewLemmas.{itself_eq}
+use Rattle.path_merge.proofs.AnchorLemmas.{AllWithin, all_within, has_epochs}
 use Rattle.path_merge.proofs.CopiesLemmas.{first_with-below}
 use Rattle.path_merge.proofs.EndLemmas.{IsOpener, Reopens, by_opener, few_before}
 use Rattle.path_merge.proofs.EpochLemmas.{anchor_is, copies_of-since, no_anchors, since_of}
@@ -16,7 +15,7 @@ use Rattle.path_merge.proofs.PastLemmas.{IsPast, begins_past}
 use Rattle.path_merge.proofs.SpanLemmas.{spanned}
 use Rattle.rtp_stream.proofs.ProbationLemmas.{last_of-some}
 use Rattle.rtp_stream.specs.Anchor.{next_number}
-use Rattle.rtp_stream.specs.Copies.{copies_at, copies_in, copies_of, copies_of_all, copies_with, with_epoch}
+use Rattle.rtp_stream.specs.Copies.{copies_at, copies_in, copies_of_all, copies_with, with_epoch}
 use Rattle.rtp_stream.specs.EpochLaws.{AllSlotsAmong, HasSpans, IsSlotAmong, IsSlotUnder, anchor_with, epochs_in, spans_of}
 use Rattle.rtp_stream.specs.Epochs.{anchor_in, anchor_of, anchors_at, anchors_of, can_restart, copies_since, last_of, room_in_force}
 use Rattle.rtp_stream.specs.Grid.{copies_under, end_of_copies, extended_number, first_with, in_room, is_on_grid}

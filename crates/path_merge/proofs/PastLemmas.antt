@@ -1,5 +1,5 @@
 -- An arrival in step that opens an epoch has a number past all that was heard in the epoch before.
-use Rattle.std.proofs.Common.{◌≡◌, ℕ, suc, ◌+◌, ◌^◌, ◌<◌, ◌≤◌, Bool, true, false, not, ◌&&◌, ◌||◌, List, [], ◌∷◌, ◌++◌, length, Option, Some, None, Result, Ok, Err, ℤ, refl, sym, ap, subst, ◌∙◌, arith, if◌then◌else◌}
+use Rattle.std.proofs.Common.{◌≡◌, ℕ, ◌+◌, ◌^◌, ◌<◌, ◌≤◌, Bool, true, false, not, ◌&&◌, ◌||◌, List, [], ◌∷◌, ◌++◌, length, Option, Some, None, Ok, Err, ℤ, refl, sym, ap, subst, ◌∙◌, arith, if◌then◌else◌}
 use Rattle.std.specs.Prelude.{bytes_eq, int_le, nat_eq, nat_le, nat_lt, pos, ◌+ℤ◌, ◌-ℤ◌, ◌*◌}
 use Rattle.std.proofs.lemmas.Bool.Decides.{nat_tests}
 use Rattle.path_merge.proofs.AnewLemmas.{itself_eq}
@@ -9,7 +9,7 @@ use Rattle.rtp_stream.proofs.ProbationLemmas.{complete_is, probation_of-push}
 use Rattle.rtp_stream.specs.Anchor.{first_media_time, is_source_wanted, next_number}
 use Rattle.rtp_stream.specs.Copies.{copies_of}
 use Rattle.rtp_stream.specs.Epochs.{anchor_in, anchor_of, anchors_of, can_restart, continues_media_time, copies_since, is_all_given, last_of, room_in_force}
-use Rattle.rtp_stream.specs.Fate.{counted_fate, fate_at, fate_of, fate_of_put, fault_or, first_fate, is_restart, next_fate}
+use Rattle.rtp_stream.specs.Fate.{counted_fate, fate_at, fate_of, fate_of_put, fault_or, is_restart}
 use Rattle.rtp_stream.specs.Grid.{end_of_copies, extended_number, first_with, in_room, is_on_grid}
 use Rattle.rtp_stream.specs.History.{arrival_count, is_closed, is_counting, time_of}
 use Rattle.rtp_stream.specs.PathProbation.{is_complete}
@@ -21,7 +21,6 @@ use Rattle.rtp_stream.specs.declared.stream_spec.Stream.{Stream}
 use Rattle.rtp_stream.specs.declared.anchor.Anchor.{Anchor}
 use Rattle.rtp_stream.specs.declared.event.Event.{Event}
 use Rattle.rtp_stream.specs.declared.event.Event.TheVariants.{Arrive}
-use Rattle.rtp_stream.specs.declared.fate.Fate.{Fate}
 use Rattle.rtp_stream.specs.declared.fate.Fate.TheVariants.{Ahead, Closed, CountersFull, Late, OffGrid, Restarted, Taken, WrongSource}
 use Rattle.rtp_stream.specs.declared.fate.Put.TheVariants.{Double, Unlike}
 use Rattle.rtp_stream.specs.declared.packet.Packet.{Packet}

@@ -1,5 +1,5 @@
 -- A packet in step has, counted on over the epochs, the number that its sender gave it.
-use Rattle.std.proofs.Common.{◌≡◌, ℕ, zero, suc, ◌+◌, ◌-◌, ◌*◌, ◌^◌, ◌<◌, ◌≤◌, Bool, true, false, not, ◌&&◌, ◌||◌, List, [], ◌∷◌, ◌++◌, length, take, Option, Some, None, ℤ, pos, ◌+ℤ◌, ◌-ℤ◌, ◌*ℤ◌, ◌≤ℤ◌, ◌<ℤ◌, refl, sym, ap, subst, ◌∙◌, arith, append-nil, append_assoc, length-append, if◌then◌else◌, unsigned_abs}
+use Rattle.std.proofs.Common.{◌≡◌, ℕ, zero, suc, ◌+◌, ◌*◌, ◌<◌, ◌≤◌, Bool, true, false, not, ◌||◌, List, [], ◌∷◌, ◌++◌, length, Option, Some, None, ℤ, pos, ◌+ℤ◌, ◌-ℤ◌, ◌*ℤ◌, refl, sym, ap, subst, ◌∙◌, arith, append-nil, append_assoc, length-append, if◌then◌else◌, unsigned_abs}
 use Rattle.std.specs.Prelude.{nat_eq}
 use Rattle.std.specs.Int.{int_rem_euclid}
 use Rattle.std.proofs.lemmas.Bool.Decides.{nat_tests}
@@ -22,7 +22,7 @@ use Rattle.rtp_stream.specs.Epochs.{anchor_in, anchor_of, anchors_at, anchors_of
 use Rattle.rtp_stream.specs.Grid.{expected_timestamp, extended_number, is_on_grid}
 use Rattle.rtp_stream.specs.History.{arrival_count, is_closed, time_of}
 use Rattle.rtp_stream.specs.Laws.{numbers_from}
-use Rattle.rtp_stream.specs.Nearest.{IsNearest, nearest_number}
+use Rattle.rtp_stream.specs.Nearest.{nearest_number}
 use Rattle.rtp_stream.specs.Probation.{is_off}
 use Rattle.rtp_stream.specs.Sent.{Arrives, BeginsWith, Closes, IsNear, SentEvent, SentPacket, Ticks, timestamp_in_step, wire_history, wire_packet}
 use Rattle.rtp_stream.specs.StreamSpecFacts.{IsStream}
@@ -31,7 +31,6 @@ use Rattle.rtp_stream.specs.declared.stream_spec.Stream.{Stream}
 use Rattle.rtp_stream.specs.declared.anchor.Anchor.{Anchor}
 use Rattle.rtp_stream.specs.declared.event.Event.{Event}
 use Rattle.rtp_stream.specs.declared.event.Event.TheVariants.{Arrive, Close, Tick}
-use Rattle.rtp_stream.specs.declared.packet.Packet.{Packet}
 
 -- a product of a sum
 split_product : (u v : ℤ) (f : ℕ) → ((u +ℤ v) *ℤ pos f) ≡ ((u *ℤ pos f) +ℤ (v *ℤ pos f))

@@ -15,7 +15,7 @@ use Rattle.rtp_stream.specs.Grid.{is_on_grid}
 use Rattle.rtp_stream.specs.Epochs.{anchor_of, anchors_of}
 use Rattle.rtp_stream.specs.MarkFacts.{MarkView}
 use Rattle.rtp_stream.specs.Marks.{marks_of}
-use Rattle.rtp_stream.specs.Sent.{Arrives, Closes, IsNear, SentEvent, SentPacket, Ticks, wire_packet}
+use Rattle.rtp_stream.specs.Sent.{Arrives, Closes, IsNear, SentEvent, Ticks, wire_packet}
 
 -- each arrival is on one of the four paths that a stream may have
 abbrev pub HasFewPaths : List Event → Type 0
