@@ -70,7 +70,7 @@ fn gains_move_between_datagrams(rt: HostRuntime) {
     assert!(&rt; darbexum_turn(alloc, &mut handle, 12, &mut out) == 30);
     // The samples 1 to 6, of which the last four are twice as loud.
     assert!(&rt; &out[12..18] == &PACKET[12..18]);
-    assert!(&rt; &out[18..30] == &[0, 0, 6, 0, 0, 8, 0, 0, 10, 0, 0, 12]);
+    assert!(&rt; &out[18..30] == [0, 0, 6, 0, 0, 8, 0, 0, 10, 0, 0, 12].as_slice());
     assert!(&rt; darbexum_next_block_start(alloc, &mut handle, &mut start) == 0);
     assert!(&rt; start == 6);
     assert!(&rt; darbexum_change_gains(alloc, &mut handle, 5, &[0]) == -16);

@@ -4,6 +4,7 @@ use super::studios::{
     six_and_forty_eight,
 };
 use crate::small_studios::six_and_forty_eight as studio;
+use gain_mix::ChangeFault;
 use path_merge::{ClockFault, Fate, Path};
 use rtp_wire::WireFault;
 use std::process::Abort;
@@ -60,6 +61,46 @@ const WITHIN_A_TURN: [Step; 7] = [
 #[test]
 fn nothing_is_taken_within_a_turn(rt: HostRuntime) {
     play(&rt, rt.alloc(), &WITHIN_A_TURN);
+}
+
+const MOVED: [Step; 12] = [
+    Step::Hand(0, 1, TAKEN),
+    Step::Hand(0, 2, TAKEN),
+    Step::NextBlock(0),
+    Step::Move(6, 131_072, Ok(())),
+    Step::Gain(5, 65_536),
+    Step::Gain(6, 131_072),
+    Step::Give(18, 0, 1),
+    Step::NextBlock(6),
+    Step::Move(5, 196_608, Err(ChangeFault::Time)),
+    Step::Give(18, 1, 4),
+    Step::Turn(18, Ok(None)),
+    Step::NextBlock(12),
+];
+
+/// A gain of 2 that is planned for the second block is in that block's datagram. A change for a block that was returned
+/// is refused, and changes nothing.
+#[test]
+fn a_planned_gain_is_heard_from_its_time_on(rt: HostRuntime) {
+    play(&rt, rt.alloc(), &MOVED);
+}
+
+const REPLACED: [Step; 9] = [
+    Step::Hand(0, 1, TAKEN),
+    Step::Hand(0, 2, TAKEN),
+    Step::Move(6, 131_072, Ok(())),
+    Step::Move(0, 196_608, Ok(())),
+    Step::Give(18, 0, 3),
+    Step::Move(6, 1_048_577, Err(ChangeFault::Range)),
+    Step::Move(6, 327_680, Ok(())),
+    Step::Give(18, 1, 10),
+    Step::Turn(18, Ok(None)),
+];
+
+/// A change for now replaces the one that was planned, and one within a turn is in the next datagram of the same turn.
+#[test]
+fn a_gain_for_now_replaces_what_was_planned(rt: HostRuntime) {
+    play(&rt, rt.alloc(), &REPLACED);
 }
 
 /// Returns the path of this number.

@@ -3,7 +3,8 @@ ghost use Rattle.std.specs.Prelude.{IsTrue, All};
 ghost use Rattle.gain_mix.specs.Mix.{Is24Bits};
 
 use gain_mix::{
-    Matrix, MatrixFault, Schedule, ScheduleFault, mix_block, mix_counted, mix_frame, mix_span,
+    ChangeFault, LiveSchedule, Matrix, MatrixFault, Schedule, ScheduleFault, mix_block,
+    mix_counted, mix_frame, mix_span,
 };
 use std::alloc::Global;
 use std::process::Abort;
@@ -316,18 +317,169 @@ fn has_gains(rt: &impl Abort, schedule: &Schedule) {
 /// The table of changes in MIXING.md holds: each change takes effect at its own sampling instant, within a span.
 #[test]
 fn gains_change_within_a_span(rt: HostRuntime) {
-    changes_gains(&rt, &two_changes(&rt, rt.alloc()));
+    changes_gains(
+        &rt,
+        &live_of(&rt, rt.alloc(), &two_changes(&rt, rt.alloc())),
+    );
+}
+
+/// Returns a schedule in use from 0 on.
+fn live_of(rt: &impl Abort, alloc: Global, schedule: &Schedule) -> LiveSchedule {
+    LiveSchedule::new(alloc, schedule, 0).expect(rt, "a schedule in use")
 }
 
 /// Tests that with that schedule.
-fn changes_gains(rt: &impl Abort, schedule: &Schedule) {
+fn changes_gains(rt: &impl Abort, schedule: &LiveSchedule) {
     let ins = [1, 2, 3, 4, 5, 6];
     let mut outs = [0; 6];
     // `mix_span` requires these values and this shape.
     assert!(rt; are_24_bits(&ins));
-    assert!(rt; schedule.first().ins() == 1 && schedule.first().outs() == 1);
+    assert!(rt; schedule.ins() == 1 && schedule.outs() == 1);
     mix_span(schedule, 98, &ins, &mut outs, 6, 16);
     assert!(rt; outs == [1, 2, 6, 8, 10, -6]);
+}
+
+/// A change of gains that is handed in while a schedule is in use from a time on, and what comes of it.
+struct Move {
+    from: i64,
+    at: i64,
+    gain: i32,
+    answer: Result<(), ChangeFault>,
+    /// Times, and the gain that is in force at each of them afterwards.
+    gains: [(i64, i32); 5],
+    shows: &'static str,
+}
+
+/// The gains if nothing was changed.
+const UNMOVED: [(i64, i32); 5] = [
+    (99, 65_536),
+    (100, 131_072),
+    (101, 131_072),
+    (102, 131_072),
+    (103, -65_536),
+];
+
+const MOVES: [Move; 8] = [
+    Move {
+        from: 99,
+        at: 98,
+        gain: 1,
+        answer: Err(ChangeFault::Time),
+        gains: UNMOVED,
+        shows: "a time before the next block is refused",
+    },
+    Move {
+        from: 0,
+        at: LAST + 1,
+        gain: 1,
+        answer: Err(ChangeFault::Time),
+        gains: UNMOVED,
+        shows: "a time past 2^60 is refused",
+    },
+    Move {
+        from: 0,
+        at: 99,
+        gain: 1_048_577,
+        answer: Err(ChangeFault::Range),
+        gains: UNMOVED,
+        shows: "a gain out of range is refused",
+    },
+    Move {
+        from: 99,
+        at: 99,
+        gain: 7,
+        answer: Ok(()),
+        gains: [(99, 7), (100, 7), (101, 7), (102, 7), (103, 7)],
+        shows: "a change for now replaces all that was planned",
+    },
+    Move {
+        from: 0,
+        at: 101,
+        gain: 7,
+        answer: Ok(()),
+        gains: [(99, 65_536), (100, 131_072), (101, 7), (102, 7), (103, 7)],
+        shows: "a planned change replaces those at and after its time",
+    },
+    Move {
+        from: 0,
+        at: 103,
+        gain: 7,
+        answer: Ok(()),
+        gains: [
+            (99, 65_536),
+            (100, 131_072),
+            (101, 131_072),
+            (102, 131_072),
+            (103, 7),
+        ],
+        shows: "of two changes at one time the second is in force",
+    },
+    Move {
+        from: 0,
+        at: 104,
+        gain: 7,
+        answer: Ok(()),
+        gains: UNMOVED,
+        shows: "a change after the others leaves them",
+    },
+    Move {
+        from: 101,
+        at: 101,
+        gain: 7,
+        answer: Ok(()),
+        gains: [(99, 7), (100, 7), (101, 7), (102, 7), (103, 7)],
+        shows: "what is past is let go, so the gains at earlier times are not kept",
+    },
+];
+
+/// Each change is in force from its own time on, in place of what was planned, and a refused one changes nothing.
+#[test]
+fn gains_move_while_a_schedule_is_in_use(rt: HostRuntime) {
+    for row in &MOVES {
+        let mut live = live_of(&rt, rt.alloc(), &two_changes(&rt, rt.alloc()));
+        moves(&rt, row, &mut live);
+    }
+}
+
+/// Tests one row of that table.
+fn moves(rt: &impl Abort, row: &Move, live: &mut LiveSchedule) {
+    assert!(rt;
+        live.change(row.from, row.at, &[row.gain]) == row.answer,
+        "{}",
+        row.shows
+    );
+    for (t, gain) in &row.gains {
+        assert!(rt;
+            live.at(*t).gains() == [*gain].as_slice(),
+            "{}, at {t}",
+            row.shows
+        );
+    }
+}
+
+/// The 65th change is refused while 64 before it are to come. One that replaces them is taken, and so is one after a
+/// change has come.
+#[test]
+fn sixty_four_changes_may_be_planned(rt: HostRuntime) {
+    let mut live = live_of(&rt, rt.alloc(), &two_changes(&rt, rt.alloc()));
+    assert!(&rt; live.change(0, 1, &[1, 1]) == Err(ChangeFault::Shape));
+    for t in 1..65 {
+        assert!(&rt; live.change(0, t, &[1]) == Ok(()), "{t}");
+    }
+    assert!(&rt; live.change(0, 65, &[1]) == Err(ChangeFault::TooMany));
+    assert!(&rt;
+        live.change(0, 64, &[2]) == Ok(()),
+        "at the time of the last"
+    );
+    assert!(&rt; live.change(0, 65, &[1]) == Err(ChangeFault::TooMany));
+    live.pass(0);
+    assert!(&rt;
+        live.change(0, 65, &[1]) == Err(ChangeFault::TooMany),
+        "none has come"
+    );
+    live.pass(1);
+    assert!(&rt; live.change(1, 65, &[1]) == Ok(()), "one has come");
+    assert!(&rt; live.change(1, 10, &[1]) == Ok(()), "in place of 56");
 }
 
 // Samples of 24 bits are from -8,388,608 to 8,388,607: twice 4,194,304 is past them, and minus twice that just is not.
@@ -339,17 +491,18 @@ const LOUD: [i32; 4] = [4_194_303, 4_194_304, -4_194_304, -4_194_305];
 fn saturated_samples_are_counted(rt: HostRuntime) {
     let matrix = matrix_of(&rt, rt.alloc(), 2, 1, &[131_072, -131_072]);
     let schedule = Schedule::new(matrix, Vec::new(rt.alloc()));
-    counts_saturated(&rt, &schedule.expect(&rt, "a schedule of no change"));
+    let schedule = schedule.expect(&rt, "a schedule of no change");
+    counts_saturated(&rt, &live_of(&rt, rt.alloc(), &schedule));
 }
 
 /// Tests that with a schedule of gains 2 and -2.
-fn counts_saturated(rt: &impl Abort, schedule: &Schedule) {
+fn counts_saturated(rt: &impl Abort, schedule: &LiveSchedule) {
     let mut outs = [0; 8];
     // The second count begins at 5, to see that the call adds to it.
     let mut counts = [0, 5];
     // `mix_counted` requires these values and this shape.
     assert!(rt; are_24_bits(&LOUD));
-    assert!(rt; schedule.first().ins() == 1 && schedule.first().outs() == 2);
+    assert!(rt; schedule.ins() == 1 && schedule.outs() == 2);
     mix_counted(schedule, 0, &LOUD, &mut outs, 4, 16, &mut counts);
     assert!(rt; outs[2..6] == [8_388_607, -8_388_608, -8_388_608, 8_388_607]);
     assert!(rt; counts == [2, 7]);

@@ -1,5 +1,6 @@
 //! The engines of the tests, their packets, and steps that call an engine.
 use crate::small_studios::{stream, sum_of};
+use gain_mix::ChangeFault;
 use path_merge::{ClockFault, Path, StreamSpec};
 use std::alloc::Global;
 use std::process::Abort;
@@ -112,6 +113,12 @@ pub enum Step {
     Counts(u64, u64, u64),
     /// `next_deadline`, with its result.
     Deadline(Option<i64>),
+    /// A change of the gain from a time on, with its result.
+    Move(i64, i32, Result<(), ChangeFault>),
+    /// `next_block_start`, with its result.
+    NextBlock(i64),
+    /// The gain in force at a time.
+    Gain(i64, i32),
 }
 
 /// Takes these steps with a new engine, and tests each result.
@@ -137,6 +144,9 @@ fn gives_result(engine: &mut Engine, step: Step) -> bool {
             None => false,
         },
         Step::Deadline(want) => engine.next_deadline() == want,
+        Step::Move(at, gain, want) => engine.change_gains(at, &[gain]) == want,
+        Step::NextBlock(want) => engine.next_block_start() == want,
+        Step::Gain(at, want) => engine.gains(at).gains() == [want].as_slice(),
     }
 }
 

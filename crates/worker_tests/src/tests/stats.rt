@@ -18,6 +18,10 @@ enum Step {
     Stream(Option<[(u64, u64); 2]>),
     /// The mixer gives a datagram.
     Mix,
+    /// A change of the gain from a time on, which is taken or not.
+    Move(i64, i32, bool),
+    /// The start of the mixer's next block.
+    NextBlock(i64),
     /// The mix's receiver has the output channel's saturated samples and its peak, or nothing.
     Output(Option<(u64, u32)>),
 }
@@ -50,6 +54,26 @@ const STEPS: [Step; 24] = [
     Step::Mix,
     Step::Output(Some((0, 12))),
     Step::Output(None),
+];
+
+/// A gain of 2 is planned for the second block, and is in its peak: its samples are 7 to 12. The first block has started
+/// at 0, so after it no gain before 6 can change.
+const MOVED: [Step; 15] = [
+    Step::Send(0, &FIRST),
+    Step::Send(0, &SECOND),
+    Step::Turn(0),
+    Step::NextBlock(0),
+    Step::Move(6, 131_072, true),
+    Step::Turn(12),
+    Step::Mix,
+    Step::Output(Some((0, 6))),
+    Step::NextBlock(6),
+    Step::Move(5, 0, false),
+    Step::Move(12, 0, true),
+    Step::Turn(18),
+    Step::Mix,
+    Step::Output(Some((0, 24))),
+    Step::NextBlock(12),
 ];
 
 fn path_counts(stats: &mut StatsReceivers, path: usize) -> Option<(u64, u64)> {
@@ -99,6 +123,8 @@ fn gives_result(ends: &mut Ends, stats: &mut StatsReceivers, step: Step) -> bool
         Step::Turn(now) => turns(ends, now),
         Step::Stream(want) => stream_counts(stats) == want,
         Step::Mix => gives(&mut ends.mix),
+        Step::Move(at, gain, taken) => ends.mix.change_gains(at, &[gain]).is_ok() == taken,
+        Step::NextBlock(start) => ends.mix.next_block_start() == start,
         Step::Output(want) => output_stats(stats) == want,
     }
 }
@@ -116,12 +142,19 @@ fn open_both(rt: &impl Abort, alloc: Global) -> (Ends, StatsReceivers) {
 #[test]
 fn receivers_get_what_becomes_of_each_paths_packets(rt: HostRuntime) {
     let (mut ends, mut stats) = open_both(&rt, rt.alloc());
-    take_all(&rt, &mut ends, &mut stats);
+    take_all(&rt, &mut ends, &mut stats, &STEPS);
+}
+
+/// A change of gains at the mixer's end is heard from its time on.
+#[test]
+fn gains_move_at_the_mixers_end(rt: HostRuntime) {
+    let (mut ends, mut stats) = open_both(&rt, rt.alloc());
+    take_all(&rt, &mut ends, &mut stats, &MOVED);
 }
 
 /// Takes all steps, and tests each outcome.
-fn take_all(rt: &impl Abort, ends: &mut Ends, stats: &mut StatsReceivers) {
-    for (place, step) in STEPS.iter().enumerate() {
+fn take_all(rt: &impl Abort, ends: &mut Ends, stats: &mut StatsReceivers, steps: &[Step]) {
+    for (place, step) in steps.iter().enumerate() {
         assert!(rt; gives_result(ends, stats, *step), "step {place}");
     }
 }
