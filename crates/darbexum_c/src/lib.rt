@@ -22,8 +22,6 @@ mod raw_box;
 mod readers;
 mod record_calls;
 mod records;
-#[cfg(test)]
-mod tests;
 mod texts;
 mod version;
 
