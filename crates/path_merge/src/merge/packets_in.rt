@@ -121,7 +121,7 @@ impl<V: Window> Merge<V> {
         if follows_sender(self.spec.clock()) {
             // A copy, for the reason given in `offer_ref`.
             let judged = *packet;
-            return self.offer_elsewhere(path, &judged);
+            return self.offer_judged(anchor, path, &judged);
         }
         let next = self.window.base();
         let room = u64::from(self.spec.window());
@@ -166,8 +166,32 @@ impl<V: Window> Merge<V> {
         let _ = update_probation(&mut self.probations, path, &self.spec, false, packet);
     }
 
+    /// Takes an arrival at an anchored merge, with the room that the tracks leave.
+    // Out of line, so that the arrivals by the other clocks pay one test for it.
+    #[inline(never)]
+    fn offer_judged(&mut self, anchor: Anchor, path: Path, packet: &PacketRef<'_>) -> Fate
+        requires anchored { self.old.anchor ≡ Some anchor }
+        requires open_yet { self.old.closed ≡ false }
+        requires room { self.old.counts.arrived < 2 ^ 62 }
+        requires fits { Fits self.old.spec (packet_of packet.now) }
+        ensures next { opens_epoch self.old anchor path (packet_of packet.now) ≡ false
+            → IsNextStep self.old.spec self.old self.new anchor path (packet_of packet.now) result }
+        ensures restart { opens_epoch self.old anchor path (packet_of packet.now) ≡ true
+            → IsRestartStep self.old.spec self.old self.new anchor path (packet_of packet.now) result }
+    {
+        let next = self.window.base();
+        let room = room_of(&self.spec, &anchor, next, &self.tracks);
+        match place_of(&self.spec, &anchor, next, self.next_media, room, packet) {
+            Ok(number) => self.offer_at(anchor, Ok(number), path, packet),
+            Err(_) => {
+                let rare = *packet;
+                self.offer_elsewhere(path, &rare)
+            }
+        }
+    }
+
     /// Takes an arrival at an anchored merge, whatever its place is.
-    // Out of line, since by most clocks most packets have a place in the window, and `offer_next` takes these itself.
+    // Out of line, since most packets have a place in the window, and the calls before take these themselves.
     #[inline(never)]
     fn offer_elsewhere(&mut self, path: Path, packet: &PacketRef<'_>) -> Fate
         requires open_yet { self.old.closed ≡ false }

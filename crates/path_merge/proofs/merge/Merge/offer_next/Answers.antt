@@ -41,7 +41,7 @@ place_of-requires-clause-anchor_high g c =
     omega (arith, ints, (anchored_at _ c.self.inside.next_media _ c.args.anchor is_a c.self.invariant.anchored).bounds.media_high)
 
 pub returns-then-follows_sender-clause-next : goal.returns-then-follows_sender-clause-next
-returns-then-follows_sender-clause-next g c = c.offer_elsewhere.ensures.next c.args.anchor c.requires.anchored
+returns-then-follows_sender-clause-next g c = c.offer_judged.ensures.next
 
 pub returns-in-Ok-clause-restart : goal.returns-in-Ok-clause-restart
 returns-in-Ok-clause-restart g c = λ opens.
@@ -51,4 +51,4 @@ returns-in-Ok-clause-restart g c = λ opens.
     absurd (let stays : opens_epoch c.args.self.now c.args.anchor c.args.path (packet_of c.args.packet.now) ≡ false = in_step_stays c.args.self.now c.args.anchor c.args.path (packet_of c.args.packet.now) plain on in cc)
 
 pub returns-in-Err-clause-next : goal.returns-in-Err-clause-next
-returns-in-Err-clause-next g c = c.offer_elsewhere-in-Err.ensures.next c.args.anchor c.requires.anchored
+returns-in-Err-clause-next g c = c.offer_elsewhere.ensures.next c.args.anchor c.requires.anchored
