@@ -56,8 +56,8 @@ const STEPS: [Step; 24] = [
     Step::Output(None),
 ];
 
-/// A gain of 2 is planned for the second block, and is in its peak: its samples are 7 to 12. The first block has started
-/// at 0, so after it no gain before 6 can change.
+/// A gain of 2 is planned for the second block, and is in its peak: its samples are 7 to 12. The first block starts at
+/// 0, so after it no gain before 6 can change.
 const MOVED: [Step; 15] = [
     Step::Send(0, &FIRST),
     Step::Send(0, &SECOND),
