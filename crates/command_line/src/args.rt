@@ -118,4 +118,6 @@ pub struct LiveArgs<'a> {
     pub record: Option<&'a str>,
     /// True if the fault of a socket is explained: what it is for, its address, and the system's error.
     pub verbose: bool,
+    /// The path of the mix's WAV file, if one is asked for.
+    pub wav: Option<&'a str>,
 }

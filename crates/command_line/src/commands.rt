@@ -180,6 +180,11 @@ const LIVE: &[ArgSpec] = &[
         ..FILE
     },
     ArgSpec {
+        name: "wav",
+        help: "Write the mix to this WAV file while it is sent",
+        ..FILE
+    },
+    ArgSpec {
         name: "clock",
         help: "Open now by International Atomic Time, as the media clock of ST 2110 counts it",
         kind: ArgKind::Option(ArgAction::Set, &["tai"], ValueParser::Names(&["tai"])),

@@ -158,6 +158,7 @@ fn live_args<'a>(matches: &ArgMatches<'a>) -> LiveArgs<'a> {
         tai_offset: matches.get_str("clock").map(|_tai| offset),
         record: matches.get_str("record"),
         verbose: matches.get_flag("verbose"),
+        wav: matches.get_str("wav"),
     }
 }
 

@@ -8,7 +8,7 @@ use pcap_file::{RecordFault, RecordFile};
 use std::alloc::Global;
 use std::io::{Read, Write};
 use studio_run::ReadFault;
-use wav_file::{CreateFile, FileFault, Overwrite};
+use wav_file::{CreateFile, FileFault, LiveWavFault, LiveWavFile, Overwrite};
 
 /// The host of the commands: the types of its standard streams, and its files by their paths. The program implements it
 /// over the system's files.
@@ -32,6 +32,9 @@ pub trait Host {
     /// The file of a live run's record.
     type Record: RecordFile + Send + Drop;
 
+    /// The WAV file of a live run's mix.
+    type Audio: LiveWavFile + Send + Drop;
+
     /// Opens the file at a path for reading, from its start. Returns `ReadFault::Memory` if an allocation fails, and
     /// `ReadFault::Device` if the file cannot be opened.
     fn open(&self, path: &str) -> Result<Self::Source, ReadFault>;
@@ -51,6 +54,11 @@ pub trait Host {
     /// stays as it is, and `NotCreated` if the file cannot be created for another reason.
     fn create_record(&self, path: &str) -> Result<Self::Record, RecordFault>
         ensures empty { IfOk result (λ file. RecordHolds (Self.Record.Write.contents file) []) };
+
+    /// Creates the empty WAV file of a live run's mix at a path at which nothing is. Returns `Exists` if something is
+    /// there, which stays as it is, and `NotCreated` if the file cannot be created for another reason.
+    fn create_wav(&self, path: &str) -> Result<Self::Audio, LiveWavFault>
+        ensures empty { IfOk result (λ file. Holds (Self.Audio.Write.contents file) []) };
 
     /// Returns true if two paths lead to one file, also by links.
     fn is_same_file(&self, one: &str, other: &str) -> bool;

@@ -5,7 +5,7 @@ use Rattle.studio_config.specs.Studio.{Studio}
 use Rattle.live_run.specs.RunText.{BreaksOffRun, FailsRun}
 use Rattle.live_run.specs.RunResult.{IsEarly}
 use Rattle.live_run.specs.declared.fault.LiveFault.{LiveFault}
-use Rattle.live_run.specs.declared.fault.LiveFault.TheVariants.{Memory, Socket, Page, Thread, RecordExists, Record, Unsettled, Write}
+use Rattle.live_run.specs.declared.fault.LiveFault.TheVariants.{Memory, Socket, Page, Thread, RecordExists, Record, WavExists, Wav, Unsettled, Write}
 
 early_writes_nothing : (one : Bool) (studio : Studio) (written : Option (List ℕ)) (fault : LiveFault) → IsEarly fault → FailsRun one studio written written fault
 early_writes_nothing one studio written Memory early = refl
@@ -13,6 +13,8 @@ early_writes_nothing one studio written Socket early = refl
 early_writes_nothing one studio written Page early = refl
 early_writes_nothing one studio written RecordExists early = refl
 early_writes_nothing one studio written Record early = refl
+early_writes_nothing one studio written WavExists early = refl
+early_writes_nothing one studio written Wav early = refl
 early_writes_nothing one studio written Thread early = refl
 early_writes_nothing one studio written Unsettled early = absurd early
 early_writes_nothing one studio written Write early = absurd early

@@ -8,7 +8,7 @@ use Rattle.engine_run.specs.Grouping.{path_total}
 use Rattle.engine_run.specs.Runs.{IsSettledRun as IsSettledAlone}
 use Rattle.studio_io.specs.declared.report.WorkReport.{WorkReport}
 use Rattle.live_run.specs.declared.fault.LiveFault.{LiveFault}
-use Rattle.live_run.specs.declared.fault.LiveFault.TheVariants.{Memory, Socket, Page, Thread, RecordExists, Record, Unsettled, Write}
+use Rattle.live_run.specs.declared.fault.LiveFault.TheVariants.{Memory, Socket, Page, Thread, RecordExists, Record, WavExists, Wav, Unsettled, Write}
 
 -- there is a feed for each path, which gives these answers
 abbrev pub HasFeeds : Studio → List (List Answer) → Type 0
@@ -32,5 +32,7 @@ IsEarly Page = Unit {0}
 IsEarly Thread = Unit {0}
 IsEarly RecordExists = Unit {0}
 IsEarly Record = Unit {0}
+IsEarly WavExists = Unit {0}
+IsEarly Wav = Unit {0}
 IsEarly Unsettled = ⊥
 IsEarly Write = ⊥

@@ -7,7 +7,7 @@ use Rattle.studio_io.specs.declared.report.WorkReport.{WorkReport}
 use Rattle.live_run.specs.Report.{report_text}
 use Rattle.live_run.specs.RunResult.{IsRunOf}
 use Rattle.live_run.specs.declared.fault.LiveFault.{LiveFault}
-use Rattle.live_run.specs.declared.fault.LiveFault.TheVariants.{Memory, Socket, Page, Thread, RecordExists, Record, Unsettled, Write}
+use Rattle.live_run.specs.declared.fault.LiveFault.TheVariants.{Memory, Socket, Page, Thread, RecordExists, Record, WavExists, Wav, Unsettled, Write}
 
 -- the report of a run was written, settled or not
 pub record WritesRun (one_thread : Bool) (studio : Studio) (settled : Bool) (written written_then : Option (List ℕ)) : Type 0 where
@@ -29,6 +29,8 @@ FailsRun one_thread studio written written_then Socket = written_then ≡ writte
 FailsRun one_thread studio written written_then Page = written_then ≡ written
 FailsRun one_thread studio written written_then RecordExists = written_then ≡ written
 FailsRun one_thread studio written written_then Record = written_then ≡ written
+FailsRun one_thread studio written written_then WavExists = written_then ≡ written
+FailsRun one_thread studio written written_then Wav = written_then ≡ written
 FailsRun one_thread studio written written_then Thread = written_then ≡ written
 FailsRun one_thread studio written written_then Unsettled = WritesRun one_thread studio false written written_then
 FailsRun one_thread studio written written_then Write = BreaksOffRun one_thread studio written written_then

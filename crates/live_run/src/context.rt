@@ -2,6 +2,7 @@
 
 use crate::shown_health::ShownHealth;
 use crate::supervisor::stop_flags::StopFlags;
+use live_audio::AudioTap;
 use live_io::{RunHealth, RunPeriod};
 use live_status::StatusOutputs;
 
@@ -18,6 +19,8 @@ pub(crate) struct RunContext<'a, E> {
     pub(crate) flags: &'a StopFlags,
     /// The health of the run's sockets.
     pub(crate) health: &'a RunHealth,
+    /// The tap of the mix, if the run has a WAV file.
+    pub(crate) tap: Option<AudioTap<'a>>,
     /// The health of the run as its status shows it.
     pub(crate) shown: ShownHealth<'a>,
 }

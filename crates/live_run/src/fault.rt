@@ -12,6 +12,7 @@ use studio_ends::OpenFault;
 use studio_io::WorkFault;
 use studio_run::WriteFault;
 use thiserror::Error;
+use wav_file::LiveWavFault;
 
 /// The error of a live run: it has no report, or the report is not settled or was not written completely.
 #[derive(Clone, Copy, Debug, PartialEq, Eq, Error)]
@@ -25,7 +26,7 @@ pub enum LiveFault {
     /// The port of the page could not be bound.
     #[error("device: socket page")]
     Page,
-    /// A thread could not be started: a worker, the supervisor, the page's or the record's.
+    /// A thread could not be started: a worker, the supervisor, the page's, the record's or the WAV file's.
     #[error("device: thread")]
     Thread,
     /// There is a file at the record's path, or something else. It was not touched.
@@ -34,6 +35,12 @@ pub enum LiveFault {
     /// The record's file could not be created.
     #[error("device: record")]
     Record,
+    /// There is a file at the WAV file's path, or something else. It was not touched.
+    #[error("device: wav exists")]
+    WavExists,
+    /// The WAV file could not be created.
+    #[error("device: wav")]
+    Wav,
     /// The report was written, but it is not settled: something was left over.
     #[error("live: not settled")]
     Unsettled,
@@ -87,6 +94,17 @@ impl From<RecordFault> for LiveFault {
         match fault {
             RecordFault::Exists => LiveFault::RecordExists,
             RecordFault::NotCreated => LiveFault::Record,
+        }
+    }
+}
+
+impl From<LiveWavFault> for LiveFault {
+    ghost from_gives = { λ _ to. IsEarly to };
+
+    fn from(fault: LiveWavFault) -> LiveFault {
+        match fault {
+            LiveWavFault::Exists => LiveFault::WavExists,
+            LiveWavFault::NotCreated => LiveFault::Wav,
         }
     }
 }

@@ -1,5 +1,6 @@
 //! The inputs of a live run.
 
+use live_audio::AudioResult;
 use live_io::{RecordResult, SocketConfig};
 use status_page::StreamName;
 use std::time::Duration;
@@ -13,6 +14,8 @@ pub struct LiveInputs<'a> {
     pub names: &'a [Option<StreamName>],
     /// The result of the record, which the run sets if there is one.
     pub recorded: &'a RecordResult,
+    /// The result of the mix's WAV file, which the run sets if there is one.
+    pub audio: &'a AudioResult,
     /// The reading of the system's monotonic clock at the studio's opening time, if it could be read.
     pub began: Option<Duration>,
 }

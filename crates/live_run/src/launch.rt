@@ -12,6 +12,7 @@ use crate::single_thread::{OpenRecord, RecordOutput, run_in_one_thread};
 use crate::status::{OpenStatus, open_status};
 use crate::supervisor::stop_flags::StopFlags;
 use crate::workers::run_in_workers;
+use live_audio::{AudioChannel, AudioResult, AudioTap, AudioWriter, write_audio};
 use live_io::{LiveOptions, RecordChannel, RecordResult, RunPeriod, Sockets, open_sockets};
 use live_status::{Meter, PageThread, StatusInputs};
 use pcap_file::{CreateRecord, RecordFile};
@@ -24,6 +25,7 @@ use std::thread::Threads;
 use std::time::Clock;
 use studio_config::StudioSpec;
 use studio_io::WorkReport;
+use wav_file::{CreateLiveWav, LiveWavFile};
 
 /// The parts of a run that is ready to start, in addition to its studio.
 #[derive(Drop)]
@@ -32,6 +34,13 @@ struct PreparedRun<'a, E, D> {
     sockets: Sockets<'a>,
     context: RunContext<'a, E>,
     recording: RecordOutput<'a, D>,
+}
+
+/// A WAV file that was created: the end of the audio that writes it, and the file.
+#[derive(Drop)]
+struct OpenAudio<'a, A> {
+    writer: AudioWriter<'a>,
+    file: A,
 }
 
 /// The state that the threads of a run share.
@@ -45,7 +54,7 @@ struct SharedState {
 pub(crate) fn launch_run<
     R: Threads + Wait + Sync + Net + Clock + RandomSource,
     E: Write + Send + Drop,
-    P: CreateRecord,
+    P: CreateRecord + CreateLiveWav,
 >(
     rt: &R,
     alloc: Global,
@@ -54,6 +63,7 @@ pub(crate) fn launch_run<
     options: &LiveOptions,
     faults: E,
     record: Option<&P>,
+    wav: Option<&P>,
 ) -> Result<WorkReport, LiveFault>
     ensures run { IfOk result (IsRunOf options.now.one_thread studio.now) }
     ensures early { IfErr result IsEarly }
@@ -63,15 +73,17 @@ pub(crate) fn launch_run<
         flags: StopFlags::new(),
         meter: Meter::new(studio.output().enc(), studio.output().channels()),
     };
-    bind_and_run(rt, alloc, studio, inputs, options, &state, faults, record)
+    bind_and_run(
+        rt, alloc, studio, inputs, options, &state, faults, record, wav,
+    )
 }
 
-/// Opens the sockets and the outputs of the status of a run, creates its record, and runs it.
+/// Opens the sockets and the outputs of the status of a run, creates its files, and runs it.
 fn bind_and_run<
     'a,
     R: Threads + Wait + Sync + Net + Clock + RandomSource,
     E: Write + Send + Drop,
-    P: CreateRecord,
+    P: CreateRecord + CreateLiveWav,
 >(
     rt: &'a R,
     alloc: Global,
@@ -81,6 +93,7 @@ fn bind_and_run<
     state: &'a SharedState,
     faults: E,
     record: Option<&P>,
+    wav: Option<&P>,
 ) -> Result<WorkReport, LiveFault>
     ensures run { IfOk result (IsRunOf options.now.one_thread studio.now) }
     ensures early { IfErr result IsEarly }
@@ -94,6 +107,7 @@ fn bind_and_run<
     let OpenStatus { serving, showing } = status;
     // Last, so that a start that fails, as one whose sockets are taken, leaves no file behind and touches none.
     let recording = recording_of(alloc, studio, inputs.recorded, record)?;
+    let (tap, audio) = audio_of(alloc, studio, inputs.audio, wav)?;
     let parts = PreparedRun {
         one_thread: options.one_thread,
         sockets,
@@ -103,6 +117,7 @@ fn bind_and_run<
             status: showing,
             flags: &state.flags,
             health: inputs.sockets.health,
+            tap,
             shown: ShownHealth {
                 studio,
                 health: inputs.sockets.health,
@@ -112,8 +127,86 @@ fn bind_and_run<
         },
         recording,
     };
-    match serving {
-        Some(serving) => run_with_page(rt, alloc, studio, parts, serving),
+    let report = match audio {
+        Some(audio) => run_with_audio(rt, alloc, studio, parts, serving, audio)?,
+        None => run_with_status(rt, alloc, studio, parts, serving)?,
+    };
+    inputs.audio.set_sent(report.blocks);
+    Ok(report)
+}
+
+/// Creates the WAV file of a run, if one is wanted, and returns the end for the run's thread and the end that writes
+/// with the file. Takes its memory before it creates the file.
+fn audio_of<'a, P: CreateLiveWav>(
+    alloc: Global,
+    studio: &StudioSpec,
+    audio: &'a AudioResult,
+    wav: Option<&P>,
+) -> Result<(Option<AudioTap<'a>>, Option<OpenAudio<'a, P::Audio>>), LiveFault>
+    ensures early { IfErr result IsEarly }
+{
+    let Some(wav) = wav else {
+        return Ok((None, None));
+    };
+    let AudioChannel { tap, writer } = AudioChannel::new(alloc, studio, audio)?;
+    let file = wav.create_wav()?;
+    audio.begin();
+    Ok((Some(tap), Some(OpenAudio { writer, file })))
+}
+
+/// Runs a studio, with the writer of its audio in another thread, which ends with the run.
+fn run_with_audio<
+    'a,
+    R: Threads + Wait + Sync + Clock,
+    E: Write + Send + Drop,
+    D: RecordFile + Send + Drop,
+    A: LiveWavFile + Send + Drop,
+>(
+    rt: &'a R,
+    alloc: Global,
+    studio: &'a StudioSpec,
+    parts: PreparedRun<'a, E, D>,
+    page: Option<PageThread>,
+    audio: OpenAudio<'a, A>,
+) -> Result<WorkReport, LiveFault>
+    ensures run { IfOk result (IsRunOf parts.entry.one_thread studio.now) }
+    ensures early { IfErr result IsEarly }
+{
+    // The writer ends once the tap, which the run's sink holds, was dropped with it. It sets the result itself.
+    let (_written, ran) = with_scoped_thread(
+        rt,
+        move || {
+            let OpenAudio { writer, file } = audio;
+            let (mut writer, mut file) = (writer, file);
+            write_audio(rt, &mut writer, &mut file)
+        },
+        move || -> Result<WorkReport, LiveFault>
+            requires sync { IsSync R.row }
+            ensures run { IfOk result (IsRunOf parts.entry.one_thread studio.entry.now) }
+            ensures early { IfErr result IsEarly }
+        { run_with_status(rt, alloc, studio, parts, page) },
+    )?;
+    ran
+}
+
+/// Runs a studio, with the page's server in another thread if there is a page.
+fn run_with_status<
+    'a,
+    R: Threads + Wait + Sync + Clock,
+    E: Write + Send + Drop,
+    D: RecordFile + Send + Drop,
+>(
+    rt: &'a R,
+    alloc: Global,
+    studio: &'a StudioSpec,
+    parts: PreparedRun<'a, E, D>,
+    page: Option<PageThread>,
+) -> Result<WorkReport, LiveFault>
+    ensures run { IfOk result (IsRunOf parts.entry.one_thread studio.now) }
+    ensures early { IfErr result IsEarly }
+{
+    match page {
+        Some(page) => run_with_page(rt, alloc, studio, parts, page),
         None => run_prepared(rt, alloc, studio, parts),
     }
 }

@@ -2,11 +2,12 @@
 //!
 //! Begin with `run_studio_live`. It opens the sockets, runs the studio in the form that `LiveOptions`
 //! asks for until all feeds have ended, and writes the report. The caller passes the runtime, the
-//! memory, both writers and, for a record, its file.
+//! memory, both writers and, for a record or a WAV file, its file.
 //!
 //! The modules, in the order of a run:
 //!
-//! - `launch` opens sockets and status, and calls one of the two forms with a `RunContext`.
+//! - `launch` opens sockets and status, creates the files, and calls one of the two forms with a
+//!   `RunContext`. If a WAV file is asked for, another thread writes it.
 //! - `status` opens the page and the other outputs of the status, and writes the line of addresses
 //!   and, at a terminal, how to end the run with its report. `shown_health` reads what the status
 //!   shows of sockets, sends and the record.

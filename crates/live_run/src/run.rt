@@ -17,6 +17,7 @@ use std::thread::Threads;
 use std::time::Clock;
 use studio_config::StudioSpec;
 use studio_run::TextBuffer;
+use wav_file::CreateLiveWav;
 
 /// Runs a studio on real sockets until its feeds have ended, and then writes the report to `output`.
 ///
@@ -30,8 +31,9 @@ use studio_run::TextBuffer;
 /// there is dropped.
 ///
 /// A run in one thread writes a record of the datagrams that it took to the file that `record` creates, if there is
-/// one, and sets the record's result. The file is created once all sockets are bound. If it is too slow or a write to
-/// it fails, the record ends with a whole block, and the run goes on.
+/// one, and sets the record's result. A run in either form writes the samples of the mix to the WAV file that `wav`
+/// creates, if there is one, and sets its result. The files are created once all sockets are bound. If a file is too
+/// slow or a write to it fails, it ends with a whole block, and the run goes on.
 ///
 /// Returns `LiveFault::Unsettled` if the run was not settled; its report is written all the same. Every other error but
 /// `LiveFault::Write` comes before anything is written to `output`.
@@ -39,7 +41,7 @@ pub fn run_studio_live<
     R: Threads + Wait + Sync + Net + Clock + RandomSource,
     W: Write,
     E: Write + Send + Drop,
-    P: CreateRecord,
+    P: CreateRecord + CreateLiveWav,
 >(
     rt: &R,
     alloc: Global,
@@ -49,6 +51,7 @@ pub fn run_studio_live<
     output: &mut W,
     faults: E,
     record: Option<&P>,
+    wav: Option<&P>,
 ) -> Result<(), LiveFault>
     ensures ok { OnOk result
         (WritesRun options.now.one_thread studio.now true (W.contents output.old) (W.contents output.new)) }
@@ -57,7 +60,7 @@ pub fn run_studio_live<
 {
     // Allocated before the run, so that no run is left without memory for its report.
     let mut text = TextBuffer::new(alloc)?;
-    let report = launch_run(rt, alloc, studio, inputs, options, faults, record)?;
+    let report = launch_run(rt, alloc, studio, inputs, options, faults, record, wav)?;
     write_report(&mut text, output, &report)?;
     text.finish(output)?;
     if !report.settled {

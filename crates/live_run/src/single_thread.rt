@@ -71,6 +71,7 @@ pub(crate) fn run_in_one_thread<
         status,
         flags,
         health,
+        tap,
         shown,
     } = context;
     let RecordOutput { record, recorded } = recording;
@@ -88,7 +89,7 @@ pub(crate) fn run_in_one_thread<
     let watch = PathWatch::new(studio, health, status.publisher.is_some());
     let (record, writer) = ends_of(record);
     let observer = LiveObserver::new(alloc, studio, record, status, shown)?;
-    let io = prepare_engine_io(rt, alloc, studio, sockets, period, feed_flags, meter)?;
+    let io = prepare_engine_io(rt, alloc, studio, sockets, tap, period, feed_flags, meter)?;
     let run = SupervisedRun {
         io,
         observer,

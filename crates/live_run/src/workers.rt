@@ -50,6 +50,7 @@ pub(crate) fn run_in_workers<'a, R: Threads + Wait + Sync + Clock, E: Write + Se
         status,
         flags,
         health,
+        tap,
         shown,
     } = context;
     // Without a status there are no rings for statistics, and the workers send none.
@@ -62,7 +63,7 @@ pub(crate) fn run_in_workers<'a, R: Threads + Wait + Sync + Clock, E: Write + Se
         ready: &[],
         health: health.paths(),
     };
-    let workers = prepare_workers(rt, alloc, ends, sockets, period, feed_flags)?;
+    let workers = prepare_workers(rt, alloc, ends, sockets, tap, period, feed_flags)?;
     let task = worker_status_task(rt, alloc, receivers, period, status.publisher, shown)?;
     let watch = PathWatch::new(studio, health, is_shown);
     let supervisor = Supervisor {

@@ -7,6 +7,7 @@ use std::alloc::{AllocError, AllocFailed};
 use std::io::Write;
 use studio_config::SpecError;
 use thiserror::Error;
+use wav_file::WavEnd;
 
 /// The fault that ended the program. Its `Display` is the fault's line.
 #[derive(Debug, Drop, Error)]
@@ -35,6 +36,12 @@ pub(crate) enum ProgramFault {
     /// A live run's report was written, but its record ended before the run, for this reason.
     #[error("device: record {0}")]
     RecordEnded(RecordEnd),
+    /// `--record` and `--wav` are one file.
+    #[error("usage: --record and --wav are one file")]
+    SameFile,
+    /// A live run's report was written, but its WAV file ended before the run, for this reason.
+    #[error("device: wav {0}")]
+    WavEnded(WavEnd),
     /// A live run's report was written, but a path ended before the run did, since its socket failed again and again.
     #[error("live: path ended")]
     PathEnded,
@@ -45,12 +52,13 @@ impl ProgramFault {
     /// device failed, and else the status of the command.
     pub(crate) fn status(&self) -> u8 {
         match self {
-            ProgramFault::Usage | ProgramFault::TaiOffset => 2,
+            ProgramFault::Usage | ProgramFault::TaiOffset | ProgramFault::SameFile => 2,
             ProgramFault::Command(fault) => fault.status(),
             ProgramFault::Live(LiveFault::Memory) => 4,
             ProgramFault::Inherited(InheritedSocketFault::Memory) => 4,
             ProgramFault::Live(_) | ProgramFault::Inherited(_) | ProgramFault::Clock => 5,
-            ProgramFault::Socket(_) | ProgramFault::RecordEnded(_) | ProgramFault::PathEnded => 5,
+            ProgramFault::RecordEnded(_) | ProgramFault::WavEnded(_) => 5,
+            ProgramFault::Socket(_) | ProgramFault::PathEnded => 5,
         }
     }
 

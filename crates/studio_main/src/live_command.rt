@@ -1,13 +1,14 @@
 //! The command `live`: a live run, from a configuration to its report and the lines after it.
 use crate::fault::ProgramFault;
+use crate::run_files::{RunFiles, files_of};
 use command_line::LiveArgs;
 use file_commands::{CommandFault, Host, output_result, parse_studio, table_in};
+use live_audio::AudioResult;
 use live_io::{
     InheritedSockets, LivePorts, RecordResult, RunHealth, SocketConfig, TaiOffset, TaiTime,
     UnexpectedSources, tai_now, unopened_socket,
 };
 use live_run::{LiveFault, LiveInputs, StreamName, run_studio_live};
-use pcap_file::{CreateRecord, RecordFault};
 use rtp_stream::Path;
 use std::alloc::{AllocError, Global};
 use std::io::Write;
@@ -32,7 +33,7 @@ struct OpenedStudio {
 
 /// Runs the studio of a configuration's octets over sockets, and writes its report to `output`. If counts are asked for
 /// while it runs, they go to `faults`. Files are the host's. Returns the first fault: of the configuration, of the
-/// offset or the time of `--clock`, of a missing port or an inherited socket, of the record's file, or of the run.
+/// offset or the time of `--clock`, of a missing port or an inherited socket, of the run's files, or of the run.
 pub(crate) fn run_live<
     R: Threads + Wait + Sync + Net + Clock + RandomSource + Env + AllocGlobal,
     H: Host,
@@ -47,23 +48,24 @@ pub(crate) fn run_live<
 ) -> Result<(), ProgramFault> {
     let opened = open_studio(rt, alloc, parse_studio(alloc, config)?, args.tai_offset)?;
     let loaded = load_inputs(rt, alloc, &opened.studio, config, args.listen_fds)?;
-    // The run creates the record once its sockets are bound. A file that is there already is refused before that.
-    let record = record_at(host, args.record)?;
-    run_loaded::<R, H>(rt, alloc, &opened, &loaded, record, args, output, faults)
+    // The run creates its files once its sockets are bound. A file that is there already is refused before that.
+    let files = files_of(host, args)?;
+    run_loaded::<R, H>(rt, alloc, &opened, &loaded, files, args, output, faults)
 }
 
-/// Runs a studio with its inputs, and a record if there is a file for it. Writes the report and the lines after it.
+/// Runs a studio with its inputs, and with the files that are asked for. Writes the report and the lines after it.
 fn run_loaded<R: Threads + Wait + Sync + Net + Clock + RandomSource + Env + AllocGlobal, H: Host>(
     rt: &R,
     alloc: Global,
     opened: &OpenedStudio,
     loaded: &LoadedInputs,
-    record: Option<RecordPath<'_, '_, H>>,
+    files: RunFiles<'_, '_, H>,
     args: LiveArgs<'_>,
     output: &mut H::Stdout,
     faults: &mut H::Stderr,
 ) -> Result<(), ProgramFault> {
     let recorded = RecordResult::new();
+    let audio = AudioResult::new();
     let inputs = LiveInputs {
         sockets: SocketConfig {
             ports: &loaded.ports,
@@ -74,6 +76,7 @@ fn run_loaded<R: Threads + Wait + Sync + Net + Clock + RandomSource + Env + Allo
         },
         names: loaded.names.as_slice(),
         recorded: &recorded,
+        audio: &audio,
         began: opened.began,
     };
     let studio = &opened.studio;
@@ -85,7 +88,8 @@ fn run_loaded<R: Threads + Wait + Sync + Net + Clock + RandomSource + Env + Allo
         &args.options,
         output,
         faults,
-        record.as_ref(),
+        files.record.as_ref(),
+        files.wav.as_ref(),
     );
     if args.verbose && matches!(ran, Err(LiveFault::Socket)) {
         return Err(explained(alloc, studio, inputs.sockets)?);
@@ -167,41 +171,18 @@ fn finish<W: Write>(
     if let Some(end) = inputs.recorded.end() {
         return Err(ProgramFault::RecordEnded(end));
     }
+    if let Some(end) = inputs.audio.end() {
+        return Err(ProgramFault::WavEnded(end));
+    }
     if inputs.sockets.health.has_ended_path() {
         return Err(ProgramFault::PathEnded);
     }
     Ok(())
 }
 
-/// A path of the host's files, at which a run creates its record.
-#[derive(Clone, Copy)]
-struct RecordPath<'h, 'p, H> {
-    host: &'h H,
-    path: &'p str,
-}
-
-impl<H: Host> CreateRecord for RecordPath<'_, '_, H> {
-    type File = H::Record;
-
-    fn create(&self) -> Result<H::Record, RecordFault> {
-        self.host.create_record(self.path)
-    }
-}
-
-/// Returns the place of a record, if one is asked for. Returns a fault if something is there.
-fn record_at<'h, 'p, H: Host>(
-    host: &'h H,
-    path: Option<&'p str>,
-) -> Result<Option<RecordPath<'h, 'p, H>>, ProgramFault> {
-    match path {
-        Some(path) if host.has(path) => Err(ProgramFault::Live(LiveFault::RecordExists)),
-        Some(path) => Ok(Some(RecordPath { host, path })),
-        None => Ok(None),
-    }
-}
-
 /// Writes the lines after the report: the opening time, if the run opened by International Atomic Time, the datagrams
-/// from unexpected sources, and the datagrams of the record, if there is one.
+/// from unexpected sources, the datagrams of the record, if there is one, and the blocks of the WAV file, if there is
+/// one.
 fn write_after_report<W: Write>(
     studio: &StudioSpec,
     inputs: LiveInputs<'_>,
@@ -216,6 +197,9 @@ fn write_after_report<W: Write>(
     if args.record.is_some() {
         write_record_line(inputs.recorded, output)?;
     }
+    if args.wav.is_some() {
+        write_wav_line(inputs.audio, output)?;
+    }
     Ok(())
 }
 
@@ -226,6 +210,13 @@ fn write_record_line<W: Write>(
 ) -> Result<(), ProgramFault> {
     let (written, received) = (recorded.written(), recorded.received());
     output_result(writeln!(output, "record {written} of {received}"))?;
+    Ok(())
+}
+
+/// Writes the number of blocks in the WAV file, and of those that were sent.
+fn write_wav_line<W: Write>(audio: &AudioResult, output: &mut W) -> Result<(), ProgramFault> {
+    let (written, sent) = (audio.written(), audio.sent());
+    output_result(writeln!(output, "wav {written} of {sent}"))?;
     Ok(())
 }
 

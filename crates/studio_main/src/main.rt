@@ -2,14 +2,16 @@
 //!
 //! `main` collects the words of the command line. `run` is the whole after that: it parses the words
 //! by `command_line`, runs the command, and returns the exit status. `file_commands` runs a command
-//! over files, and `live_command` the live command. A `ProgramFault` has the line and the exit
-//! status of every fault. `SystemHost` opens files by path. `std_fds` opens the standard descriptors
-//! that are closed, before anything else. `terminal_help` has the help for a start without words.
+//! over files, and `live_command` the live command, whose files are those of `run_files`. A
+//! `ProgramFault` has the line and the exit status of every fault. `SystemHost` opens files by path.
+//! `std_fds` opens the standard descriptors that are closed, before anything else. `terminal_help`
+//! has the help for a start without words.
 #![tactic(auto)]
 
 mod fault;
 mod live_command;
 mod program;
+mod run_files;
 mod std_fds;
 mod terminal_help;
 
@@ -26,7 +28,7 @@ use std::process::ExitCode;
 use std::rt::Env;
 use std::{env, fs, io};
 use studio_run::{ReadFault, read_octets};
-use wav_file::{FileFault, SeekFile};
+use wav_file::{FileFault, LiveWavFault, LiveWavFile, SeekFile, WavEnd};
 
 /// The system as the host of the commands.
 #[derive(Clone, Copy)]
@@ -46,6 +48,8 @@ impl Host for SystemHost<'_> {
     type Target = SeekFile<fs::File>;
 
     type Record = SystemRecord;
+
+    type Audio = SystemAudio;
 
     fn open(&self, path: &str) -> Result<fs::File, ReadFault> {
         match fs::open(self.rt, path) {
@@ -81,6 +85,17 @@ impl Host for SystemHost<'_> {
             }),
             Err(fault) if fault.kind() == ErrorKind::AlreadyExists => Err(RecordFault::Exists),
             Err(_) => Err(RecordFault::NotCreated),
+        }
+    }
+
+    fn create_wav(&self, path: &str) -> Result<SystemAudio, LiveWavFault> {
+        match fs::File::create_new(self.rt, path) {
+            Ok(file) => Ok(SystemAudio {
+                file,
+                faults: self.rt.stderr(),
+            }),
+            Err(fault) if fault.kind() == ErrorKind::AlreadyExists => Err(LiveWavFault::Exists),
+            Err(_) => Err(LiveWavFault::NotCreated),
         }
     }
 
@@ -122,6 +137,50 @@ impl RecordFile for SystemRecord {
             self.faults,
             "device: record {end}, after {datagrams} datagrams"
         );
+    }
+}
+
+/// The WAV file of a live run's mix, which reports its end on standard error.
+#[derive(Drop)]
+struct SystemAudio {
+    file: fs::File,
+    faults: Stderr,
+}
+
+impl Write for SystemAudio {
+    fn write(&mut self, buf: &[u8]) -> io::Result<usize> {
+        self.file.write(buf)
+    }
+
+    fn flush(&mut self) -> io::Result<()> {
+        self.file.flush()
+    }
+}
+
+impl LiveWavFile for SystemAudio {
+    // No contract can say what a device holds.
+    ghost synced = { λ _. Unit {0} };
+
+    fn sync(&mut self) -> io::Result<()> {
+        self.file.sync_data()
+    }
+
+    fn overwrite(&mut self, octets: &[u8]) -> io::Result<()> {
+        self.file.seek(SeekFrom::Start(0))?;
+        self.file.write_all(octets)?;
+        self.file.seek(SeekFrom::End(0))?;
+        Ok(())
+    }
+
+    fn cut(&mut self, len: u64) -> io::Result<()> {
+        self.file.set_len(len)?;
+        self.file.seek(SeekFrom::Start(len))?;
+        Ok(())
+    }
+
+    fn report(&mut self, end: WavEnd, blocks: u64) {
+        // A line that cannot be written is lost, as a fault's line is.
+        let _ = writeln!(self.faults, "device: wav {end}, after {blocks} blocks");
     }
 }
 

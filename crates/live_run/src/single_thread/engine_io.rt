@@ -6,6 +6,7 @@ use crate::fault::LiveFault;
 use crate::single_thread::observer::LiveObserver;
 use crate::single_thread::socket_wait::SocketWait;
 use engine_run::run_engine;
+use live_audio::{AudioTap, TappedSink};
 use live_io::{
     FeedFlags, RecordResult, RunPeriod, Sockets, SystemClock, UdpFeed, UdpSink, udp_feeds,
 };
@@ -22,7 +23,7 @@ use studio_io::{SendAnswer, Sink, WorkReport};
 pub(crate) struct SingleThreadRun<'a, R: Wait + Clock> {
     feeds: Vec<UdpFeed<'a, R>>,
     clock: SystemClock<'a, R>,
-    sink: MeteredSink<'a, UdpSink<'a>>,
+    sink: MeteredSink<'a, TappedSink<'a, UdpSink<'a>>>,
     wait: SocketWait<'a, R>,
 }
 
@@ -54,6 +55,7 @@ pub(crate) fn prepare_engine_io<'a, R: Wait + Clock>(
     alloc: Global,
     studio: &StudioSpec,
     sockets: Sockets<'a>,
+    tap: Option<AudioTap<'a>>,
     period: RunPeriod,
     flags: FeedFlags<'a>,
     meter: Option<&'a Meter>,
@@ -69,7 +71,10 @@ pub(crate) fn prepare_engine_io<'a, R: Wait + Clock>(
     Ok(SingleThreadRun {
         feeds,
         clock: period.clock(rt),
-        sink: MeteredSink { sink, meter },
+        sink: MeteredSink {
+            sink: TappedSink::new(sink, tap),
+            meter,
+        },
         wait,
     })
 }

@@ -4,6 +4,7 @@ ghost use Rattle.studio_rings.specs.StreamResults.{AreOpenedTogether};
 ghost use Rattle.live_run.specs.RunResult.{IsEarly, IsRunOf};
 
 use crate::fault::LiveFault;
+use live_audio::{AudioTap, TappedSink};
 use live_io::{FeedFlags, RunPeriod, Sockets, SystemClock, UdpFeed, UdpSink, udp_feeds};
 use std::alloc::{AllocError, Global};
 use std::sync::Wait;
@@ -19,16 +20,18 @@ pub(crate) struct WorkerRun<'a, R: Clock> {
     pub(crate) ends: Ends,
     pub(crate) feeds: Vec<UdpFeed<'a, R>>,
     pub(crate) clocks: Vec<SystemClock<'a, R>>,
-    sink: UdpSink<'a>,
+    sink: TappedSink<'a, UdpSink<'a>>,
 }
 
-/// Returns the parts of the workers on these rings and sockets: a feed for each path and a clock for each stream.
+/// Returns the parts of the workers on these rings and sockets: a feed for each path, a clock for each stream, and the
+/// sink with its tap.
 /// Returns `AllocError` if an allocation fails.
 pub(crate) fn prepare_workers<'a, R: Clock>(
     rt: &'a R,
     alloc: Global,
     ends: Ends,
     sockets: Sockets<'a>,
+    tap: Option<AudioTap<'a>>,
     period: RunPeriod,
     flags: FeedFlags<'a>,
 ) -> Result<WorkerRun<'a, R>, AllocError>
@@ -43,7 +46,7 @@ pub(crate) fn prepare_workers<'a, R: Clock>(
         ends,
         feeds,
         clocks,
-        sink,
+        sink: TappedSink::new(sink, tap),
     })
 }
 
