@@ -104,7 +104,8 @@ def error_lines():
     """What each fault's line begins with."""
     for name in ERRORS:
         for text in re.findall(r'#\[error\("([^"]+)"\)\]', (SOURCES / name).read_text()):
-            begin = text.partition("{")[0].strip()
+            # A line that explains the fault may follow.
+            begin = text.partition("{")[0].partition("\\n")[0].strip()
             if begin:
                 yield begin
 

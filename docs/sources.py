@@ -253,6 +253,7 @@ CASE_PLACES = {
     "Workers": [f"{WORKERS}/tests/{name}.rt" for name in ("workers", "holding", "memory")],
     "One thread": [f"{WORKERS}/tests/alone.rt"],
     "Records and statistics": [f"{RECEPTION}/{name}.rt" for name in ("record_tests/octets", "record_tests/marks", "tally_tests", "drift_tests")],
+    "Sockets and the clock": [f"{RECEPTION}/socket_tests.rt"],
     "The page": [f"{WORKERS}/page_tests/{name}.rt" for name in ("texts", "requests", "sockets")],
     "Captures and live runs": ["tests/captures", "tests/loopback", "tests/networks", "tests/page", "tests/senders"],
 }

@@ -47,8 +47,8 @@ impl RunHealth {
         &self.sends
     }
 
-    /// Notes that a socket could not be opened, and returns the fault. The index is that of a path, ordered by stream and
-    /// then by path, or of a copy of the mix behind them.
+    /// Notes that a socket could not be opened, and returns the fault. The index is that of a path, ordered by stream
+    /// and then by path, or of a copy of the mix behind them.
     pub(crate) fn note_unopened(&self, index: usize, fault: io::Error) -> io::Error {
         let code = fault.raw_os_error().unwrap_or(0);
         let place = (index as u64).saturating_add(1).min(u64::from(u32::MAX));
