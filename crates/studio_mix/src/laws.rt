@@ -1,9 +1,9 @@
 //! Laws of blocks. Nothing is computed here: the clauses are the laws.
-ghost use Rattle.std.specs.Prelude.{◌≡◌, ℕ, ℤ, ◌+◌, ◌<◌, ◌≤ℤ◌, List, true};
+ghost use Rattle.std.specs.Prelude.{◌≡◌, ℕ, ℤ, ◌+◌, ◌<◌, ◌≤ℤ◌, List, [], ◌∷◌, ◌++◌, true};
 ghost use Rattle.mix_packets.specs.Block.{block_start};
 ghost use Rattle.mix_packets.specs.declared.out_spec.Output.{Output};
 ghost use Rattle.studio_config.specs.Studio.{Studio};
-ghost use Rattle.studio_mix.specs.Changed.{with_gains};
+ghost use Rattle.studio_mix.specs.Changed.{with_changes, with_gains};
 ghost use Rattle.studio_mix.specs.Feed.{AreLonger, Feed};
 ghost use Rattle.studio_mix.specs.Output.{datagram_of};
 ghost use Rattle.studio_mix.specs.Ready.{are_covered, is_ready};
@@ -31,4 +31,11 @@ pub fn later_changes_change_no_block()
     ensures saturated { (studio : Studio) (feeds : List Feed) (number : ℕ) (counts : List ℕ) (at : ℤ) (gains : List ℤ)
         → block_start studio.output number ≤ℤ at → AreSaturated studio feeds number counts
         → AreSaturated (with_gains studio at gains) feeds number counts }
+{}
+
+/// States that changes of gains that are taken one after another lead to the studio that has them all.
+pub fn changes_follow_one_another()
+    ensures none { (studio : Studio) → with_changes studio [] ≡ studio }
+    ensures more { (studio : Studio) (changes : List (ℤ × List ℤ)) (at : ℤ) (gains : List ℤ)
+        → with_gains (with_changes studio changes) at gains ≡ with_changes studio (changes ++ (at, gains) ∷ []) }
 {}

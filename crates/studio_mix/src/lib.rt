@@ -20,5 +20,5 @@ mod lanes;
 mod laws;
 mod mixer;
 
-pub use laws::ready_blocks_stay;
+pub use laws::{changes_follow_one_another, later_changes_change_no_block, ready_blocks_stay};
 pub use mixer::Mixer;
