@@ -8,22 +8,23 @@
  *     uint8_t text[256], out[DARBEXUM_MAX_OCTETS];
  *     if (darbexum_open(&engine, config, config_len, text, sizeof text))
  *         return fail((const char *)text);
+ *     ptrdiff_t n;
  *     for (;;) {
- *         darbexum_arrive(&engine, stream, path, octets, len);       // each datagram that came in
  *         int64_t now = clock_reading();                             // in sampling instants
- *         ptrdiff_t n;
  *         while ((n = darbexum_turn(&engine, now, out, sizeof out)) > 0)
  *             send_datagram(out, (size_t)n);
+ *         darbexum_arrive(&engine, stream, path, octets, len);       // each datagram that came in
  *     }
  *     darbexum_close(&engine);
  *     while ((n = darbexum_drain(&engine, out, sizeof out)) > 0)
  *         send_datagram(out, (size_t)n);
  *     darbexum_free(&engine);
  *
- * Order of calls. `darbexum_open`; then `darbexum_arrive` for each datagram, and `darbexum_turn` at each clock reading,
- * again with the same reading until it returns 0. Between a turn that returned a datagram and the 0, no datagram is
- * taken (DARBEXUM_UNFINISHED). At the end `darbexum_close`, `darbexum_drain` until it returns 0, and `darbexum_free`.
- * Calls in another order return a code, and are never undefined.
+ * Order of calls. `darbexum_open`; then `darbexum_turn` at each clock reading, again with the same reading until it
+ * returns 0, and `darbexum_arrive` for each datagram. A datagram is judged at the last reading before it, so the reading
+ * comes first: otherwise a first packet would have the time of the opening. Between a turn that returned a datagram and
+ * the 0, no datagram is taken (DARBEXUM_UNFINISHED). At the end `darbexum_close`, `darbexum_drain` until it returns 0,
+ * and `darbexum_free`. Calls in another order return a code, and are never undefined.
  *
  * Units. Times and clock readings are in sampling instants of 48 kHz, from 0 to 2^60, on the clock of the
  * configuration's `open_at`. Lengths and sizes are in octets. Streams, paths and channels are counted from 0.

@@ -1,8 +1,8 @@
 // darbexum.hpp - an engine of libdarbexum with an owner, for C++20. Include it after `-I` of darbexum.h, link with -ldarbexum.
 //
 //     Darbexum::Engine engine(config);               // throws Darbexum::Error
-//     engine.arrive(0, 1, octets);
 //     engine.turn(now, [&](std::span<const std::uint8_t> datagram) { send(datagram); });
+//     engine.arrive(0, 1, octets);                   // judged at the reading before
 //     engine.close([&](auto datagram) { send(datagram); });
 //
 // An Engine can be moved, not copied. One thread at a time may call it. What darbexum.h says of units and of the order of

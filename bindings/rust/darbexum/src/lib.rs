@@ -4,11 +4,12 @@
 //! # fn send(_: &[u8]) {}
 //! # let (config, stream, path, octets, now) = (b"", 0, 0, [0u8; 30], 0);
 //! let mut engine = darbexum::Engine::new(config)?;
-//! engine.arrive(stream, path, &octets)?;
 //! let mut turn = engine.turn(now);
 //! while let Some(datagram) = turn.next()? {
 //!     send(datagram);
 //! }
+//! // Judged at the reading before, so the turn comes first.
+//! engine.arrive(stream, path, &octets)?;
 //! let mut rest = engine.close()?;
 //! while let Some(datagram) = rest.next()? {
 //!     send(datagram);
