@@ -201,10 +201,9 @@ int32_t darbexum_next_deadline(darbexum *handle, int64_t *reading);
 /* Writes the last clock reading that was taken, or the opening time. Returns 0 or NO_ENGINE. */
 int32_t darbexum_time(darbexum *handle, int64_t *time);
 
-/* Changes the gains: from `at` on, in sampling instants of the media clock, these are in force, in place of all that was
- * to change from then on. They are in units of 1/65,536 (65,536 is a gain of 1), row by row: a row for each output
- * channel, with a gain in it for each channel of each stream. No datagram that was returned changes, and no memory is
- * taken. May be called at any time, between two datagrams of a turn too. Returns 0, NO_ENGINE, or the first of
+/* Changes the gains from the media time `at` on, in sampling instants. The change replaces all changes that were planned
+ * from that time on. Gains are in units of 1/65,536 (65,536 is a gain of 1), row by row: a row for each output channel,
+ * with a gain in it for each channel of each stream. No datagram that was returned changes, and nothing is allocated. May be called at any time, between two datagrams of a turn too. Returns 0, NO_ENGINE, or the first of
  * BAD_SHAPE, BAD_GAIN, BAD_TIME and TOO_MANY. */
 int32_t darbexum_change_gains(darbexum *handle, int64_t at, const int32_t *gains, size_t len);
 

@@ -37,7 +37,7 @@ def main():
     assert outcomes == [darbexum.Outcome.DOUBLE]
     refused(lambda: engine.arrive(1, 0, PACKET), -3)
     refused(lambda: engine.arrive(0, 2, PACKET), -4)
-    # From the third instant on twice as loud; then as it was, in place of that.
+    # Twice as loud from the third sampling instant on; then a change that replaces it, to the gain before.
     assert engine.change_gains([[131072]], 2) == 2 and engine.change_gains([[65536]]) == 0
     refused(lambda: engine.change_gains([[1, 2]]), -14)
     refused(lambda: engine.change_gains([[1048577]]), -15)
