@@ -20,7 +20,7 @@ abbrev pub before : ℤ → List (ℤ × List (List ℤ)) → List (ℤ × List 
 before at [] = []
 before at (change ∷ later) = if int_lt change.0 at then change ∷ before at later else before at later
 
--- one change more: from its time on its matrix is in force, in place of all that was to change from then on
+-- one change more: from its time on its matrix is in force, and it replaces every change that was planned from then on
 abbrev pub with_change : Changes → ℤ → List (List ℤ) → Changes
 with_change changes at rows = record changes { later = before at changes.later ++ (at, rows) ∷ [] }
 

@@ -124,8 +124,8 @@ impl LiveSchedule {
         self.first.ins()
     }
 
-    /// Takes a change: from `at` on these gains are in force, row by row, in place of all that was to change from
-    /// then on. No time before `from`, from which the schedule is in use, may change.
+    /// Takes a change: from `at` on these gains are in force, row by row. They replace every change that was planned
+    /// from then on. No time before `from`, from which the schedule is in use, may change.
     pub fn change(&mut self, from: i64, at: i64, gains: &[i32]) -> Result<(), ChangeFault>
         ensures taken { OnOk result (self.new ≡ rest_at (with_change self.old at
             (rows_of (ins_of self.old.first) (length self.old.first) gains.now)) from) }

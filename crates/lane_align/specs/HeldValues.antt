@@ -1,4 +1,4 @@
--- What a lane holds from its position on.
+-- The values that a lane holds from its position on.
 use Rattle.std.specs.Prelude.{◌≡◌, ℕ, ◌+◌, ◌*◌, ◌^◌, ◌<◌, ◌≤◌, List, ◌++◌, length, take, drop, replicate, ℤ, pos}
 
 -- values side by side, frame by frame; `room` is how many may be stored

@@ -1,4 +1,4 @@
--- What an output's specification says, and what is true of every one.
+-- The parts of an output's specification, and the facts of every one.
 use Rattle.std.specs.Prelude.{◌≡◌, ℕ, ◌+◌, ◌*◌, ◌^◌, ◌<◌, ◌≤◌, pos, ◌≤ℤ◌, true, not, ◌&&◌, nat_lt, nat_le, ℤ, int_le, Bool, Option, Some, None, if◌then◌else◌}
 use Rattle.rtp_wire.specs.declared.encoding.Enc.{Enc}
 use Rattle.rtp_wire.specs.declared.encoding.Enc.TheVariants.{L16, L24}

@@ -1,4 +1,4 @@
--- What contracts see of a packer, and what is true of every one.
+-- The state of a packer that contracts see, and the facts of every one.
 use Rattle.std.specs.Prelude.{◌≡◌, ℕ}
 use Rattle.mix_packets.specs.declared.out_spec.Output.{Output}
 use Rattle.mix_packets.specs.OutSpec.{IsOutput}

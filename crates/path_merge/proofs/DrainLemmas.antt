@@ -1,4 +1,4 @@
--- What is left after a close, and what a drain takes of it.
+-- The marks that are left after a close, and the one that a drain takes of them.
 use Rattle.path_merge.proofs.EpochLemmas.{deaf_anchor, deaf_copies, deaf_copies_all}
 use Rattle.path_merge.proofs.HistoryLemmas.{copies_of-with, anchor_of-close, by_last_event, copies_of-close, events_until_close-close, events_until_close-closed, is_closed-append, marks_in, marks_in-push, marks_of-in, time_of-append}
 use Rattle.path_merge.proofs.AnewLemmas.{itself_eq}

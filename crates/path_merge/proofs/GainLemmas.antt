@@ -1,4 +1,4 @@
--- What each event adds to the slots.
+-- The slots that each event adds.
 use Rattle.std.proofs.Common.{◌≡◌, ℕ, ◌+◌, ◌-◌, false, List, [], ◌∷◌, ◌++◌, length, Option, Some, None, ℤ, refl, ap, ◌∙◌, arith, append-nil}
 use Rattle.std.specs.Prelude.{cond, count_by}
 use Rattle.path_merge.proofs.CloseLemmas.{marks_of-close}

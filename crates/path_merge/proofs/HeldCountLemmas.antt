@@ -1,4 +1,4 @@
--- How many packets are held, and what a slot changes of the counts.
+-- The number of packets that are held, and the counts that a slot changes.
 use Rattle.std.proofs.Common.{◌≡◌, ℕ, zero, suc, ◌+◌, ◌<◌, ◌≤◌, Bool, true, false, Option, Some, None, IsSome, refl, sym, ap, subst, ◌∙◌, arith, if◌then◌else◌}
 use Rattle.std.specs.Prelude.{nat_eq, is_some}
 use Rattle.std.specs.FinMap.{get, FinMap}

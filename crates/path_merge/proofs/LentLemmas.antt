@@ -1,4 +1,4 @@
--- What a merge lends for a reading is due by it.
+-- A mark to which a merge returns a reference for a reading is due by it.
 use Rattle.std.proofs.Common.{◌≡◌, ℕ, ◌+◌, ◌<◌, Bool, true, false, ◌&&◌, List, [], ◌∷◌, take, Option, Some, None, ℤ, pos, ◌-ℤ◌, ◌≤ℤ◌, All, refl, sym, ap, subst, ◌∙◌, arith, if◌then◌else◌}
 use Rattle.std.specs.Prelude.{int_lt, nat_eq}
 use Rattle.std.proofs.lemmas.Int.{ints}

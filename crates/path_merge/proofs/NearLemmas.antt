@@ -1,4 +1,4 @@
--- Where every number that was sent lies within half a cycle, the received history has one epoch.
+-- If every number that was sent lies within half a cycle, the received history has one epoch.
 use Rattle.std.proofs.Common.{◌≡◌, ℕ, ◌<◌, ◌≤◌, Bool, true, false, ◌&&◌, ◌||◌, List, [], ◌∷◌, ◌++◌, length, Some, ℤ, refl, sym, ap, subst, ◌∙◌, arith, append-nil, append_assoc, if◌then◌else◌}
 use Rattle.path_merge.proofs.EpochLemmas.{WithinLength, heard_of-push, no_anchors, place_within}
 use Rattle.path_merge.proofs.HistoryLemmas.{anchors_of-push, arrival_count-append, time_of-append}

@@ -1,4 +1,4 @@
--- What a ring of slots holds, and what a put, a take and a move leave of it.
+-- The packets that a ring of slots holds, and those that a put, a take and a move leave of it.
 use Rattle.rtp_stream.specs.Grid.{first_with}
 use Rattle.std.proofs.Common.{◌≡◌, ℕ, zero, suc, ◌+◌, ◌-◌, ◌*◌, ◌^◌, ◌<◌, ◌≤◌, max, Bool, true, false, ◌&&◌, List, ◌++◌, length, replicate, if◌then◌else◌, Option, Some, None, IsSome, refl, sym, ap, subst, ◌∙◌, arith}
 use Rattle.std.specs.Prelude.{nat_eq, nat_lt, nat_le, slice_index_or, slice_set}

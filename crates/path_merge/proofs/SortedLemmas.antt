@@ -1,4 +1,4 @@
--- What is found in a list of numbered packets, and what an edit of it leaves.
+-- The packets that are found in a numbered list, and those that an edit of it leaves.
 use Rattle.rtp_stream.specs.Grid.{first_with}
 use Rattle.std.proofs.Common.{◌≡◌, ℕ, zero, suc, ◌+◌, ◌<◌, ◌≤◌, List, [], ◌∷◌, ◌++◌, length, take, drop, get_or, if◌then◌else◌, Some, None, IsSome, refl, ap, subst, ◌∙◌, arith}
 use Rattle.std.specs.Prelude.{nat_eq, true, false, insert}

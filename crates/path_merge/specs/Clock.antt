@@ -1,4 +1,4 @@
--- Which readings of the clock are refused.
+-- The readings of the clock that are refused.
 use Rattle.std.specs.Prelude.{ℤ, pos, ◌^◌, Bool, int_lt, Option, Some, None, if◌then◌else◌}
 use Rattle.path_merge.specs.declared.clock.ClockFault.{ClockFault}
 use Rattle.path_merge.specs.declared.clock.ClockFault.TheVariants.{WentBack, TooFar, Closed}

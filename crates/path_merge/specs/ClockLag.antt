@@ -1,4 +1,4 @@
--- How the marks of an open history keep up with the clock.
+-- The distance at which the marks of an open history keep up with the clock.
 use Rattle.std.specs.Prelude.{ℕ, ◌+◌, ◌*◌, ℤ, pos, ◌+ℤ◌, ◌-ℤ◌, ◌≤ℤ◌, ◌<ℤ◌, List, Option, Some, None, All}
 use Rattle.rtp_stream.specs.declared.stream_spec.Stream.{Stream}
 use Rattle.rtp_stream.specs.declared.mark.MarkKind.{MarkKind}

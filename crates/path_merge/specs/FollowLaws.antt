@@ -1,4 +1,4 @@
--- What the clock `Follow` leaves as it is by the clock `Arrival`.
+-- The fates and marks that are by the clock `Follow` as they are by the clock `Arrival`.
 use Rattle.std.specs.Prelude.{◌≡◌, ℕ, false, List, [], ◌∷◌, ◌++◌, ℤ, Option, Some, None}
 use Rattle.rtp_stream.specs.declared.stream_spec.Stream.{Stream}
 use Rattle.rtp_stream.specs.declared.stream_spec.StreamClock.{StreamClock}

@@ -1,4 +1,4 @@
--- What is heard over epochs: nothing twice, as long as the sender's numbers go on.
+-- The numbers that are heard over epochs: none twice, as long as the sender's numbers go on.
 use Rattle.std.specs.Prelude.{◌≡◌, ℕ, ◌-◌, ◌<◌, Bool, true, ◌&&◌, nat_eq, List, [], ◌∷◌, ◌++◌, take, ℤ, pos, ◌+ℤ◌, ◌-ℤ◌, ◌≤ℤ◌, Option, Some, None, if◌then◌else◌, unsigned_abs}
 use Rattle.rtp_stream.specs.Nearest.{nearest_number}
 use Rattle.rtp_stream.specs.declared.stream_spec.Stream.{Stream}

@@ -1,4 +1,4 @@
--- What a merge has to be after a history, with some of its marks handed on.
+-- The state of a merge after a history, with some of its marks handed on.
 use Rattle.std.specs.Prelude.{◌≡◌, ℕ, ◌+◌, ◌≤◌, ◌<◌, nat_lt, Bool, true, false, nat_eq, List, [], ◌∷◌, take, length, ℤ, pos, ◌-ℤ◌, Option, Some, None, if◌then◌else◌}
 use Rattle.std.specs.FinMap.{get}
 use Rattle.rtp_stream.specs.declared.stream_spec.Stream.{Stream}

@@ -1,4 +1,4 @@
--- What contracts see of a merge, and what is true of every one.
+-- The state of a merge that contracts see, and the facts of every one.
 use Rattle.std.specs.Prelude.{◌≡◌, ℕ, zero, suc, ◌+◌, ◌^◌, ◌<◌, ◌≤◌, Bool, false, List, ℤ, pos, ◌+ℤ◌, ◌≤ℤ◌, neg_ℤ, Option, Some, None, IsSome, is_some, nat_eq, if◌then◌else◌}
 use Rattle.std.specs.Ordering.{nat_cmp}
 use Rattle.std.specs.FinMap.{FinMap, get}

@@ -1,4 +1,4 @@
--- What each call of a merge does to it.
+-- The change that each call of a merge makes to it.
 use Rattle.std.specs.Prelude.{◌≡◌, ℕ, ◌+◌, ◌-◌, Bool, true, false, ◌&&◌, ◌||◌, nat_eq, List, [], ◌∷◌, ◌++◌, length, ℤ, pos, ◌-ℤ◌, ◌≤ℤ◌, ◌<ℤ◌, int_lt, int_le, Option, Some, None, Result, IsSome, is_some, take, drop, ◌≤◌, if◌then◌else◌, option_to_list}
 use Rattle.std.specs.FinMap.{get}
 use Rattle.std.specs.Option.{option_map}

@@ -80,11 +80,10 @@ ghost use Rattle.rtp_stream.specs.Laws.{
   slots_reached,
 };
 
-/// The slots, by epoch and number, are exactly the spans of the epochs one after the other, rising, each
-/// once: each with the media time of its number under its epoch's anchor, and with the payload of the
-/// earliest copy that came in time in that epoch, on whichever path, or as lost.
-/// A slot is given by the first reading that reaches its deadline, or else by the close; and each one
-/// given is counted once, as got or as lost.
+/// States that the slots, by epoch and number, are exactly the spans of the epochs one after the other, rising, each
+/// once: each with the media time of its number under its epoch's anchor, and with the payload of the earliest copy
+/// that came in time in that epoch, on whichever path, or as lost. A slot is given by the first reading that reaches
+/// its deadline, or else by the close; and each one given is counted once, as got or as lost.
 pub fn each_number_is_handed_on_once()
     ensures spans { (stream : Stream) (open_at : ℤ) (events : List Event) →
         0 < stream.frames → is_well_timed open_at events ≡ true → HasSpans stream open_at events }
@@ -102,8 +101,7 @@ pub fn each_number_is_handed_on_once()
         ≡ length (slot_names given) }
 {}
 
-/// The number due next is the least, from the anchor's on, whose deadline is still to come; it never
-/// falls.
+/// States that the number due next is the least, from the anchor's on, whose deadline is still to come; it never falls.
 pub fn next_number_is_the_least_due()
     ensures least { (stream : Stream) (anchor : Anchor) (time : ℤ) →
         0 < stream.frames → IsLeastDue stream anchor time }
@@ -111,8 +109,8 @@ pub fn next_number_is_the_least_due()
         next_number stream anchor from ≤ next_number stream anchor to }
 {}
 
-/// A clock reading at a deadline on the way to u, followed by the reading u, has the effect of the reading u alone. A
-/// reading of the current time changes nothing.
+/// States that a clock reading at a deadline on the way to u, followed by the reading u, has the effect of the reading
+/// u alone. A reading of the current time changes nothing.
 pub fn ticks_may_be_split()
     ensures split { (stream : Stream) (open_at : ℤ) (events : List Event) (anchor : Anchor) (n : ℕ) (u : ℤ) →
         0 < stream.frames → IsOpen open_at events → IsDeadlineOnTheWay stream open_at events anchor n u →
@@ -123,7 +121,7 @@ pub fn ticks_may_be_split()
         IsAlike stream open_at (events ++ Tick (time_of open_at events) ∷ []) events }
 {}
 
-/// An arrival adds no mark and changes none, also one that opens an epoch; and no later event changes a
+/// States that an arrival adds no mark and changes none, also one that opens an epoch; and no later event changes a
 /// mark that was given.
 pub fn arrivals_change_no_mark()
     ensures arrival { (stream : Stream) (open_at : ℤ) (events : List Event) (path : ℕ) (packet : Packet) →
@@ -135,8 +133,8 @@ pub fn arrivals_change_no_mark()
         ≡ marks_of stream open_at events }
 {}
 
-/// The marks of every history, and each prefix of them, are a mark list. Media time never goes back in one, also if
-/// an epoch opens.
+/// States that the marks of every history, and each prefix of them, are a mark list. Media time never goes back in one,
+/// also if an epoch opens.
 pub fn marks_are_a_mark_list()
     ensures whole { (stream : Stream) (open_at : ℤ) (events : List Event) →
         0 < stream.frames → is_well_timed open_at events ≡ true →
@@ -149,9 +147,9 @@ pub fn marks_are_a_mark_list()
         AreInOrder stream.frames (slot_times (marks_of stream open_at events)) }
 {}
 
-/// The marks of an open history keep up with the clock: every mark's deadline came after the opening time and
-/// not after the last reading; and once a reading is past the opening time, the last mark ends at most the
-/// latency and a window of packets before it. A mark that a merge returns for a reading in order is due by that.
+/// States that the marks of an open history keep up with the clock: every mark's deadline came after the opening time
+/// and not after the last reading; and once a reading is past the opening time, the last mark ends at most the latency
+/// and a window of packets before it. A mark that a merge returns for a reading in order is due by that.
 pub fn marks_keep_up_with_the_clock()
     ensures history { (stream : Stream) (open_at : ℤ) (events : List Event) → 0 < stream.frames
         → IsOpen open_at events →
@@ -163,7 +161,7 @@ pub fn marks_keep_up_with_the_clock()
         next_mark merge now ≡ Some mark → IsDue stream open_at now mark.kind }
 {}
 
-/// No event after a close adds a mark: the last mark is the end.
+/// States that no event after a close adds a mark: the last mark is the end.
 pub fn nothing_follows_a_close()
     ensures same { (stream : Stream) (open_at : ℤ) (events more : List Event) → is_closed events ≡ true →
         marks_of stream open_at (events ++ more) ≡ marks_of stream open_at events }
@@ -171,8 +169,8 @@ pub fn nothing_follows_a_close()
         last_of (marks_of stream open_at events) ≡ Some (end_mark stream) }
 {}
 
-/// An open merge has produced all marks of its history. A merge that has one of two histories that are alike has the
-/// other.
+/// States that an open merge has produced all marks of its history. A merge that has one of two histories that are
+/// alike has the other.
 pub fn merges_stand_at_their_histories()
     ensures all_given { (stream : Stream) (open_at : ℤ) (merge : MergeState) (events : List Event) (k : ℕ) →
         HasHistory stream open_at merge events k → is_closed events ≡ false →
@@ -182,8 +180,8 @@ pub fn merges_stand_at_their_histories()
         HasHistory stream open_at merge others k }
 {}
 
-/// A number of any sign is known by its low 16 bits and its timestamp, among those that are less than
-/// 1,024 cycles of sequence numbers away: another one with the same low bits is off its grid.
+/// States that a number of any sign is known by its low 16 bits and its timestamp, among those that are less than 1,024
+/// cycles of sequence numbers away: another one with the same low bits is off its grid.
 pub fn aliases_are_off_grid()
     ensures known { (stream : Stream) (anchor : Anchor) (m n : ℤ) →
         IsStream stream → int_rem_euclid m (pos 65536) ≡ int_rem_euclid n (pos 65536) →
@@ -195,10 +193,10 @@ pub fn aliases_are_off_grid()
         is_on_grid stream anchor m (timestamp_in_step stream anchor n) ≡ false }
 {}
 
-/// The marks are those of the full numbers, as sent, if the received history has one epoch and each number lies from
-/// 2^25 below the one due next to just below 2^25 above it. Full numbers are whole numbers of any sign. If all
-/// packets of a number have one payload, its first copy has it. The clock `Follow` takes a packet that is in time for
-/// too early while the stream is emptying, so it is left out.
+/// States that the marks are those of the full numbers, as sent, if the received history has one epoch and each number
+/// lies from 2^25 below the one due next to just below 2^25 above it. Full numbers are whole numbers of any sign. If
+/// all packets of a number have one payload, its first copy has it. The clock `Follow` takes a packet that is in time
+/// for too early while the stream is emptying, so it is left out.
 pub fn sent_numbers_are_recovered()
     ensures marks { (stream : Stream) (anchor : Anchor) (open_at : ℤ) (sent : List SentEvent) →
         IsStream stream → is_following stream.clock ≡ false → BeginsWith stream anchor open_at sent
@@ -214,9 +212,9 @@ pub fn sent_numbers_are_recovered()
         (λ packet. packet.payload.items ≡ payload) }
 {}
 
-/// Packets are copies of the numbers that they were sent as, in every epoch, whatever came before. That holds until
-/// another epoch opens, if the packets are under the epoch's anchor and their numbers lie from 2^25 below the one due
-/// next to just below 2^25 above it, by a clock other than `Follow`.
+/// States that packets are copies of the numbers that they were sent as, in every epoch, whatever came before. That
+/// holds until another epoch opens, if the packets are under the epoch's anchor and their numbers lie from 2^25 below
+/// the one due next to just below 2^25 above it, by a clock other than `Follow`.
 pub fn each_epoch_recovers_its_numbers()
     ensures { (stream : Stream) (anchor : Anchor) (open_at : ℤ) (before : List Event) (sent : List SentEvent) →
         IsStream stream → is_following stream.clock ≡ false → anchor_of stream open_at before ≡ Some anchor
@@ -228,9 +226,9 @@ pub fn each_epoch_recovers_its_numbers()
         ++ with_epoch (Some anchor) (sent_copies_after stream anchor open_at before sent) }
 {}
 
-/// The received history has one epoch if each number lies from 2^15 below the one due next to just below 2^15 above
-/// it, by a clock other than `Follow`: no packet is off the grid, so no probation begins. The marks are then those of
-/// the numbers as sent.
+/// States that the received history has one epoch if each number lies from 2^15 below the one due next to just below
+/// 2^15 above it, by a clock other than `Follow`: no packet is off the grid, so no probation begins. The marks are then
+/// those of the numbers as sent.
 pub fn near_numbers_open_one_epoch()
     ensures one { (stream : Stream) (anchor : Anchor) (open_at : ℤ) (sent : List SentEvent) →
         is_following stream.clock ≡ false → BeginsWith stream anchor open_at sent
@@ -242,8 +240,9 @@ pub fn near_numbers_open_one_epoch()
         marks_of stream open_at (wire_history stream anchor sent) ≡ marks_by_number stream anchor open_at sent }
 {}
 
-/// A history in which no arrival is behind or beyond has by the clock `Follow` the fates and marks that it has by the
-/// clock `Arrival`. Second copies that are late, other sources and packets off the grid may be among its arrivals.
+/// States that a history in which no arrival is behind or beyond has by the clock `Follow` the fates and marks that it
+/// has by the clock `Arrival`. Second copies that are late, other sources and packets off the grid may be among its
+/// arrivals.
 pub fn a_sender_in_time_is_heard_as_by_arrival()
     ensures fates { (stream : Stream) (open_at : ℤ) (events : List Event) →
         IsNeverAstray (by_clock Follow stream) open_at events →
@@ -253,9 +252,9 @@ pub fn a_sender_in_time_is_heard_as_by_arrival()
         marks_of (by_clock Follow stream) open_at events ≡ marks_of (by_clock Arrival stream) open_at events }
 {}
 
-/// An epoch that a packet in step opens begins past all that was heard in the epoch before: no copy that came in time
-/// there has its number or a greater one. So nothing is heard twice unless a probation opened an epoch: the numbers of
-/// all slots with a payload, counted on over the epochs, rise.
+/// States that an epoch that a packet in step opens begins past all that was heard in the epoch before: no copy that
+/// came in time there has its number or a greater one. So nothing is heard twice unless a probation opened an epoch:
+/// the numbers of all slots with a payload, counted on over the epochs, rise.
 ///
 /// These are the numbers that the sender gave its packets, if the number of each lies from 2^25 below the one due next
 /// to just below 2^25 above it, counted on over the epochs.

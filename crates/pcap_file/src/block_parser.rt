@@ -56,8 +56,8 @@ pub struct BlockParser {
 }
 
 impl BlockParser {
-    /// A parser at the first record or block of a capture that begins with these octets: at least 24, or the whole
-    /// file. Returns the fault of the file's header if it has one.
+    /// Returns a parser at the first record or block of a capture that begins with these octets: at least 24, or the
+    /// whole file. Returns the fault of the file's header if it has one.
     pub fn open(front: &[u8]) -> Result<BlockParser, CaptureFault>
         ensures parts { IfOk result (λ parts. (rest : List ℕ) → IsEnough front.now rest
             → packets_of (front.now ++ rest) ≡ items_at parts (drop parts.place (front.now ++ rest))) }

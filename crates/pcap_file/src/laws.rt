@@ -20,26 +20,26 @@ ghost use Rattle.pcap_file.specs.WrittenRecord.{
 };
 ghost use Rattle.pcap_file.specs.Times.{instants_in, nanoseconds_of};
 
-/// Sampling instants that are written as nanoseconds are read back unchanged.
+/// States that sampling instants that are written as nanoseconds are read back unchanged.
 pub fn instants_come_back()
     ensures { (instants : ℕ) → instants_in (nanoseconds_of instants) ≡ instants }
 {}
 
-/// The one's complement sum of an IPv4 header's words is all ones, with the checksum among them (RFC 1071).
+/// States that the one's complement sum of an IPv4 header's words is all ones, with the checksum among them (RFC 1071).
 pub fn checksums_are_right()
     ensures { (a : ArrivalView) → HasAddresses a → length a.octets ≤ 2048
         → carried (carried (words_sum (header_octets a))) ≡ 65535 }
 {}
 
-/// The name of a path and the description of its stream's configuration are read back as they were written.
+/// States that the name of a path and the description of its stream's configuration are read back as they were written.
 pub fn paths_are_read_back()
     ensures { (path : PathView) → IsPath path
         → texts_in Little (interface_block path.stream path.letter path.description)
         ≡ Some (record { name = interface_text path.stream path.letter; description = path.description }) }
 {}
 
-/// A record is read back as it was written: its opening, its datagrams, and its close if there is one. Its blocks, in
-/// this order, are the section header, up to 64 interfaces, the datagrams on these, and the statistics.
+/// States that a record is read back as it was written: its opening, its datagrams, and its close if there is one. Its
+/// blocks, in this order, are the section header, up to 64 interfaces, the datagrams on these, and the statistics.
 pub fn records_are_read_back()
     ensures open_packets { (open_at : ℕ) (paths : List PathView) (arrivals : List ArrivalView)
         → open_at < 2 ^ 63 → All IsPath paths → length paths ≤ 64

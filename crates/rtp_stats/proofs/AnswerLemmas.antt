@@ -1,4 +1,4 @@
--- What is answered of the last second.
+-- The answers for the last second.
 use Rattle.std.proofs.Common.{◌≡◌, ◌≢◌, ⊎_elim, ℕ, suc, ◌+◌, ◌-◌, ◌/◌, ◌%◌, ◌^◌, ◌<◌, ◌≤◌, min, Bool, true, false, List, [], ◌∷◌, ◌++◌, length, refl, sym, ap, subst, ◌∙◌, arith, if◌then◌else◌, Option, Some, None, IsNone, ℤ, pos, negsuc, ◌≤ℤ◌}
 use Rattle.std.specs.Prelude.{nat_eq, slice_index_or, IfSome, MatchOption}
 use Rattle.std.proofs.lemmas.Bool.{and_parts, cases_lt, eqb-true}

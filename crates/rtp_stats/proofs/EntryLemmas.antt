@@ -1,4 +1,4 @@
--- What is kept at a place, after one more offer.
+-- The copies that are kept at a place, after one more offer.
 use Rattle.std.proofs.Common.{◌≡◌, ◌≢◌, ℕ, zero, suc, ◌%◌, ◌<◌, Bool, true, false, not, List, [], ◌∷◌, length, refl, sym, ap, ◌∙◌, arith, if◌then◌else◌, Option, Some, None}
 use Rattle.std.specs.Prelude.{◌&&◌, ◌||◌, nat_eq, slice_index_or, slice_set}
 use Rattle.std.proofs.lemmas.Bool.{and_from, and_parts, eq-eqb, eqb-false, eqb-true, ne_eqb}

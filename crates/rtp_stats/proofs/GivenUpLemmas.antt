@@ -1,4 +1,4 @@
--- What a path misses is what it gives up: looked at from each number's end, and from its taking on.
+-- A path misses exactly the numbers that it gives up: seen from each number's end, and from its taking on.
 use Rattle.std.proofs.Common.{◌≡◌, ◌≢◌, ℕ, ◌+◌, ◌%◌, Bool, true, false, not, List, [], ◌∷◌, ◌++◌, reverse, refl, sym, ap, ◌∙◌, arith, if◌then◌else◌, Option, Some, None}
 use Rattle.std.specs.Prelude.{◌&&◌, ◌||◌, nat_eq}
 use Rattle.std.proofs.lemmas.Bool.{and_parts, eq-eqb, eqb-false, eqb-true, ne_eqb}

@@ -1,4 +1,4 @@
--- What the definitions promise together.
+-- The laws of the definitions together.
 use Rattle.std.proofs.Common.{◌≡◌, ℕ, zero, suc, ◌+◌, ◌<◌, Bool, true, false, List, [], ◌∷◌, refl, arith}
 use Rattle.std.specs.Prelude.{cond, ◌&&◌, nat_eq}
 use Rattle.std.specs.List.{All}

@@ -1,4 +1,4 @@
--- What is kept of a second, after one more spare time, and of a path's seconds after one more offer.
+-- The margins that are kept of a second, after one more margin, and of a path's seconds after one more offer.
 use Rattle.std.proofs.Common.{◌≡◌, ◌≢◌, ◌⊎◌, inl, inr, ⊎_elim, ℕ, zero, suc, ◌+◌, ◌-◌, ◌%◌, ◌^◌, ◌<◌, ◌≤◌, max, min, Bool, true, false, List, [], ◌∷◌, ◌++◌, length, refl, sym, ap, subst, ◌∙◌, arith, if◌then◌else◌, Option, Some, None, IsSome}
 use Rattle.std.specs.Prelude.{cond, ◌&&◌, ◌||◌, nat_eq, nat_lt, slice_index, slice_index_or, slice_set}
 use Rattle.std.specs.List.{All, Contains}

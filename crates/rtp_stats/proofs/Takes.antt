@@ -1,4 +1,4 @@
--- What a look takes out of a ring, one value further.
+-- The value that a look takes out of a ring, one value further.
 use Rattle.std.proofs.Common.{◌≡◌, List, [], ◌∷◌, ◌++◌, Option, Some, refl, ap, sym, ◌∙◌, append_assoc}
 use Rattle.std.specs.List.{last_or}
 use mathlib.Core.List.{IsPrefix}

@@ -1,4 +1,4 @@
--- What goes into a ring of numbers, and what a look takes out of it.
+-- The values that go into a ring of numbers, and the one that a look takes out of it.
 use Rattle.std.specs.Prelude.{◌≡◌, ◌⊎◌, ℕ, List, [], ◌∷◌, ◌++◌, length, Option, None}
 use Rattle.std.specs.List.{last_or}
 use mathlib.Core.List.{IsPrefix}

@@ -1,4 +1,4 @@
--- What goes through the rings of a stream's numbers and of the mix's.
+-- The values that go through the rings of a stream's numbers and of the mix's.
 use Rattle.std.specs.Prelude.{◌≡◌, ◌⊎◌, ℕ, ◌<◌, ◌≤◌, max, List, [], ◌∷◌, length, drop, replicate, slice_index, ℤ, ◌<ℤ◌, ◌≤ℤ◌}
 use Rattle.rtp_wire.specs.declared.encoding.Enc.{Enc}
 use Rattle.rtrb.specs.declared.producer.Producer.{Producer}

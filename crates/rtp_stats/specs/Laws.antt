@@ -1,4 +1,4 @@
--- What a path misses, told from each number on: of a list of offers with the earliest first.
+-- The numbers that a path misses, from each number on: of a list of offers with the earliest first.
 use Rattle.std.specs.Prelude.{◌≡◌, ℕ, ◌+◌, ◌%◌, Bool, true, false, not, ◌&&◌, nat_eq, List, [], ◌∷◌, if◌then◌else◌}
 use Rattle.rtp_stream.specs.Counts.{is_taken_fate}
 use Rattle.rtp_stats.specs.Missed.{is_copy_on, takes}

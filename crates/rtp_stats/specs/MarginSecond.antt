@@ -1,4 +1,4 @@
--- What is kept of a path's spare times in one second.
+-- The arrival margins that are kept of a path's packets in one second.
 use Rattle.std.specs.Prelude.{◌≡◌, ℕ, ◌+◌, ◌*◌, ◌/◌, ◌%◌, ◌-◌, ◌^◌, ◌<◌, ◌≤◌, max, min, nat_eq, nat_lt, ◌||◌, List, length, take, sum, replicate, count_by, slice_index, slice_index_or, slice_set, IsSome, if◌then◌else◌}
 use Rattle.std.specs.List.{All, Contains}
 use Rattle.rtp_stats.specs.declared.tally.margins.MarginSecond.{MarginSecond}

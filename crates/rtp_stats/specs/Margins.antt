@@ -1,4 +1,4 @@
--- How long before their deadlines a path's packets came, second by second.
+-- The times before their deadlines at which a path's packets came, second by second.
 use Rattle.std.specs.Prelude.{◌≡◌, ℕ, zero, suc, ◌+◌, ◌*◌, ◌/◌, ◌%◌, ◌<◌, ◌≤◌, Bool, nat_eq, nat_lt, ◌&&◌, List, [], ◌∷◌, ◌++◌, length, count_by, ℤ, pos, negsuc, ◌≤ℤ◌, Option, Some, None, if◌then◌else◌}
 use Rattle.std.specs.List.{All, Contains}
 use Rattle.rtp_stats.specs.Offer.{Offer}

@@ -1,4 +1,4 @@
--- What became of a path's offers, out of a list with the latest first.
+-- The fates of a path's offers, out of a list with the latest first.
 use Rattle.std.specs.Prelude.{ℕ, ◌-◌, ◌^◌, min, Bool, ◌&&◌, nat_eq, List, count_by}
 use Rattle.rtp_stream.specs.declared.fate.Fate.{Fate}
 use Rattle.rtp_stream.specs.Counts.{is_ahead, is_double, is_late, is_taken_fate, is_unlike}

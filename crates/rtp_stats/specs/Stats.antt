@@ -1,4 +1,4 @@
--- What is told of a path, by the packets that were offered, the latest first.
+-- The statistics of a path, by the packets that were offered, the latest first.
 use Rattle.std.specs.Prelude.{◌≡◌, ℕ, ◌+◌, ◌^◌, ◌<◌, List, [], length, ℤ, IfSome, IsNone}
 use Rattle.rtp_stream.specs.declared.stream_spec.Stream.{Stream}
 use Rattle.rtp_stats.specs.Offer.{Offer}

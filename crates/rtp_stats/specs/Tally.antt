@@ -1,4 +1,4 @@
--- What a tally is after a list of offers, the latest first.
+-- The state of a tally after a list of offers, the latest first.
 use Rattle.std.specs.Prelude.{◌≡◌, ℕ, ◌/◌, ◌%◌, ◌<◌, List, length, slice_index_or}
 use Rattle.rtp_stream.specs.declared.stream_spec.Stream.{Stream}
 use Rattle.rtp_stats.specs.declared.tally.fate_counts.FateCounts.{FateCounts}

@@ -1,4 +1,4 @@
--- What is kept of the number that was taken last at a place.
+-- The copies that are kept of the number that was taken last at a place.
 use Rattle.std.specs.Prelude.{◌≡◌, ℕ, ◌<◌, Bool, true, false, not, ◌&&◌, nat_eq, List, [], ◌∷◌, length, slice_index_or, slice_set, Option, Some, None, if◌then◌else◌}
 use Rattle.rtp_stream.specs.declared.fate.Fate.{Fate}
 use Rattle.rtp_stream.specs.Counts.{is_taken_fate}

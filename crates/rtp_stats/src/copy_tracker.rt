@@ -20,8 +20,8 @@ pub struct CopyTracker {
 }
 
 impl CopyTracker {
-    /// A tracker of a stream of which no packet was offered yet. Allocates all its memory, and returns `AllocError` if
-    /// that fails.
+    /// Returns a tracker of a stream of which no packet was offered yet. Allocates all its memory, and returns
+    /// `AllocError` if that fails.
     pub fn new(alloc: Global, spec: &StreamSpec) -> Result<CopyTracker, AllocError>
         ensures tally { IfOk result (λ tracker. HasTally spec.now [] tracker.tally) }
         ensures known { IfOk result (λ tracker. tracker.deadlines ≡ None) }

@@ -29,7 +29,8 @@ const MINUTE: usize = 60;
 /// The least number of seconds with packets from which a drift is known.
 const LEAST_SECONDS: u64 = 10;
 
-/// The greatest time left that is told, in seconds: a year.
+/// The greatest time left that is reported, in seconds: a year.
+// Without a drift nothing is ever late. A greatest value gives that a number, so it needs no word of its own.
 const YEAR: u64 = 31_536_000;
 
 /// The drift of a path's arrival margin.
@@ -59,7 +60,7 @@ impl Model for MarginMinute {
 }
 
 impl MarginMinute {
-    /// A path of which no packet arrived yet.
+    /// Returns a path of which no packet arrived yet.
     pub fn new() -> MarginMinute
         ensures { result ≡ record { next = 0; margins = [] } }
     {

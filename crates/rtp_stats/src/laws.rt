@@ -6,14 +6,14 @@ ghost use Rattle.rtp_stats.specs.Laws.{BringsEach, left_of};
 ghost use Rattle.rtp_stats.specs.Missed.{missed_of};
 ghost use Rattle.rtp_stats.specs.Offers.{first_of, taken_of};
 
-/// The law that each number that was taken is first on exactly one path: the first copies of the four paths add up to
+/// States that each number that was taken is first on exactly one path: the first copies of the four paths add up to
 /// the numbers taken.
 pub fn each_number_is_first_on_one_path()
     ensures { (offers : List Offer) → All (λ o. o.path < 4) offers →
         first_of 0 offers + first_of 1 offers + first_of 2 offers + first_of 3 offers ≡ taken_of offers }
 {}
 
-/// The law that a path misses exactly the numbers that were taken from another path and then given up: the next number
+/// States that a path misses exactly the numbers that were taken from another path and then given up: the next number
 /// at their place was taken before this path brought a copy. So a path that brings a copy of each number in time misses
 /// none.
 pub fn a_path_misses_what_it_gives_up()

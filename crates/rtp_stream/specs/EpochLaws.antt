@@ -1,4 +1,4 @@
--- What the slots of a history are: the spans of its epochs, one after the other.
+-- The slots of a history as the spans of its epochs, one after the other.
 use Rattle.std.specs.Prelude.{◌≡◌, ℕ, ◌-◌, nat_eq, List, [], ◌∷◌, ◌++◌, length, take, ℤ, Option, Some, None, if◌then◌else◌}
 use Rattle.rtp_stream.specs.declared.stream_spec.Stream.{Stream}
 use Rattle.rtp_stream.specs.MarkFacts.{MarkView}

@@ -1,4 +1,4 @@
--- Which packets are in time under an anchor: source, grid, deadline and window.
+-- The packets that are in time under an anchor: source, grid, deadline and window.
 use Rattle.std.specs.Prelude.{ℕ, suc, ◌+◌, ◌^◌, Bool, ◌&&◌, nat_lt, nat_le, nat_eq, max, List, [], ◌∷◌, ℤ, pos, ◌+ℤ◌, ◌-ℤ◌, ◌*ℤ◌, Option, Some, None, if◌then◌else◌, unsigned_abs}
 use Rattle.std.specs.Int.{int_rem_euclid}
 use Rattle.rtp_stream.specs.Nearest.{nearest_number}

@@ -1,4 +1,4 @@
--- What is true of every mark.
+-- The facts of every mark.
 use Rattle.std.specs.Prelude.{◌≡◌, ℕ, ◌*◌, ◌^◌, ◌<◌, ◌≤◌, ℤ, pos, neg_ℤ, ◌≤ℤ◌, length}
 use Rattle.rtp_wire.specs.Sample.{octets_per_sample}
 use Rattle.rtp_stream.specs.declared.mark.PacketFormat.{PacketFormat}

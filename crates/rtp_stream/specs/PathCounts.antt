@@ -1,4 +1,4 @@
--- What became of a path's datagrams before the merge.
+-- The outcomes of a path's datagrams before the merge.
 use Rattle.std.specs.Prelude.{ℕ, ◌+◌, List, map}
 use Rattle.rtp_stream.specs.declared.stream_counts.PathCounts.{PathCounts}
 use Rattle.rtp_stream.specs.declared.reception.Reception.{Reception}

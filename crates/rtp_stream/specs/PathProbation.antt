@@ -1,4 +1,4 @@
--- What a merge keeps of a path's probation: how many were in sequence last, up to eight, and what comes next.
+-- The record that a merge keeps of a path's probation: the number of packets that were in sequence last, up to eight, and the one that comes next.
 use Rattle.std.specs.Prelude.{ℕ, zero, suc, ◌+◌, ◌%◌, ◌^◌, Bool, true, false, ◌&&◌, nat_eq, nat_le, nat_lt, List, [], ◌∷◌, if◌then◌else◌}
 use Rattle.rtp_stream.specs.declared.stream_spec.Stream.{Stream}
 use Rattle.rtp_stream.specs.Anchor.{is_source_wanted}

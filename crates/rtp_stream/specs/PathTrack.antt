@@ -1,4 +1,4 @@
--- What a merge keeps of how a path's arrivals stand: which of the last 64 were astray and which beyond, as bits, and where its copies in time end.
+-- The record that a merge keeps of a path's arrivals: those of the last 64 that were astray and those beyond, as bits, and the end of its copies in time.
 use Rattle.std.specs.Prelude.{ℕ, zero, suc, ◌+◌, ◌*◌, ◌%◌, ◌^◌, Bool, true, false, ◌&&◌, count_ones, nat_le, max, List, [], ◌∷◌, if◌then◌else◌}
 use Rattle.rtp_stream.specs.declared.stream_spec.Stream.{Stream}
 use Rattle.rtp_stream.specs.Anchor.{is_source_wanted}

@@ -1,4 +1,4 @@
--- What a sender sent, under its full sequence numbers, and what comes of it with 16 and 32 bits (RFC 3550, 5.1).
+-- The packets that a sender sent, under its full sequence numbers, and what is received of them with 16 and 32 bits (RFC 3550, 5.1).
 use Rattle.std.specs.Prelude.{◌≡◌, ℕ, ◌+◌, ◌^◌, ◌≤◌, true, ◌&&◌, List, [], ◌∷◌, ◌++◌, length, ℤ, pos, ◌+ℤ◌, ◌-ℤ◌, ◌*ℤ◌, ◌≤ℤ◌, ◌<ℤ◌, int_le, int_lt, nat_eq, Option, Some, None, if◌then◌else◌, unsigned_abs}
 use Rattle.std.specs.Int.{int_rem_euclid}
 use Rattle.rtp_stream.specs.declared.stream_spec.Stream.{Stream}

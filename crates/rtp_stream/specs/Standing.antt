@@ -1,4 +1,4 @@
--- How arrivals stand by the clock `Follow`: in time, behind or beyond; and when their sender is astray.
+-- The standing of arrivals by the clock `Follow`: in time, behind or beyond; and the arrivals that show their sender to be astray.
 use Rattle.std.specs.Prelude.{ℕ, suc, ◌+◌, ◌^◌, Bool, true, false, not, ◌&&◌, ◌||◌, nat_eq, nat_le, nat_lt, max, List, [], ◌∷◌, ◌++◌, count_by, reverse, take, drop, ℤ, if◌then◌else◌}
 use Rattle.rtp_stream.specs.declared.stream_spec.Stream.{Stream}
 use Rattle.rtp_stream.specs.declared.stream_spec.StreamClock.{StreamClock}

@@ -1,4 +1,4 @@
--- Which packets a stream takes.
+-- The packets that a stream takes.
 use Rattle.std.specs.Prelude.{◌≡◌, ℕ, not, nat_eq, Option, Some, None, if◌then◌else◌, length}
 use Rattle.rtp_stream.specs.declared.packet.Packet.{Packet}
 use Rattle.rtp_stream.specs.declared.stream_spec.AdmitFault.{AdmitFault}

@@ -1,4 +1,4 @@
--- What a stream's specification says, and what is true of every one.
+-- The parts of a stream's specification, and the facts of every one.
 use Rattle.std.specs.Prelude.{◌≡◌, ℕ, ◌+◌, ◌*◌, ◌^◌, ◌<◌, ◌≤◌, Bool, true, not, ◌&&◌, ◌||◌, nat_eq, nat_lt, nat_le, Option, Some, None, if◌then◌else◌}
 use Rattle.rtp_wire.specs.PacketTime.{is_packet_time}
 use Rattle.rtp_stream.specs.declared.mark.PacketFormat.{PacketFormat}

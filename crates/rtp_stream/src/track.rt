@@ -159,7 +159,7 @@ fn end_of(anchor: &Anchor, tracks: &[Track; 4]) -> u64
     (anchor.number + 1).max(first)
 }
 
-/// Returns how a packet with this place stands, where `next` is due next and copies in time end at `end`.
+/// Returns the standing of a packet with this place, where `next` is due next and copies in time end at `end`.
 fn standing_at(
     place: &Result<u64, Fate>,
     next: u64,

@@ -1,4 +1,4 @@
--- How many sampling instants one packet carries (AES67, 7.2).
+-- The number of sampling instants that one packet carries (AES67, 7.2).
 use Rattle.std.specs.Prelude.{ℕ, Bool, ◌||◌, nat_eq}
 
 -- 125 us, 250 us, 1/3 ms, 1 ms and 4 ms at 48 kHz

@@ -6,7 +6,7 @@ ghost use Rattle.rtp_wire.specs.Head.{FitsHeader, Head, head_octets};
 ghost use Rattle.rtp_wire.specs.Datagram.{IsDatagram, head_at, payload_at, wire_fault_of};
 ghost use Rattle.rtp_wire.specs.Sample.{FitsEncoding, sample_octets, sample_value};
 
-/// Octets are at most one packet, and they are one exactly if they have no fault.
+/// States that octets are at most one packet, and they are one exactly if they have no fault.
 pub fn datagrams_are_read_one_way()
     ensures one { (octets : List ℕ) (head other : Head) (payload rest : List ℕ) →
         IsDatagram octets head payload → IsDatagram octets other rest →
@@ -18,8 +18,8 @@ pub fn datagrams_are_read_one_way()
         IsDatagram octets head payload → (head ≡ head_at octets) × (payload ≡ payload_at octets) }
 {}
 
-/// A written header is read back, before any payload, and so is a written sample; one of 16 bits is read on the
-/// scale of 24 bits.
+/// States that a written header is read back, before any payload, and so is a written sample; one of 16 bits is read on
+/// the scale of 24 bits.
 pub fn written_heads_read_back()
     ensures head { (head : Head) (payload : List ℕ) →
         FitsHeader head → IsDatagram (head_octets head ++ payload) head payload }

@@ -1,4 +1,4 @@
--- How the keys of a configuration's tables are written.
+-- The spelling of the keys of a configuration's tables.
 use Rattle.std.specs.Prelude.{ℕ, List, codes}
 use Rattle.studio_config.specs.declared.config.keys.Key.{Key}
 use Rattle.studio_config.specs.declared.config.keys.Key.TheVariants as key

@@ -1,4 +1,4 @@
--- What is fixed of a studio before anything happens.
+-- The parts of a studio that are fixed before anything happens.
 use Rattle.std.specs.Prelude.{◌≡◌, ℕ, ◌^◌, ◌≤◌, ℤ, pos, ◌≤ℤ◌, List, length, sum_by}
 use Rattle.rtp_stream.specs.declared.stream_spec.Stream.{Stream}
 use Rattle.gain_mix.specs.Gain.{ins_of}

@@ -1,4 +1,4 @@
--- What a value of a configuration holds.
+-- The contents of a value of a configuration.
 use Rattle.rtp_stream.specs.declared.stream_spec.StreamClock.{StreamClock}
 use Rattle.rtp_stream.specs.declared.stream_spec.StreamClock.TheVariants.{Media, Arrival, Follow}
 use Rattle.std.specs.Prelude.{ℕ, ℤ, pos, negsuc, Bool, ◌&&◌, List, [], ◌∷◌, map, codes, Option, Some, None, is_some, option_and_then, option_map, unwrap_or, if◌then◌else◌}

@@ -1,4 +1,4 @@
--- What a mixer is, once its lanes were fed and it has come to a block.
+-- The state of a mixer whose lanes were fed and which has come to a block.
 use Rattle.std.specs.Prelude.{◌≡◌, ℕ, ◌+◌, ◌*◌, ◌^◌, ◌≤◌, Bool, false, ℤ, pos, ◌+ℤ◌, ◌≤ℤ◌, List, length, map, slice_get, Option, Some, None, All}
 use Rattle.rtp_stream.specs.MarkFacts.{MarkView}
 use Rattle.lane_align.specs.Lane.{LaneState, has_room_for, is_next, is_wanting}

@@ -1,4 +1,4 @@
--- How much room a lane needs for marks that come before they are wanted.
+-- The room that a lane needs for marks that come before they are wanted.
 use Rattle.std.specs.Prelude.{ℕ, ◌+◌, ◌*◌, ◌-◌, max, List, [], ◌∷◌, map}
 use Rattle.rtp_stream.specs.declared.stream_spec.Stream.{Stream}
 use Rattle.lane_align.specs.Lane.{LaneState}

@@ -1,4 +1,4 @@
--- How many samples of the output are saturated.
+-- The number of samples of the output that are saturated.
 use Rattle.std.specs.Prelude.{◌≡◌, ℕ, zero, suc, ◌+◌, ◌-◌, ◌*◌, ◌^◌, ◌<◌, min, true, ℤ, pos, ◌+ℤ◌, List, length, slice_index_or}
 use Rattle.gain_mix.specs.Changes.{matrix_at}
 use Rattle.gain_mix.specs.Saturated.{saturated_at}

@@ -199,8 +199,8 @@ impl Mixer {
         self.schedule.at(at)
     }
 
-    /// Changes the gains: from `at` on these are in force, row by row, a row for each output channel, in place of all
-    /// that was to change from then on. No block that was returned changes.
+    /// Changes the gains: from `at` on these are in force, row by row, a row for each output channel. They replace
+    /// every change that was planned from then on. No block that was returned changes.
     pub fn change_gains(&mut self, at: i64, gains: &[i32]) -> Result<(), ChangeFault>
         ensures stands { OnOk result ((studio : Studio) (feeds : List Feed) (number : ℕ)
             → HasFeeds studio self.old feeds number

@@ -45,7 +45,7 @@ pub(crate) struct Section {
 }
 
 impl Section {
-    /// A section of which no block was read.
+    /// Returns a section of which no block was read.
     pub(crate) fn new() -> Section
         ensures { section_view result ≡ spec.no_section }
     {

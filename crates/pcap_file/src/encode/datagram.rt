@@ -5,6 +5,7 @@ ghost use Rattle.pcap_file.specs.Times.{nanoseconds_in_64};
 use std::net::Ipv4Addr;
 
 /// The greatest length of a datagram in a record, in octets.
+// A live run receives no more: its buffer for a datagram has so many.
 pub const MAX_DATAGRAM_LEN: usize = 2_048;
 
 /// A received datagram with its time, addresses and ports. Its octets are borrowed.

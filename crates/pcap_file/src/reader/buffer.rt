@@ -49,7 +49,7 @@ pub struct ReadBuffer {
 impl ReadBuffer {
     ghost use Rattle.pcap_file.specs.ReadBuffer.{octets_of, Reads};
 
-    /// An empty buffer with room for 1 MiB. Returns `AllocError` if the allocation fails.
+    /// Returns an empty buffer with room for 1 MiB. Returns `AllocError` if the allocation fails.
     pub(crate) fn new(alloc: Global) -> Result<ReadBuffer, AllocError>
         ensures none { IfOk result (λ window. octets_of window ≡ []) }
         ensures going { IfOk result (λ window. window.ended ≡ false) }

@@ -20,8 +20,8 @@ pub(crate) struct Axis {
 }
 
 impl Axis {
-    /// The axis from one media time to another, with at most 480 intervals, each of which has whole packets of `frames`
-    /// sampling instants.
+    /// Returns the axis from one media time to another, with at most 480 intervals, each of which has whole packets of
+    /// `frames` sampling instants.
     pub(crate) fn of(first: i64, last: i64, frames: u16) -> Axis
         ensures { result.first ≡ first }
     {

@@ -29,7 +29,7 @@ impl Model for Bins {
 }
 
 impl Bins {
-    /// The counts before the first event. Returns `AllocError` if an allocation fails.
+    /// Returns the counts before the first event. Returns `AllocError` if an allocation fails.
     pub(crate) fn new(alloc: Global, axis: Axis) -> Result<Bins, AllocError>
         ensures counted { IfOk result (λ bins. HasCounted bins []) }
         ensures axis { IfOk result (λ bins. bins.axis ≡ axis) }

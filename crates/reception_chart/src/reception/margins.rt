@@ -20,7 +20,7 @@ pub(crate) struct PathMargins {
 }
 
 impl PathMargins {
-    /// The margins of a path before its first copy.
+    /// Returns the margins of a path before its first copy.
     fn new() -> PathMargins {
         PathMargins {
             bins: [0; MARGIN_BINS],
@@ -55,8 +55,8 @@ pub(crate) struct Margins {
 }
 
 impl Margins {
-    /// The margins before the first copy, in intervals up to a greatest margin. A greater one belongs to the last
-    /// interval.
+    /// Returns the margins before the first copy, in intervals up to a greatest margin. A greater one belongs to the
+    /// last interval.
     pub(crate) fn new(greatest: i64) -> Margins {
         let span = (u64::try_from(greatest).unwrap_or(0) / MARGIN_BINS as u64).saturating_add(1);
         Margins {

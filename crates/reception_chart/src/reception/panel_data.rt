@@ -13,7 +13,7 @@ pub struct PanelData {
 }
 
 impl PanelData {
-    /// The data before the first event. Returns `AllocError` if an allocation fails.
+    /// Returns the data before the first event. Returns `AllocError` if an allocation fails.
     pub(crate) fn new(alloc: Global, axis: Axis, greatest: i64) -> Result<PanelData, AllocError> {
         let bins = Bins::new(alloc, axis)?;
         Ok(PanelData {

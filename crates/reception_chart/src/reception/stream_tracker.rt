@@ -12,6 +12,7 @@ use studio_config::StudioSpec;
 use studio_session::{ArriveOutcome, Cursor, EventHeader, EventSource, ReceptionRef, receive_ref};
 
 /// The timestamp and the media time of a packet, which give the media times of all others of its epoch.
+// Not `rtp_stats::Deadlines`, which has no deadline for late packets: the chart draws their media times too.
 #[derive(Clone, Copy)]
 struct GridReference {
     ts: u32,
@@ -48,7 +49,7 @@ pub(crate) struct StreamTracker {
 }
 
 impl StreamTracker {
-    /// A stream of a studio before the first event. Returns `AllocError` if an allocation fails.
+    /// Returns a stream of a studio before the first event. Returns `AllocError` if an allocation fails.
     pub(crate) fn new(
         alloc: Global,
         spec: &StudioSpec,

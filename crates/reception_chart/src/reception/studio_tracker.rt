@@ -59,8 +59,8 @@ impl<O: ReceptionObserver + Drop> StudioTracker<O> {
 }
 
 impl StudioTracker<Extent> {
-    /// The streams of a studio before the first event, with observers of their extent. Returns `AllocError` if an
-    /// allocation fails.
+    /// Returns the streams of a studio before the first event, with observers of their extent. Returns `AllocError` if
+    /// an allocation fails.
     pub fn measure(alloc: Global, spec: &StudioSpec) -> Result<StudioTracker<Extent>, AllocError> {
         let mut streams = Vec::new(alloc);
         // Not `enumerate`: the number of a stream is a `u8`.
@@ -73,8 +73,8 @@ impl StudioTracker<Extent> {
         Ok(StudioTracker { streams })
     }
 
-    /// The streams of this tracker before the first event, with observers that count their events on an axis of the
-    /// measured extent. Returns `AllocError` if an allocation fails.
+    /// Returns the streams of this tracker before the first event, with observers that count their events on an axis of
+    /// the measured extent. Returns `AllocError` if an allocation fails.
     pub fn for_drawing(
         &self,
         alloc: Global,

@@ -17,6 +17,7 @@ use rtrb::{Consumer, Producer, RingBuffer};
 use std::alloc::{AllocError, Global};
 
 /// The least time between two sends, in sampling instants at 48 kHz: a tenth of a second.
+// The page gets a snapshot as often. More sends would cost the stream's worker time, and nobody would see them.
 const TENTH: i64 = 4_800;
 
 /// The number of places in the ring: statistics of 0.4 s may wait for the receiver.

@@ -36,7 +36,7 @@ fn place_in(now: u64, second: u64) -> Option<u64>
 }
 
 impl Sums {
-    /// The sums over no point.
+    /// Returns the sums over no point.
     pub(crate) fn new() -> Sums
         ensures { result ≡ no_sums }
     {

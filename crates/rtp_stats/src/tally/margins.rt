@@ -32,7 +32,7 @@ pub(crate) struct MarginSecond {
 }
 
 impl MarginSecond {
-    /// A second in which no packet arrived yet.
+    /// Returns a second in which no packet arrived yet.
     pub(crate) fn new(second: u64) -> MarginSecond
         ensures { result ≡ empty_second second }
     {

@@ -28,7 +28,7 @@ pub(crate) struct WindowCopies {
 }
 
 impl WindowCopies {
-    /// A place at which no number was taken.
+    /// Returns a place at which no number was taken.
     pub(crate) fn new() -> WindowCopies
         ensures { result ≡ empty_entry }
     {
@@ -39,7 +39,7 @@ impl WindowCopies {
         }
     }
 
-    /// A place at which a number was just taken from a path.
+    /// Returns a place at which a number was just taken from a path.
     #[inline(always)]
     fn of(path: Path, seq: u16) -> WindowCopies
         ensures { result ≡ entry_of path seq }
