@@ -1,5 +1,5 @@
 -- An engine's events, one more at the end, and its datagrams, one more.
-use Rattle.std.proofs.Common.{◌≡◌, ◌<◌, ◌+◌, ℕ, zero, suc, Bool, true, false, not, nat_lt, ◌^◌, get_or, List, [], ◌∷◌, ◌++◌, length, ℤ, ◌<ℤ◌, if◌then◌else◌, Option, Some, None, IfSome, slice_get, refl, sym, ap, subst, ◌∙◌, arith}
+use Rattle.std.proofs.Common.{◌≡◌, ◌<◌, ◌+◌, ℕ, zero, suc, Bool, true, false, not, nat_lt, ◌^◌, get_or, List, [], ◌∷◌, ◌++◌, length, ℤ, pos, ◌+ℤ◌, ◌≤ℤ◌, ◌<ℤ◌, if◌then◌else◌, Option, Some, None, IfSome, slice_get, refl, sym, ap, subst, ◌∙◌, arith}
 use Rattle.std.specs.Ordering.{int_eq}
 use Rattle.std.proofs.lemmas.Bool.{false≢true}
 use Rattle.std.proofs.lemmas.Bool.Decides.{nat_tests}
@@ -21,6 +21,7 @@ use Rattle.studio_session.proofs.FaultLemmas.{arrival_fault, closed_more, lawful
 use Rattle.studio_session.proofs.HandedLemmas.{blocks_handed, given_handed}
 use Rattle.studio_session.proofs.NewLemmas.{played_none}
 use Rattle.studio_session.proofs.ReportLemmas.{pulled_of}
+use Rattle.studio_engine.specs.Cursors.{CursorsState}
 use Rattle.studio_engine.specs.Engine.{AreAtRest, EngineState, HaveCome, IsEngine, arrive_fault_of, session_of, stream_fault_of}
 use Rattle.studio_engine.specs.declared.fault.ArriveFault.{ArriveFault}
 use Rattle.studio_engine.specs.declared.fault.ArriveFault.TheVariants.{Unfinished, Stream as NoStream, Path as NoPath, Full}
@@ -29,18 +30,18 @@ use Rattle.studio_engine.specs.Near.{HasRooms, IsAwaited}
 use Rattle.studio_engine.specs.Session.{Gives, HasGivenReady, HasSession, turned}
 
 -- before the first event
-pub session_new : (studio : Studio) (mixer : MixerState) (cursors : List CursorState) (time : ℤ) → IsRunnableBy studio [] → HasFeeds studio mixer (unfed studio.streams) 0 → HasRooms studio mixer
-    → AreNew studio.streams studio.open_at cursors (length studio.streams) → time ≡ studio.open_at
-    → HasSession studio (record { mixer = mixer; cursors = cursors; time = time; turning = false; closed = false; settled = false; count = 0 }) [] []
-session_new studio mixer cursors time run fed roomy new is = record {
+pub session_new : (studio : Studio) (mixer : MixerState) (made : CursorsState) (time : ℤ) → IsRunnableBy studio [] → HasFeeds studio mixer (unfed studio.streams) 0 → HasRooms studio mixer
+    → AreNew studio.streams studio.open_at made.cursors (length studio.streams) → made.count ≡ 0 → time ≡ studio.open_at
+    → HasSession studio (record { mixer = mixer; cursors = made.cursors; time = time; turning = false; closed = false; settled = false; count = made.count }) [] []
+session_new studio mixer made time run fed roomy new none is = record {
   lawful = refl;
   runnable = run;
   time = is;
   closed = refl;
-  count = refl;
+  count = none;
   rooms = roomy;
   given = record {
-    played = played_none studio [] mixer cursors fed new;
+    played = played_none studio [] mixer made.cursors fed new;
     first = record {
       ready = λ n h. let below : n < 0 = grind (arith, nat_tests, h) in absurd (omega (arith, below));
       each = λ n datagram at. let below : n < 0 = slice_get_within [] n datagram at in absurd (omega (arith, below));
@@ -50,10 +51,10 @@ session_new studio mixer cursors time run fed roomy new is = record {
 }
 
 -- it is an engine
-pub engine_new : (studio : Studio) (mixer : MixerState) (cursors : List CursorState) (time : ℤ) → IsStudio studio → HasFeeds studio mixer (unfed studio.streams) 0
-    → AreNew studio.streams studio.open_at cursors (length studio.streams) → time ≡ studio.open_at
-    → IsEngine (record { mixer = mixer; cursors = cursors; time = time; turning = false; closed = false; settled = false; count = 0 })
-engine_new studio mixer cursors time sound fed new is =
+pub engine_new : (studio : Studio) (mixer : MixerState) (made : CursorsState) (time : ℤ) → IsStudio studio → HasFeeds studio mixer (unfed studio.streams) 0
+    → AreNew studio.streams studio.open_at made.cursors (length studio.streams) → made.count ≡ 0 → time ≡ studio.open_at
+    → IsEngine (record { mixer = mixer; cursors = made.cursors; time = time; turning = false; closed = false; settled = false; count = made.count })
+engine_new studio mixer made time sound fed new none is =
     let low = sound.open_low in
     let high = sound.open_high in
     let long : length (unfed studio.streams) ≡ length studio.streams = length-map studio.streams (λ stream. record { stream = stream; marks = [] }) in
@@ -63,12 +64,12 @@ engine_new studio mixer cursors time sound fed new is =
           let count = new.count_is in
           let here : i < length studio.streams = omega (arith, within, count) in
           let some = stream_at studio.streams i here in
-          (new.each i (get_or cursors i d) some.0 (slice_get-get_or cursors i d within) some.1).0;
+          (new.each i (get_or made.cursors i d) some.0 (slice_get-get_or made.cursors i d within) some.1).0 ∙ sym none;
       rested = λ e. new.settled;
       not_early = omega (arith, ints, is, low);
       not_late = omega (arith, ints, is, high);
-      few = omega (arith, ints, is, low);
-      few_open = λ e. omega (arith, ints, is, low);
+      few = omega (arith, ints, is, low, none);
+      few_open = λ e. omega (arith, ints, is, low, none);
       open_yet = λ e. refl;
       shut = λ e. absurd (false≢true e);
     }
@@ -79,18 +80,18 @@ engine_new studio mixer cursors time sound fed new is =
     stream_at (stream ∷ streams) (suc i) h = stream_at streams i (omega (arith, h))
 
 -- an engine stays one when its mixer and its cursors move, and none of the events comes
-pub engine_kept : (old : EngineState) (mixer : MixerState) (cursors kept : List CursorState) (turning settled : Bool) → kept ≡ cursors → IsEngine old
-    → length mixer.lanes ≡ length old.mixer.lanes → length cursors ≡ length old.cursors → HaveCome old.count cursors
-    → (turning ≡ false → AreAtRest cursors) → (turning ≡ true → old.closed ≡ false) → (settled ≡ true → old.closed ≡ true)
-    → IsEngine (record { mixer = mixer; cursors = kept; time = old.time; turning = turning; closed = old.closed; settled = settled; count = old.count })
-engine_kept old mixer cursors kept turning settled same is lanes count come rested open_yet shut = record {
-  streams = ap length same ∙ count ∙ is.streams ∙ sym lanes;
-  taken = subst (HaveCome old.count) (sym same) come;
-  rested = λ e. subst AreAtRest (sym same) (rested e);
+pub engine_kept : (old : EngineState) (mixer : MixerState) (kept : CursorsState) (turning settled : Bool) → kept.count ≡ old.count → IsEngine old
+    → length mixer.lanes ≡ length old.mixer.lanes → length kept.cursors ≡ length old.cursors → HaveCome kept.count kept.cursors
+    → (turning ≡ false → AreAtRest kept.cursors) → (turning ≡ true → old.closed ≡ false) → (settled ≡ true → old.closed ≡ true)
+    → IsEngine (record { mixer = mixer; cursors = kept.cursors; time = old.time; turning = turning; closed = old.closed; settled = settled; count = kept.count })
+engine_kept old mixer kept turning settled same is lanes count come rested open_yet shut = record {
+  streams = count ∙ is.streams ∙ sym lanes;
+  taken = come;
+  rested = rested;
   not_early = is.not_early;
   not_late = is.not_late;
-  few = is.few;
-  few_open = is.few_open;
+  few = subst (λ n. pos n ≤ℤ ((pos (2 ^ 62) +ℤ old.time) +ℤ pos 1)) (sym same) is.few;
+  few_open = λ e. subst (λ n. pos n ≤ℤ (pos (2 ^ 62) +ℤ old.time)) (sym same) (is.few_open e);
   open_yet = open_yet;
   shut = shut;
 }

@@ -1,6 +1,5 @@
 -- An event, handed to one stream after another.
-use Rattle.std.proofs.Common.{◌≡◌, ◌≢◌, inl, inr, ◌<◌, ◌≤◌, ◌+◌, ℕ, nat_eq, false, List, length, set, get_or, ℤ, Option, None, Some, IfSome, slice_get, refl, sym, ap, subst, ◌∙◌, arith}
-use Rattle.std.specs.Option.{option_or}
+use Rattle.std.proofs.Common.{◌≡◌, ◌≢◌, inl, inr, ◌<◌, ◌≤◌, ◌+◌, ℕ, nat_eq, false, List, length, set, get_or, Some, slice_get, refl, sym, ap, subst, ◌∙◌, arith}
 use Rattle.std.proofs.lemmas.Bool.{cases_eq}
 use Rattle.std.proofs.lemmas.Bool.Decides.{nat_tests}
 use Rattle.std.proofs.lemmas.List.{length-set}
@@ -9,10 +8,8 @@ use Rattle.studio_mix.proofs.MixerLemmas.{set_same_at, set_other_at}
 use Rattle.rtp_stream.specs.declared.stream_spec.Stream.{Stream}
 use Rattle.studio_session.specs.Event.{TraceEvent, Arrival}
 use Rattle.studio_session.specs.Session.{Other, step_of}
-use Rattle.studio_session.specs.Cursor.{CursorState, HasPulled}
+use Rattle.studio_session.specs.Cursor.{CursorState}
 use Rattle.studio_session.specs.PushedEvents.{AreHanded, IsHanded}
-use Rattle.studio_session.specs.ArriveOutcome.{receipt_of}
-use Rattle.studio_session.specs.declared.receipt.ArriveOutcome.{ArriveOutcome}
 use Rattle.studio_engine.specs.Engine.{HaveCome}
 
 -- none was handed it yet
@@ -71,30 +68,3 @@ pub is_other : (stream path number : ℕ) (octets : List ℕ) → number ≢ str
 is_other stream path number octets ne spec =
     let no : nat_eq stream number ≡ false = grind (arith, nat_tests, ne) in
     rw no
-
--- what became of the datagram for this stream, by the cursors before
-abbrev pub Tells : List CursorState → ℕ → ℕ → ℕ → List ℕ → ArriveOutcome → Type 0
-Tells first stream count path octets receipt = (cursor : CursorState) (spec : Stream) (number : ℕ) (open_at : ℤ) (events : List TraceEvent) (k : ℕ)
-    → slice_get first stream ≡ Some cursor → count ≡ length events → HasPulled spec number open_at events cursor k
-    → receipt ≡ receipt_of spec number open_at events path octets
-
--- it is told by the stream's own cursor
-pub tells_own : (first : List CursorState) (old : CursorState) (i stream count path : ℕ) (octets : List ℕ) (d : CursorState) (o : Option ArriveOutcome) → i < length first → old ≡ get_or first i d → HaveCome count first
-    → IfSome o (λ receipt. i ≡ stream)
-    → IfSome o (λ receipt. (spec : Stream) (s : ℕ) (open_at : ℤ) (events : List TraceEvent) (k : ℕ) → old.place ≡ length events → HasPulled spec s open_at events old k → receipt ≡ receipt_of spec s open_at events path octets)
-    → IfSome o (Tells first stream count path octets)
-tells_own first old i stream count path octets d None within is come own told = tt
-tells_own first old i stream count path octets d (Some receipt) within is come own told = λ cursor spec number open_at events k at long pulled.
-    let here : slice_get first i ≡ Some cursor = subst (λ n. slice_get first n ≡ Some cursor) (sym own) at in
-    let same : old ≡ cursor = is ∙ get_or_from_slice_get first i cursor d here in
-    let place : old.place ≡ length events = ap (λ (c : CursorState). c.place) is ∙ come i d within ∙ long in
-    told spec number open_at events k place (subst (λ c. HasPulled spec number open_at events c k) (sym same) pulled)
-
--- of two answers, the first that there is
-pub either_tells : (P : ArriveOutcome → Type 0) (o p : Option ArriveOutcome) → IfSome o P → IfSome p P → IfSome (option_or o p) P
-either_tells P None p h g = g
-either_tells P (Some receipt) p h g = h
-
-pub neither : (o p : Option ArriveOutcome) → option_or o p ≡ None → (o ≡ None) × (p ≡ None)
-neither None p e = (refl, e)
-neither (Some receipt) p e = absurd (let f : Some receipt ≡ None = e in cc)

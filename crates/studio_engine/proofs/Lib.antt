@@ -1,4 +1,5 @@
 pub mod NearLemmas
+pub mod CursorsLemmas
 pub mod HandLemmas
 pub mod FillLemmas
 pub mod KeepLemmas

@@ -1,4 +1,4 @@
--- What contracts see of an engine.
+-- The state of an engine that contracts see.
 use Rattle.std.specs.Prelude.{◌≡◌, ℕ, ◌^◌, Bool, true, false, nat_lt, List, length, slice_get, ℤ, pos, ◌+ℤ◌, ◌≤ℤ◌, Option, Some, None, All, if◌then◌else◌}
 use Rattle.rtp_stream.specs.declared.stream_spec.Stream.{Stream}
 use Rattle.path_merge.specs.Steps.{next_deadline_of}

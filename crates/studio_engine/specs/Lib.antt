@@ -1,4 +1,5 @@
 pub mod Near
+pub mod Cursors
 pub mod Engine
 pub mod Give
 pub mod Session

@@ -1,4 +1,4 @@
--- How near the marks of a studio's streams lie to one another: why the room of its lanes is enough.
+-- The distance of the marks of a studio's streams from one another: the reason why the room of its lanes is enough.
 use Rattle.std.specs.Prelude.{◌≡◌, ℕ, true, false, List, map, slice_get, Some, All}
 use Rattle.rtp_stream.specs.declared.stream_spec.Stream.{Stream}
 use Rattle.studio_config.specs.Studio.{Studio}

@@ -1,44 +1,29 @@
-//! An event, given to every stream of an engine.
-ghost use Rattle.std.specs.Prelude.{◌≡◌, ◌≢◌, ℕ, ◌<◌, ◌≤◌, ◌+◌, List, ℤ, length, slice_get, Some, None, IfSome};
+//! An event, given to the streams of an engine.
+ghost use Rattle.std.specs.Prelude.{◌≡◌, ℕ, ◌<◌, ◌≤◌, ◌+◌, List, ℤ, length, slice_get, Some, None, IfSome};
 ghost use Rattle.rtp_stream.specs.declared.stream_spec.Stream.{Stream};
 ghost use Rattle.studio_session.specs.Event.{TraceEvent, Arrival, Reading, Closing};
 ghost use Rattle.studio_session.specs.Cursor.{CursorState, HasPulled};
-ghost use Rattle.studio_session.specs.PushedEvents.{AreHanded, IsHanded};
+ghost use Rattle.studio_session.specs.PushedEvents.{AreHanded};
 ghost use Rattle.studio_session.specs.ArriveOutcome.{receipt_of};
+ghost use Rattle.studio_engine.specs.Cursors.{AreBehind, all_at};
 ghost use Rattle.studio_engine.specs.Engine.{AreAtRest, HaveCome};
 
 use path_merge::Path;
 use studio_session::{ArriveOutcome, Cursor};
 
-/// Gives a datagram to its own stream's cursor and returns the outcome, or lets another stream's cursor skip it and
-/// returns `None`.
-fn hand_one(
-    cursor: &mut Cursor,
-    number: usize,
-    stream: usize,
-    path: Path,
-    octets: &[u8],
-) -> Option<ArriveOutcome>
-    requires settled { cursor.old.reading ≡ None }
-    requires place { cursor.old.place < usize.MAX }
-    requires path { number ≡ stream → path < cursor.old.spec.paths }
-    ensures handed { IsHanded (Arrival stream path octets.now) number cursor.old cursor.new }
-    ensures settled { cursor.new.reading ≡ None }
-    ensures none { result ≡ None → number ≢ stream }
-    ensures some { IfSome result (λ _. number ≡ stream) }
-    ensures receipt { IfSome result (λ receipt. (spec : Stream) (s : ℕ) (open_at : ℤ) (events : List TraceEvent) (k : ℕ)
-        → cursor.old.place ≡ length events → HasPulled spec s open_at events cursor.old k
-        → receipt ≡ receipt_of spec s open_at events path octets.now) }
+/// Lets every cursor pass over the events that it missed, so that each has passed `count` events.
+pub(crate) fn catch_up(cursors: &mut [Cursor], count: usize)
+    requires behind { AreBehind count cursors.old }
+    ensures { cursors.new ≡ all_at count cursors.old }
 {
-    if number == stream {
-        return Some(cursor.push_datagram(path, octets));
+    // The loop goes by index, since a proof knows nothing of the elements after `iter_mut().enumerate()`.
+    for number in 0..cursors.len() {
+        cursors[number].pass_to(count);
     }
-    cursor.skip();
-    None
 }
 
-/// Gives a datagram to its stream, lets the other streams skip it, and returns the outcome, or `None` if there is no
-/// such stream.
+/// Gives a datagram to its stream and returns the outcome, or `None` if there is no such stream. The other streams pass
+/// over it once they `catch_up`.
 pub(crate) fn push_datagram(
     cursors: &mut [Cursor],
     count: usize,
@@ -47,26 +32,26 @@ pub(crate) fn push_datagram(
     octets: &[u8],
 ) -> Option<ArriveOutcome>
     requires rested { AreAtRest cursors.old }
-    requires come { HaveCome count cursors.old }
+    requires behind { AreBehind count cursors.old }
     requires few { count < usize.MAX }
     requires path { (cursor : CursorState) → slice_get cursors.old stream ≡ Some cursor → path < cursor.spec.paths }
-    ensures handed { AreHanded (Arrival stream path octets.now) cursors.old cursors.new (length cursors.old) }
-    ensures come { HaveCome (count + 1) cursors.new }
+    ensures handed { IfSome result (λ _. AreHanded (Arrival stream path octets.now)
+        (all_at count cursors.old) (all_at (count + 1) cursors.new) (length cursors.old)) }
+    ensures behind { AreBehind (count + 1) cursors.new }
     ensures rested { AreAtRest cursors.new }
     ensures none { result ≡ None → length cursors.old ≤ stream }
+    ensures kept { result ≡ None → cursors.new ≡ cursors.old }
     ensures receipt { IfSome result
         (λ receipt. (cursor : CursorState) (spec : Stream) (number : ℕ) (open_at : ℤ) (events : List TraceEvent) (k : ℕ)
-        → slice_get cursors.old stream ≡ Some cursor → count ≡ length events
+        → slice_get (all_at count cursors.old) stream ≡ Some cursor → count ≡ length events
         → HasPulled spec number open_at events cursor k
         → receipt ≡ receipt_of spec number open_at events path octets.now) }
 {
-    // The others skip it, and don't leave it out, since each cursor counts the events of all streams.
-    let mut receipt = None;
-    // The loop goes by index, since a proof knows nothing of the elements after `iter_mut().enumerate()`.
-    for number in 0..cursors.len() {
-        receipt = receipt.or(hand_one(&mut cursors[number], number, stream, path, octets));
+    if stream >= cursors.len() {
+        return None;
     }
-    receipt
+    cursors[stream].pass_to(count);
+    Some(cursors[stream].push_datagram(path, octets))
 }
 
 /// Gives a clock reading to every stream.

@@ -52,11 +52,8 @@ ghost use Rattle.studio_engine.specs.Engine.{
 };
 ghost use Rattle.studio_engine.specs.Session.{Gives, HasGivenReady, HasSession, shut, turned};
 
-use crate::deadline::reading_past;
-use crate::dispatch::{push_close, push_datagram, push_reading};
-use crate::early_marks::keep_early_marks;
+use crate::cursors::Cursors;
 use crate::fault::{ArriveFault, Unfinished};
-use crate::next_block::next_datagram;
 use gain_mix::{ChangeFault, Matrix};
 use mix_packets::OutSpec;
 use path_merge::{ClockFault, Counts, Path, StreamSpec, clock_fault};
@@ -65,7 +62,7 @@ use std::alloc::{AllocError, Global};
 use std::marker::Model;
 use studio_config::StudioSpec;
 use studio_mix::Mixer;
-use studio_session::{ArriveOutcome, Cursor, is_runnable, studio_cursors};
+use studio_session::{ArriveOutcome, is_runnable};
 
 // At most 2^60 clock readings and a close follow these, so the number of events never wraps.
 /// The number of events after which no more arrivals are taken: 2^62.
@@ -79,15 +76,13 @@ const MAX_EVENTS: usize = 4_611_686_018_427_387_904;
 #[derive(Drop)]
 pub struct Engine {
     mixer: Mixer,
-    cursors: Vec<Cursor>,
+    cursors: Cursors,
     /// The last clock reading that was taken, or the opening time.
     time: i64,
     /// True if some stream may still be on its way to `time`.
     turning: bool,
     closed: bool,
     settled: bool,
-    /// The number of events that were taken.
-    count: usize,
 }
 
 impl Model for Engine {
@@ -101,7 +96,7 @@ impl Model for Engine {
 
     ghost coded = { Prim.hlevel (codes, map.code {R = nat_cmp} coded_ℕ packet.the_row.coded) };
 
-    ghost view = { λ e. record { mixer = e.mixer; cursors = e.cursors.items; time = e.time; turning = e.turning; closed = e.closed; settled = e.settled; count = e.count } };
+    ghost view = { λ e. record { mixer = e.mixer; cursors = e.cursors.cursors; time = e.time; turning = e.turning; closed = e.closed; settled = e.settled; count = e.cursors.count } };
 
     ghost invariant = { λ e. IsEngine (view e) };
 }
@@ -118,7 +113,7 @@ impl Engine {
         // With room for early marks, every merge can reach a clock reading though the next block waits for one of
         // them.
         let mixer = Mixer::with_room(alloc, spec)?;
-        let cursors = studio_cursors(alloc, spec)?;
+        let cursors = Cursors::new(alloc, spec)?;
         Ok(Engine {
             mixer,
             cursors,
@@ -126,7 +121,6 @@ impl Engine {
             turning: false,
             closed: false,
             settled: false,
-            count: 0,
         })
     }
 
@@ -155,12 +149,10 @@ impl Engine {
         if let Some(fault) = self.arrive_fault(stream, path) {
             return Err(fault);
         }
-        let cursors = self.cursors.as_mut_slice();
         // `arrive_fault` has found that there is the stream.
-        let Some(receipt) = push_datagram(cursors, self.count, stream, path, octets) else {
+        let Some(receipt) = self.cursors.push_datagram(stream, path, octets) else {
             unreachable!()
         };
-        self.count += 1;
         Ok(receipt)
     }
 
@@ -172,7 +164,7 @@ impl Engine {
             return Some(ArriveFault::Unfinished);
         }
         match self.cursors.get(stream) {
-            Some(cursor) => path_fault(cursor.spec().paths(), path, self.count),
+            Some(cursor) => path_fault(cursor.spec().paths(), path, self.cursors.count()),
             None => Some(ArriveFault::Stream),
         }
     }
@@ -236,10 +228,9 @@ impl Engine {
         ensures closed { self.new.closed ≡ false }
         ensures packer { self.new.mixer.packer ≡ self.old.mixer.packer }
     {
-        push_reading(self.cursors.as_mut_slice(), self.count, now);
+        self.cursors.push_reading(now);
         self.time = now;
         self.turning = true;
-        self.count += 1;
     }
 
     /// Moves the merges on to the last clock reading, and writes the next datagram.
@@ -261,18 +252,18 @@ impl Engine {
         ensures closed { self.new.closed ≡ self.old.closed }
         ensures output { self.new.mixer.packer.spec ≡ self.old.mixer.packer.spec }
     {
-        let given = next_datagram(&mut self.mixer, self.cursors.as_mut_slice(), out);
+        let given = self.cursors.next_datagram(&mut self.mixer, out);
         // Early marks come second: only while no block is ready are the marks near enough for all to find room
         // (`marks_are_near`).
         if given.is_none() {
-            let there = keep_early_marks(&mut self.mixer, self.cursors.as_mut_slice());
+            let there = self.cursors.keep_early_marks(&mut self.mixer);
             self.turning = !there;
         }
         given
     }
 
-    /// Changes the gains: from `at` on, in sampling instants of the media clock, these are in force, in place of all
-    /// that was to change from then on. They are in units of 1/65,536, row by row, a row for each output channel.
+    /// Changes the gains: from `at` on, in sampling instants of the media clock, these are in force. They replace every
+    /// change that was planned from then on. They are in units of 1/65,536, row by row, a row for each output channel.
     ///
     /// `at` is not before `next_block_start`, so no datagram that was returned changes. Up to 64 changes may be to
     /// come. An error changes nothing.
@@ -315,9 +306,8 @@ impl Engine {
             return Err(Unfinished);
         }
         if !self.closed {
-            push_close(self.cursors.as_mut_slice(), self.count);
+            self.cursors.push_close();
             self.closed = true;
-            self.count += 1;
         }
         Ok(())
     }
@@ -342,7 +332,7 @@ impl Engine {
         if !self.closed {
             return None;
         }
-        let given = next_datagram(&mut self.mixer, self.cursors.as_mut_slice(), out);
+        let given = self.cursors.next_datagram(&mut self.mixer, out);
         self.settled = given.is_none();
         given
     }
@@ -367,7 +357,7 @@ impl Engine {
         if self.closed {
             return None;
         }
-        reading_past(self.time, &self.mixer, self.cursors.as_slice())
+        self.cursors.reading_past(self.time, &self.mixer)
     }
 
     /// Returns the media time at which the next block begins, in sampling instants: the first time whose gains can

@@ -12,6 +12,7 @@
 //! Afterwards the engine is `settled`, and its counts are complete.
 #![tactic(auto)]
 
+mod cursors;
 mod deadline;
 mod dispatch;
 mod early_marks;

@@ -1,5 +1,5 @@
 -- Events that come one by one: each is at the end of those so far.
-use Rattle.std.proofs.Common.{◌≡◌, ◌<◌, ◌≤◌, ◌+◌, ℕ, min, nat_lt, true, List, [], ◌∷◌, ◌++◌, length, take, drop, get_or, slice_get, ℤ, Some, refl, sym, ap, subst, ◌∙◌, arith, length-append, length-take}
+use Rattle.std.proofs.Common.{◌≡◌, ◌<◌, ◌≤◌, ◌+◌, ℕ, min, nat_lt, true, List, [], ◌∷◌, ◌++◌, length, take, drop, get_or, slice_get, ℤ, Some, refl, sym, ap, subst, ◌∙◌, arith, append-nil, length-append, length-take}
 use Rattle.std.proofs.lemmas.Bool.Decides.{nat_tests}
 use Rattle.std.proofs.lemmas.Grind.{flat_map-append}
 use Rattle.std.proofs.lemmas.List.{length_push, take-take, take-append-le, take-append-drop}
@@ -14,16 +14,18 @@ use Rattle.studio_mix.specs.Blocks.{AreFirstBlocks}
 use Rattle.studio_mix.specs.Feed.{Feed, AreLonger, IsLonger}
 use Rattle.studio_mix.specs.Mixer.{MixerState}
 use Rattle.studio_mix.proofs.LawLemmas.{ready_longer, ready_covered, datagram_longer}
-use Rattle.studio_session.specs.PushedEvents.{AreHanded, HaveTaken}
+use Rattle.studio_session.specs.PushedEvents.{AreHanded, HaveTaken, IsHanded}
 use Rattle.studio_session.specs.Play.{HasPlayed, IsGiven, IsRunnableBy, feeds_of, stream_marks}
 use Rattle.studio_session.proofs.PlayLemmas.{stream_at}
 use Rattle.studio_session.proofs.SessionLemmas.{length_whole, whole_at}
 use Rattle.rtp_stream.specs.declared.stream_spec.Stream.{Stream}
 use Rattle.studio_session.specs.Event.{TraceEvent}
-use Rattle.studio_session.specs.Session.{event_in, step_of, stream_history}
-use Rattle.studio_session.specs.Counts.{AreTallies}
+use Rattle.studio_session.specs.Session.{Other, event_in, step_of, stream_history}
+use Rattle.studio_session.specs.Counts.{AreTallies, HasCounted}
 use Rattle.studio_session.specs.ReadingSteps.{IsOnWay}
-use Rattle.studio_session.specs.Cursor.{CursorState, HasPulled, IsRunnable}
+use Rattle.studio_session.specs.Cursor.{CursorState, HasPulled, IsRunnable, at_place}
+use Rattle.studio_session.proofs.CountsLemmas.{uncounted}
+use Rattle.studio_session.proofs.CursorLemmas.{pulled_more}
 
 -- what was taken of a list was taken of a longer one
 pub pulled_longer : (stream : Stream) (number : ℕ) (open_at : ℤ) (events more : List TraceEvent) (cursor : CursorState) (k : ℕ)
@@ -47,6 +49,21 @@ last_here (e ∷ events) event = last_here events event
 
 pub handed_at : (events : List TraceEvent) (event : TraceEvent) (place : ℕ) → place ≡ length events → slice_get (events ++ event ∷ []) place ≡ Some event
 handed_at events event place end = subst (λ p. slice_get (events ++ event ∷ []) p ≡ Some event) (sym end) (last_here events event)
+
+-- another stream's datagram at the end: a cursor that passes over it took all events
+pub handed_other : (event : TraceEvent) (number : ℕ) (cursor : CursorState) → ((stream : Stream) → step_of stream number event ≡ Other) → IsHanded event number cursor (at_place (cursor.place + 1) cursor)
+handed_other event number cursor other = record {
+  spec = refl;
+  place = refl;
+  stands = λ stream open_at events k run end pulled.
+      let all = events ++ event ∷ [] in
+      let longer = pulled_longer stream number open_at events (event ∷ []) cursor k pulled in
+      let before = stream_history stream number (take cursor.place all) in
+      pulled_more stream number open_at all event k cursor (at_place (cursor.place + 1) cursor) longer (handed_at events event cursor.place end) refl refl refl
+      (subst (λ s. HasCounted s cursor.tallies cursor.tallies) (sym (other stream)) (uncounted cursor.tallies Other (λ path tally. refl)))
+      (subst (λ s. IsOnWay stream open_at cursor.merge cursor.reading (before ++ event_in s) k) (sym (other stream))
+      (subst (λ l. IsOnWay stream open_at cursor.merge cursor.reading l k) (sym (append-nil before)) longer.stands));
+}
 
 -- the marks so far are the first of those with more events
 marks_longer : (stream : Stream) (number : ℕ) (open_at : ℤ) (events more : List TraceEvent) → IsRunnable stream number open_at (events ++ more)

@@ -1,4 +1,4 @@
--- What became of a datagram that a stream was handed.
+-- The outcome of a datagram that a stream was passed.
 use Rattle.std.specs.Prelude.{ℕ, ℤ, List}
 use Rattle.rtp_stream.specs.declared.stream_spec.Stream.{Stream}
 use Rattle.rtp_stream.specs.declared.event.Event.{Event}

@@ -1,4 +1,4 @@
--- What a stream received on its paths of a list of events.
+-- The datagrams that a stream received on its paths, of a list of events.
 use Rattle.std.specs.Prelude.{◌≡◌, ℕ, zero, suc, nat_eq, List, [], ◌∷◌, ◌++◌, Some, slice_get, if◌then◌else◌}
 use Rattle.rtp_stream.specs.declared.stream_spec.Stream.{Stream}
 use Rattle.rtp_stream.specs.PathCounts.{PathTally, with_reception}

@@ -1,4 +1,4 @@
--- How far one stream of a run has come.
+-- The place in the events to which one stream of a run has come.
 use Rattle.std.specs.Prelude.{◌≡◌, ℕ, ◌+◌, ◌-◌, ◌-ℤ◌, ◌<◌, ◌≤◌, true, List, [], ◌∷◌, length, take, drop, ℤ, Option, Some, None, slice_get}
 use Rattle.std.specs.Option.{option_to_list}
 use Rattle.rtp_stream.specs.declared.stream_spec.Stream.{Stream}
@@ -24,6 +24,10 @@ pub record CursorState : Type 0 where
   pub tallies : List PathTally
   pub place : ℕ
   pub reading : Option ℤ
+
+-- the cursor, with so many events taken
+abbrev pub at_place : ℕ → CursorState → CursorState
+at_place place cursor = record cursor { place = place }
 
 -- where the marks of what was taken lead to
 abbrev pub goal_of : Option ℤ → Goal

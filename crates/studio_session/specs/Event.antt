@@ -1,4 +1,4 @@
--- What happens to the streams of a studio.
+-- The events of the streams of a studio.
 use Rattle.std.specs.Prelude.{ℕ, ℤ, List}
 use Rattle.studio_session.specs.declared.event.StudioEvent.{StudioEvent}
 use Rattle.studio_session.specs.declared.event.StudioEvent.TheVariants.{Arrive, Tick, Close}

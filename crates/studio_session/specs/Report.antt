@@ -1,4 +1,4 @@
--- What a run comes to.
+-- The result of a run.
 use Rattle.std.specs.Prelude.{◌≡◌, ℕ, List, [], length, take, drop, map, slice_get, ℤ, Some}
 use Rattle.rtp_stream.specs.declared.stream_spec.Stream.{Stream}
 use Rattle.rtp_stream.specs.CountsFacts.{Tally}

@@ -1,4 +1,4 @@
--- What a whole session gives.
+-- The datagrams that a whole session gives.
 use Rattle.std.specs.Prelude.{ℕ, ◌+◌, ◌^◌, List, length, pos, ◌-ℤ◌}
 use Rattle.lane_align.specs.Lane.{natural}
 use Rattle.mix_packets.specs.Block.{block_start}

@@ -1,4 +1,4 @@
--- What the events of a studio are to one of its streams.
+-- The events of a studio as one of its streams sees them.
 use Rattle.std.specs.Prelude.{ℕ, Bool, false, ◌&&◌, nat_eq, ℤ, List, [], ◌∷◌, flat_map, count_by, if◌then◌else◌}
 use Rattle.rtp_stream.specs.declared.stream_spec.Stream.{Stream}
 use Rattle.rtp_stream.specs.declared.event.Event.{Event}

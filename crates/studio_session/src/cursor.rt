@@ -39,6 +39,7 @@ ghost use Rattle.studio_session.specs.Cursor.{
   IsSameCursor,
   IsRunnable,
   IsOnTheWay,
+  at_place,
   next_of,
   way_left,
   events_left,
@@ -58,8 +59,8 @@ use std::marker::Model;
 /// A stream of a run: its merge, its counts, and how many of the run's events it took.
 ///
 /// `take_event` takes the stream's next event from a source. If events come one by one instead, `push_datagram`,
-/// `skip`, `push_reading` and `push_close` take the next. After each event `mark` returns a reference to a mark and
-/// `pass` lets it go, until `pass` returns false.
+/// `skip`, `push_reading` and `push_close` take the next, and `pass_to` skips several. After each event `mark` returns
+/// a reference to a mark and `pass` lets it go, until `pass` returns false.
 #[derive(Drop)]
 pub struct Cursor {
     spec: StreamSpec,
@@ -315,6 +316,17 @@ impl Cursor {
         ensures reading { self.new.reading ≡ self.old.reading }
     {
         self.pass_over();
+    }
+
+    /// Passes over the datagrams of other streams that came after the cursor's last event, up to the event `place`.
+    ///
+    /// If events come one by one, a cursor need not `skip` each of them: it passes over all of them before its next
+    /// one.
+    pub fn pass_to(&mut self, place: usize)
+        requires onward { self.old.place ≤ place }
+        ensures { self.new ≡ at_place place self.old }
+    {
+        self.place = place;
     }
 
     /// Takes a clock reading, in sampling instants, that comes after all events so far.

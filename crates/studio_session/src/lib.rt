@@ -12,8 +12,9 @@
 //!    to the end.
 //!
 //! If events come one by one, give each to every cursor: the cursor of its stream takes a datagram by
-//! `push_datagram` and the others `skip` it; all take a reading by `push_reading` and a close by
-//! `push_close`. `pull_marks` then passes the marks of a cursor on.
+//! `push_datagram` and the others `skip` it, or pass over all that they missed by `pass_to`; all take a
+//! reading by `push_reading` and a close by `push_close`. `pull_marks` then passes the marks of a cursor
+//! on.
 //!
 //! For marks instead of datagrams, `studio_cursors` returns a cursor for each stream, which returns
 //! references to the marks.

@@ -1,6 +1,7 @@
 use Rattle.std.proofs.Common.{ℕ, List, ◌<ℤ◌}
 use Rattle.studio_config.specs.Studio.{Studio}
 use Rattle.studio_session.specs.Event.{TraceEvent}
+use Rattle.studio_engine.specs.Cursors.{all_at}
 use Rattle.studio_engine.specs.Deadline.{IsAtRest, IsUnreadyBefore}
 use Rattle.studio_engine.proofs.deadline.latest_reading.Given as goal
 
@@ -8,5 +9,5 @@ use Rattle.studio_engine.proofs.deadline.latest_reading.Given as goal
 abbrev pub invariant-loop-stream : goal.invariant-loop-stream
 invariant-loop-stream l = record {
   later : l.fn.time <ℤ l.reading;
-  before : (studio : Studio) (events : List TraceEvent) (next : ℕ) → IsAtRest studio events l.fn.mixer l.fn.cursors l.fn.time next → IsUnreadyBefore studio events next l.reading;
+  before : (studio : Studio) (events : List TraceEvent) (next count : ℕ) → IsAtRest studio events l.fn.mixer (all_at count l.fn.cursors) l.fn.time next → IsUnreadyBefore studio events next l.reading;
 }

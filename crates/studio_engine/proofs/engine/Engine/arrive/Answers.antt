@@ -1,7 +1,5 @@
-use Rattle.std.proofs.Common.{◌≡◌, ◌+◌, length, None, slice_get, refl, sym, ap, subst, ◌∙◌}
-use Rattle.studio_mix.proofs.NextLemmas.{lent}
+use Rattle.std.proofs.Common.{◌≡◌, None, refl, sym, ap, subst, ◌∙◌}
 use Rattle.studio_session.specs.Event.{Arrival}
-use Rattle.studio_session.specs.PushedEvents.{AreHanded}
 use Rattle.studio_engine.specs.Engine.{EngineState, arrive_fault_of}
 use Rattle.studio_engine.specs.Session.{HasSession}
 use Rattle.studio_engine.proofs.EngineLemmas.{pulled_at, session_handed, taken_arrival}
@@ -10,24 +8,18 @@ use Rattle.studio_engine.proofs.engine.Engine.arrive.Goals as goal
 pub returns-clause-stands : goal.returns-clause-stands
 returns-clause-stands c = λ studio events datagrams s.
     let i = c.self.inside in
-    let inside : EngineState = record { mixer = i.mixer; cursors = i.cursors.items; time = i.time; turning = i.turning; closed = i.closed; settled = i.settled; count = i.count } in
+    let inside : EngineState = record { mixer = i.mixer; cursors = i.cursors.cursors; time = i.time; turning = i.turning; closed = i.closed; settled = i.settled; count = i.cursors.count } in
     let s' : HasSession studio inside events datagrams = subst (λ e. HasSession studio e events datagrams) (sym c.self.view_is) s in
     let event = Arrival c.args.stream c.args.path c.args.octets.now in
-    let moved = c.push_datagram.new.cursors in
-    let lent_is = c.as_mut_slice-cursors.ensures.value in
-    let back = lent i.cursors.len (length moved) moved i.cursors.items (c.push_datagram.auto.cursors ∙ c.as_mut_slice-cursors.ensures.len) in
-    let handed : AreHanded event i.cursors.items moved (length i.cursors.items) = subst (λ l. AreHanded event l moved (length l)) lent_is c.push_datagram.ensures.handed in
     let fine : arrive_fault_of inside c.args.stream c.args.path ≡ None = ap (λ e. arrive_fault_of e c.args.stream c.args.path) c.self.view_is ∙ sym c.arrive_fault.ensures ∙ c.in_default.is in
-    session_handed studio inside _ event i.time i.turning i.closed (i.count + 1) events datagrams
-    (subst (λ l. AreHanded event i.cursors.items l (length i.cursors.items)) (sym back) handed)
-    c.self.invariant.taken refl refl refl
+    session_handed studio inside _ event i.time i.turning i.closed _ events datagrams c.in-Some-push_datagram.ensures.handed
+    c.self.invariant.taken c.in-Some-push_datagram.ensures.count refl refl
     (taken_arrival studio inside events datagrams c.args.stream c.args.path c.args.octets.now s' fine) s'
 
 pub returns-clause-receipt : goal.returns-clause-receipt
 returns-clause-receipt c = λ studio events datagrams spec s at.
     let i = c.self.inside in
-    let inside : EngineState = record { mixer = i.mixer; cursors = i.cursors.items; time = i.time; turning = i.turning; closed = i.closed; settled = i.settled; count = i.count } in
+    let inside : EngineState = record { mixer = i.mixer; cursors = i.cursors.cursors; time = i.time; turning = i.turning; closed = i.closed; settled = i.settled; count = i.cursors.count } in
     let s' : HasSession studio inside events datagrams = subst (λ e. HasSession studio e events datagrams) (sym c.self.view_is) s in
     let found = pulled_at studio inside events datagrams c.args.stream spec s' at in
-    c.in-Some-push_datagram.ensures.receipt found.0 spec c.args.stream studio.open_at events found.1
-    (ap (λ l. slice_get l c.args.stream) c.as_mut_slice-cursors.ensures.value ∙ found.2) s'.count found.3
+    c.in-Some-push_datagram.ensures.receipt found.0 spec c.args.stream studio.open_at events found.1 found.2 s'.count found.3

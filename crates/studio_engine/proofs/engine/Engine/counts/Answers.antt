@@ -1,6 +1,5 @@
-use Rattle.std.proofs.Common.{◌≡◌, ◌<◌, length, Some, slice_get, refl, sym, ap, subst, ◌∙◌, arith}
-use Rattle.std.proofs.lemmas.Bool.Decides.{nat_tests}
-use Rattle.std.proofs.lemmas.Option.{slice_get_read}
+use Rattle.std.proofs.Common.{sym, subst, ◌∙◌}
+use Rattle.studio_session.specs.Cursor.{at_place}
 use Rattle.studio_engine.specs.Engine.{EngineState, HasAllMarks}
 use Rattle.studio_engine.specs.Session.{HasSession}
 use Rattle.studio_engine.proofs.CountsLemmas.{counts_whole}
@@ -9,10 +8,7 @@ use Rattle.studio_engine.proofs.engine.Engine.counts.Goals as goal
 pub returns-clause-whole : goal.returns-clause-whole
 returns-clause-whole c = λ studio events datagrams spec s at whole.
     let i = c.self.inside in
-    let inside : EngineState = record { mixer = i.mixer; cursors = i.cursors.items; time = i.time; turning = i.turning; closed = i.closed; settled = i.settled; count = i.count } in
+    let inside : EngineState = record { mixer = i.mixer; cursors = i.cursors.cursors; time = i.time; turning = i.turning; closed = i.closed; settled = i.settled; count = i.cursors.count } in
     let s' : HasSession studio inside events datagrams = subst (λ e. HasSession studio e events datagrams) (sym c.self.view_is) s in
     let whole' : HasAllMarks inside = subst HasAllMarks (sym c.self.view_is) whole in
-    let within : c.args.stream < length c.deref.result.now = grind (arith, nat_tests, c.in_ok-cursor.ensures.lookup.0) in
-    let found : slice_get c.deref.result.now c.args.stream ≡ Some c.in_ok-cursor.cursor.now = slice_get_read _ _ _ _ refl within c.in_ok-cursor.ensures.lookup.1 in
-    let here : slice_get i.cursors.items c.args.stream ≡ Some c.in_ok-cursor.cursor.now = ap (λ l. slice_get l c.args.stream) (sym c.deref.ensures.value) ∙ found in
-    c.counts.ensures ∙ counts_whole studio inside events datagrams c.args.stream c.in_ok-cursor.cursor.now spec c.self.invariant s' here at whole'
+    c.counts.ensures ∙ counts_whole studio inside events datagrams c.args.stream (at_place i.cursors.count c.in_ok-cursor.cursor.now) spec c.self.invariant s' c.in_ok-cursor.ensures.some at whole'

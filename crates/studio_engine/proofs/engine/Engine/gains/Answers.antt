@@ -9,7 +9,7 @@ use Rattle.studio_engine.proofs.engine.Engine.gains.Goals as goal
 pub returns-clause-stands : goal.returns-clause-stands
 returns-clause-stands c = λ studio events datagrams session late.
     let i = c.self.inside in
-    let engine : EngineState = record { mixer = i.mixer; cursors = i.cursors.items; time = i.time; turning = i.turning; closed = i.closed; settled = i.settled; count = i.count } in
+    let engine : EngineState = record { mixer = i.mixer; cursors = i.cursors.cursors; time = i.time; turning = i.turning; closed = i.closed; settled = i.settled; count = i.cursors.count } in
     let session' : HasSession studio engine events datagrams = subst (λ e. HasSession studio e events datagrams) (sym c.self.view_is) session in
     let same = to_z-of_z w64 c.args.at c.ranges.at in
     c.gains.ensures.stands studio _ _ session'.given.played.fed (subst (λ (at : ℤ). block_start studio.output (length datagrams) ≤ℤ at) (sym same) late)

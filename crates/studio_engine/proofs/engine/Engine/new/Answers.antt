@@ -10,7 +10,7 @@ returns-clause-stands c =
     let high = sound.open_high in
     let value = c.open_at.ensures.value in
     let time : to_z w64 (of_z w64 c.open_at.result) ≡ c.args.spec.now.open_at = omega (arith, ints, value, low, high) in
-    session_new c.args.spec.now c.in_ok-mixer.mixer c.in_ok-cursors.cursors.items (to_z w64 (of_z w64 c.open_at.result)) c.is_runnable.ensures c.in_ok-mixer.ensures.stands (record { rooms = c.in_ok-mixer.ensures.rooms }) c.in_ok-cursors.ensures.new time
+    session_new c.args.spec.now c.in_ok-mixer.mixer c.in_ok-cursors.cursors (to_z w64 (of_z w64 c.open_at.result)) c.is_runnable.ensures c.in_ok-mixer.ensures.stands (record { rooms = c.in_ok-mixer.ensures.rooms }) c.in_ok-cursors.ensures.new c.in_ok-cursors.ensures.none time
 
 pub invariant_of-result : goal.invariant_of-result
 invariant_of-result c =
@@ -19,4 +19,4 @@ invariant_of-result c =
     let high = sound.open_high in
     let value = c.open_at.ensures.value in
     let time : to_z w64 (of_z w64 c.open_at.result) ≡ c.args.spec.now.open_at = omega (arith, ints, value, low, high) in
-    engine_new c.args.spec.now c.in_ok-mixer.mixer c.in_ok-cursors.cursors.items (to_z w64 (of_z w64 c.open_at.result)) sound c.in_ok-mixer.ensures.stands c.in_ok-cursors.ensures.new time
+    engine_new c.args.spec.now c.in_ok-mixer.mixer c.in_ok-cursors.cursors (to_z w64 (of_z w64 c.open_at.result)) sound c.in_ok-mixer.ensures.stands c.in_ok-cursors.ensures.new c.in_ok-cursors.ensures.none time

@@ -1,8 +1,7 @@
-use Rattle.std.proofs.Common.{◌≡◌, ◌+◌, ◌<ℤ◌, ◌≤ℤ◌, None, false, true, length, refl, sym, ap, subst, ◌∙◌, arith, to_z, of_z, w64}
+use Rattle.std.proofs.Common.{◌≡◌, ◌<ℤ◌, ◌≤ℤ◌, None, false, true, length, refl, sym, ap, subst, ◌∙◌, arith, to_z, of_z, w64}
 use Rattle.std.proofs.lemmas.Int.{ints, to_z-of_z}
 use Rattle.path_merge.specs.Clock.{clock_fault_of}
 use Rattle.path_merge.proofs.RunLemmas.{still_no_fault}
-use Rattle.studio_mix.proofs.NextLemmas.{lent}
 use Rattle.studio_session.specs.Event.{Reading}
 use Rattle.studio_session.specs.PushedEvents.{AreHanded}
 use Rattle.studio_session.proofs.FaultLemmas.{reading_fault}
@@ -15,18 +14,13 @@ pub returns-clause-stands : goal.returns-clause-stands
 returns-clause-stands c = λ studio events datagrams s.
     let i = c.self.inside in
     let now = c.args.now in
-    let inside : EngineState = record { mixer = i.mixer; cursors = i.cursors.items; time = i.time; turning = i.turning; closed = i.closed; settled = i.settled; count = i.count } in
+    let inside : EngineState = record { mixer = i.mixer; cursors = i.cursors.cursors; time = i.time; turning = i.turning; closed = i.closed; settled = i.settled; count = i.cursors.count } in
     let s' : HasSession studio inside events datagrams = subst (λ e. HasSession studio e events datagrams) (sym c.self.view_is) s in
     let same = to_z-of_z w64 now c.ranges.now in
-    let moved = c.push_reading.new.cursors in
-    let back = lent i.cursors.len (length moved) moved i.cursors.items (c.push_reading.auto.cursors ∙ c.as_mut_slice.ensures.len) in
-    let handed : AreHanded (Reading now) i.cursors.items moved (length i.cursors.items) =
-    subst (λ u. AreHanded (Reading u) i.cursors.items moved (length i.cursors.items)) same
-    (subst (λ l. AreHanded (Reading (to_z w64 (of_z w64 now))) l moved (length l)) c.as_mut_slice.ensures.value c.push_reading.ensures.handed) in
+    let handed = subst (λ u. AreHanded (Reading u) i.cursors.cursors c.push_reading.new.self.cursors (length i.cursors.cursors)) same c.push_reading.ensures.handed in
     let later : i.time <ℤ now = subst (λ (e : EngineState). e.time <ℤ now) (sym c.self.view_is) c.requires.later in
     let before : i.time ≤ℤ now = omega (arith, ints, later) in
     let open_yet : i.closed ≡ false = ap (λ (e : EngineState). e.closed) c.self.view_is ∙ c.requires.open_yet in
     let free : clock_fault_of i.time i.closed now ≡ None = still_no_fault i.time i.closed now before c.requires.not_far open_yet in
-    session_handed studio inside _ (Reading now) (to_z w64 (of_z w64 now)) true i.closed (i.count + 1) events datagrams
-    (subst (λ l. AreHanded (Reading now) i.cursors.items l (length i.cursors.items)) (sym back) handed)
-    c.self.invariant.taken refl same refl (reading_fault studio.streams i.time i.closed now free) s'
+    session_handed studio inside _ (Reading now) (to_z w64 (of_z w64 now)) true i.closed _ events datagrams handed
+    c.self.invariant.taken c.push_reading.ensures.count same refl (reading_fault studio.streams i.time i.closed now free) s'

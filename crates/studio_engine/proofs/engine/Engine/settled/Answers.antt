@@ -7,7 +7,7 @@ pub returns-clause-whole : goal.returns-clause-whole
 returns-clause-whole c = λ e.
     let i = c.self.inside in
     let inv = c.self.invariant in
-    let inside : EngineState = record { mixer = i.mixer; cursors = i.cursors.items; time = i.time; turning = i.turning; closed = i.closed; settled = i.settled; count = i.count } in
+    let inside : EngineState = record { mixer = i.mixer; cursors = i.cursors.cursors; time = i.time; turning = i.turning; closed = i.closed; settled = i.settled; count = i.cursors.count } in
     let whole : HasAllMarks inside = record { rested = at_rest i.turning i.closed inv.open_yet (inv.shut e); given = λ _. e } in
     subst HasAllMarks c.self.view_is whole
   where

@@ -1,0 +1,16 @@
+-- The cursors of an engine's streams, some of which may be behind.
+use Rattle.std.specs.Prelude.{ℕ, ◌≤◌, List, map, All}
+use Rattle.studio_session.specs.Cursor.{CursorState, at_place}
+
+-- what contracts see of them: each as if it had passed over all that it missed, and how many events they took
+pub record CursorsState : Type 0 where
+  pub cursors : List CursorState
+  pub count : ℕ
+
+-- the cursors, each with so many events taken
+abbrev pub all_at : ℕ → List CursorState → List CursorState
+all_at count cursors = map (at_place count) cursors
+
+-- no cursor took more
+abbrev pub AreBehind : ℕ → List CursorState → Type 0
+AreBehind count cursors = All (λ (cursor : CursorState). cursor.place ≤ count) cursors
