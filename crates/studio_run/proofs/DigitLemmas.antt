@@ -1,4 +1,4 @@
--- Whether digits spell octets, and which.
+-- Digits that spell octets, and the octets that they spell.
 use Rattle.std.proofs.Common.{◌≡◌, ℕ, ◌<◌, ◌%◌, ◌+◌, ◌*◌, ◌≤◌, Bool, true, false, cond, eqb, List, ◌∷◌, [], Option, Some, None, length, take, drop, get_or, refl, sym, ap, ◌∙◌, arith}
 use Rattle.std.specs.Prelude.{Result, Ok, Err, is_some, IsSome}
 use Rattle.std.specs.List.{list_all, AllPass}

@@ -16,3 +16,9 @@ pub mod StudioListingLemmas
 pub mod StudioReportLemmas
 pub mod TraceLemmas
 pub mod WantLemmas
+pub mod GainLemmas
+pub mod LawLemmas
+pub mod LineLemmas
+pub mod GainsNumberLemmas
+pub mod ScheduleLemmas
+mod WorkedCases

@@ -12,3 +12,6 @@ pub mod StudioListing
 pub mod StudioReport
 pub mod Text
 pub mod Trace
+pub mod Gains
+pub mod GainsLines
+pub mod GainsNumbers

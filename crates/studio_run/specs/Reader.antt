@@ -1,4 +1,4 @@
--- What of a trace was read.
+-- The part of a trace that was read.
 use Rattle.std.specs.Prelude.{List, take}
 use Rattle.studio_session.specs.Event.{TraceEvent}
 use Rattle.studio_run.specs.Trace.{GivesEvents}

@@ -1,4 +1,4 @@
--- How far a stream's listing was written.
+-- The part of a stream's listing that was written.
 use Rattle.std.specs.Prelude.{◌≡◌, ℕ, ℤ, List, [], take, drop, Option}
 use Rattle.rtp_stream.specs.declared.stream_spec.Stream.{Stream}
 use Rattle.studio_session.specs.Event.{TraceEvent}

@@ -11,6 +11,7 @@ use std::io::Write;
 use std::marker::Model;
 
 /// The greatest number of octets that are held.
+// Sixteen of the longest lines, so that a write takes many lines at once.
 const MAX_HELD: usize = 65_536;
 
 // The longest lines, those of slots and datagrams, have two digits for each of at most 1,452 octets.

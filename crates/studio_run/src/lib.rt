@@ -1,4 +1,4 @@
-//! The texts of a studio: traces are read, and listings and reports are written from them.
+//! The texts of a studio: traces and changes of gains are read, and listings and reports are written.
 //!
 //! `list_marks` and `play` are the whole, from the octets of a reader to those of a writer. They read
 //! to the end, find the first fault and allocate everything before the first write.
@@ -11,10 +11,15 @@
 //! - `write_mark`, `write_datagram` and the like write one line each to a `TextBuffer`, whose
 //!   `finish` writes what it still holds. `push_count` and `push_tally` add the parts of other lines.
 //!
+//! `studio_with_gains` returns the studio whose gains change as the lines of a text say, or the first fault
+//! of the text. The studio is for a run offline, as `play` makes it: it has the streams, the output and the
+//! opening time of the one that is given, and no ports or addresses.
+//!
 //! This crate also exports the types of a studio and of its run.
 #![tactic(auto)]
 
 mod buffer;
+mod gains;
 mod laws;
 mod lines;
 mod outputs;
@@ -23,6 +28,9 @@ mod text_io;
 mod trace;
 
 pub use buffer::TextBuffer;
+pub use gains::fault::{GainsFault, GainsFaultKind};
+pub use gains::laws::{a_change_is_in_force_from_its_time_on, one_gain_changes_alone};
+pub use gains::studio::studio_with_gains;
 pub use laws::{a_report_is_the_only_one, events_have_a_report};
 pub use lines::counts::{
     push_count, push_tally, write_datagram, write_merge_counts, write_path_counts,
@@ -33,7 +41,8 @@ pub use outputs::listing::{list_marks_and_counts, write_whole_listing};
 pub use outputs::report::write_counts;
 pub use player::{PlayFault, list_marks, play, read_all, runnable_events};
 pub use rtp_stream::{PathCounts, StreamCounts};
-pub use studio_config::{SpecError, StudioSpec};
+pub use studio_config::{ConfigTable, Key, SpecError, SpecErrorKind, StudioSpec};
+pub use studio_mix::Mixer;
 pub use studio_session::{Report, StudioEvent, StudioFault, run_studio};
 pub use text_io::{ReadFault, WriteFault, read_octets, write_text};
 pub use trace::events::read_trace;

@@ -13,6 +13,7 @@ use thiserror::Error;
 const MAX_CALLS: u32 = 100_000_000;
 
 /// The greatest number of octets of one read.
+// As many as a pipe of Linux holds, so that one read empties it.
 const MAX_READ: usize = 65_536;
 
 /// The reason why a text was not read.
