@@ -1,7 +1,7 @@
 -- A feed that is asked until it gives no datagram, one answer further.
-use Rattle.std.proofs.Common.{◌≡◌, ℕ, zero, suc, ◌+◌, ◌≤◌, ◌<◌, Bool, true, false, nat_eq, List, [], ◌∷◌, ◌++◌, length, take, refl, sym, ap, subst, ◌∙◌, arith, append-nil, inl, inr}
+use Rattle.std.proofs.Common.{◌≡◌, ℕ, zero, suc, ◌+◌, ◌≤◌, ◌<◌, true, false, nat_eq, List, [], ◌∷◌, ◌++◌, length, take, refl, sym, ap, subst, ◌∙◌, arith, append-nil, inl, inr}
 use Rattle.std.proofs.lemmas.Bool.Decides.{nat_tests}
-use Rattle.studio_io.specs.Answers.{Answer, Gives, Waits, Fails, Stops, Tells, answer_of, reaches_end}
+use Rattle.studio_io.specs.Answers.{Answer, Gives, Waits, Fails, Stops, Tells, reaches_end}
 use Rattle.studio_io.specs.FeedStates.{Notes}
 use Rattle.studio_io.specs.declared.feed.FeedAnswer.{FeedAnswer}
 use Rattle.studio_io.specs.declared.feed.FeedAnswer.TheVariants.{Datagram, Nothing, Fault, Ended}

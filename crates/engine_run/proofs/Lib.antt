@@ -6,4 +6,5 @@ pub mod TellLemmas
 pub mod TakeLemmas
 pub mod SendLemmas
 pub mod RunLemmas
+pub mod GainRequestLemmas
 pub mod CountLemmas

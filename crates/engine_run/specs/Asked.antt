@@ -1,4 +1,4 @@
--- What a feed gives when it is asked several times.
+-- The answers of a feed that is asked several times.
 use Rattle.std.specs.Prelude.{◌≡◌, ℕ, zero, suc, ◌+◌, ◌≤◌, Bool, true, false, nat_eq, List, [], ◌∷◌, if◌then◌else◌}
 use Rattle.studio_io.specs.Answers.{Answer, Gives, Waits, Fails, Stops, reaches_end}
 

@@ -4,6 +4,7 @@ pub mod Observers
 pub mod Grouping
 pub mod Intake
 pub mod Output
+pub mod GainRequests
 pub mod Runs
 pub use Rattle.mix_packets.specs.OutSpec
 pub use Rattle.path_merge.specs.Clock
@@ -15,3 +16,7 @@ pub use Rattle.studio_engine.specs.Session
 pub use Rattle.studio_io.specs.Answers
 pub use Rattle.studio_io.specs.Balances
 pub use Rattle.studio_io.specs.Clocks
+pub use Rattle.studio_io.specs.Gains
+pub use Rattle.studio_mix.specs.Changed
+pub use Rattle.gain_mix.specs.Changes
+pub use Rattle.gain_mix.specs.Gain

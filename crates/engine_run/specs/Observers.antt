@@ -1,4 +1,4 @@
--- What a tap is told of a run.
+-- The events of a run of which an observer is notified.
 use Rattle.std.specs.Prelude.{◌≡◌, ℕ, List, [], ◌∷◌, ◌++◌, ℤ, Option, IfSome, IsSomeAnd}
 use Rattle.studio_session.specs.Event.{TraceEvent, Arrival, Reading, Closing}
 use Rattle.studio_session.specs.Fault.{time_after}

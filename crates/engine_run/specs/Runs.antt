@@ -1,6 +1,7 @@
--- What a run in one thread comes to.
+-- The result of a run in one thread.
 use Rattle.std.specs.Prelude.{◌≡◌, ℕ, ◌<◌, ◌^◌, true, false, None, List, [], ◌∷◌, ◌++◌, length, slice_get, ℤ, Option, Some}
 use Rattle.studio_config.specs.Studio.{Studio}
+use Rattle.studio_mix.specs.Changed.{with_changes}
 use Rattle.studio_session.specs.Fault.{session_fault_of}
 use Rattle.studio_session.specs.Report.{AreCounts}
 use Rattle.studio_session.specs.Run.{AreDatagrams}
@@ -41,6 +42,12 @@ module _ {F C K T : Type 0} where
     pub handed : Hands before datagrams (sink_handed state.sink)
     pub heard : Hears earlier (heard_by studio.open_at (events_by studio.open_at rounds)) (tap_heard state.tap)
 
+  -- on its way, of the studio with exactly the changes of gains that its source took since
+  pub record IsUnderWayWith (feed_told : F → List Answer) (clock_told : C → List ℤ) (sink_handed : K → Option (List (List ℕ))) (tap_heard : T → Option (List Heard)) (studio : Studio) (all : List (List (List Answer))) (clock : List ℤ) (before : Option (List (List ℕ))) (earlier : Option (List Heard)) (state : RunState F C K T) (first last : List (ℤ × List ℤ)) : Type 0 where
+    pub changes : List (ℤ × List ℤ)
+    pub taken : last ≡ first ++ changes
+    pub run : IsUnderWay feed_told clock_told sink_handed tap_heard (with_changes studio changes) all clock before earlier state
+
   -- and nothing has arrived since its last reading
   pub record IsTurned (feed_told : F → List Answer) (clock_told : C → List ℤ) (sink_handed : K → Option (List (List ℕ))) (tap_heard : T → Option (List Heard)) (studio : Studio) (all : List (List (List Answer))) (clock : List ℤ) (before : Option (List (List ℕ))) (earlier : Option (List Heard)) (state : RunState F C K T) : Type 0 where
     pub run : IsUnderWay feed_told clock_told sink_handed tap_heard studio all clock before earlier state
@@ -80,3 +87,9 @@ pub record IsSettledRun (studio : Studio) (all : List (List Answer)) (clock : Li
   pub count : length datagrams < 2 ^ 64 → report.blocks ≡ length datagrams
   pub handed : Hands before datagrams after
   pub heard : Hears earlier (heard_by studio.open_at (events_of studio rounds)) later
+
+-- a settled run that began with this studio: a settled run of the studio with exactly the changes of gains that its source took
+pub record IsSettledRunWith (studio : Studio) (all : List (List Answer)) (clock : List ℤ) (report : WorkReport) (before after : Option (List (List ℕ))) (earlier later : Option (List Heard)) (first last : List (ℤ × List ℤ)) : Type 0 where
+  pub changes : List (ℤ × List ℤ)
+  pub taken : last ≡ first ++ changes
+  pub run : IsSettledRun (with_changes studio changes) all clock report before after earlier later

@@ -17,7 +17,7 @@ pub(crate) struct FeedReader<F> {
 }
 
 impl<F: Drop> FeedReader<F> {
-    /// A reader of a feed that was not asked yet.
+    /// Returns a reader of a feed that was not asked yet.
     pub(crate) fn new(feed: F) -> FeedReader<F>
         ensures { result ≡ new_reader feed }
     {

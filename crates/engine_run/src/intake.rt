@@ -16,6 +16,7 @@ use studio_io::{Feed, FeedAnswer};
 const MAX_TAKEN: u32 = 64;
 
 /// The longest rest, in sampling instants at 48 kHz: 50 ms.
+// A feed that has nothing is asked again by then, so a run ends at most so long after its feeds.
 pub(crate) const LONGEST_REST: i64 = 2_400;
 
 /// The longest rest after a feed failed, in sampling instants at 48 kHz: 2 ms.

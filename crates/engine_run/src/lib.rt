@@ -1,12 +1,13 @@
 //! Runs an engine in one thread: datagrams of feeds go in, and the mix goes to a sink, by a clock.
 //!
-//! Begin with `run_engine`. It takes the `Feed`s, one per path, a `Clock`, a `Sink`, a `RunObserver`
-//! and an `IdleWait`. Each round
+//! Begin with `run_engine`. It takes the `Feed`s, one per path, a `Clock`, a `Sink`, a `RunObserver`,
+//! an `IdleWait` and a `GainSource`. Each round
 //!
-//! 1. reads the clock and sends what is due by then;
-//! 2. calls `before_wait` of the observer;
-//! 3. waits by the `IdleWait`;
-//! 4. takes at most 64 datagrams from each feed.
+//! 1. answers at most 64 requests of the `GainSource`;
+//! 2. reads the clock and sends what is due by then;
+//! 3. calls `before_wait` of the observer;
+//! 4. waits by the `IdleWait`;
+//! 5. takes at most 64 datagrams from each feed.
 //!
 //! The datagrams of a round are judged by the reading of that round, so none that came in time is
 //! late for the wait. If the `IdleWait` says that this reading is too old, they are judged by a new
@@ -14,16 +15,23 @@
 //!
 //! Once every feed has ended, the clock is read a last time, the engine is closed, and the remaining
 //! datagrams are sent. If the report is `settled`, there is one list of events for which the sink
-//! received the datagrams, the observer the arrivals, and the report the counts.
+//! received the datagrams, the observer the arrivals, and the report the counts. They are those of
+//! the studio with the changes of gains that the `GainSource` took.
+//!
+//! `answer_request` answers one request by an engine, for callers that have a loop of their own.
 #![tactic(auto)]
 
 mod feed_reader;
+mod gain_requests;
 mod intake;
+mod laws;
 mod observer;
 mod output;
 mod report;
 mod run;
 mod state;
 
+pub use gain_requests::answer_request;
+pub use laws::a_run_without_changes_is_one_of_its_studio;
 pub use observer::{NoObserver, RunObserver};
 pub use run::{IdleWait, run_engine};

@@ -3,7 +3,7 @@ ghost use Rattle.std.specs.Prelude.{◌≡◌, ℕ, ℤ, List, Option, true, len
 ghost use Rattle.studio_config.specs.Studio.{Studio};
 ghost use Rattle.studio_io.specs.Answers.{Answer};
 ghost use Rattle.studio_io.specs.Balances.{Balances};
-ghost use Rattle.engine_run.specs.Runs.{IsDone, IsSettledRun, IsUnderWay};
+ghost use Rattle.engine_run.specs.Runs.{IsDone, IsSettledRunWith, IsUnderWay, IsUnderWayWith};
 ghost use Rattle.engine_run.specs.Intake.{AllEnded};
 ghost use Rattle.engine_run.specs.Grouping.{path_total};
 ghost use Rattle.engine_run.specs.Observers.{Heard};
@@ -18,7 +18,7 @@ use std::alloc::{AllocError, Global};
 use std::sync::Wait;
 use studio_config::StudioSpec;
 use studio_engine::Engine;
-use studio_io::{Clock, Feed, SendCounts, Sink, WorkReport};
+use studio_io::{Clock, Feed, GainSource, MAX_GAINS, SendCounts, Sink, WorkReport};
 
 /// A way to wait until a feed may have a datagram.
 pub trait IdleWait: Drop {
@@ -36,7 +36,19 @@ pub trait IdleWait: Drop {
 /// is first read, and `AllocError` is returned if that fails. A run is settled unless there was not one feed for each
 /// path, or it took 2^62 events. If there are too few feeds the last paths have none, and feeds beyond the last path
 /// are not asked.
-pub fn run_engine<R: Wait, F: Feed, C: Clock, K: Sink, T: RunObserver<F>, P: IdleWait>(
+///
+/// In each round `gains` is asked for changes of gains, until it has no request or 64 were answered. A settled run is
+/// one of the studio with exactly the changes that were taken. Pass `NoGains` for a run whose gains change only as the
+/// studio says.
+pub fn run_engine<
+    R: Wait,
+    F: Feed,
+    C: Clock,
+    K: Sink,
+    T: RunObserver<F>,
+    P: IdleWait,
+    G: GainSource,
+>(
     rt: &R,
     alloc: Global,
     studio: &StudioSpec,
@@ -45,11 +57,12 @@ pub fn run_engine<R: Wait, F: Feed, C: Clock, K: Sink, T: RunObserver<F>, P: Idl
     sink: K,
     tap: T,
     rest: P,
-) -> Result<(WorkReport, K, T), AllocError>
+    gains: G,
+) -> Result<(WorkReport, K, T, G), AllocError>
     ensures balance { IfOk result (λ r. Balances r.0.blocks r.0.sent_a r.0.fault_a r.0.sent_b r.0.fault_b) }
     ensures settled { IfOk result (λ r. r.0.settled ≡ true
-        → IsSettledRun studio.now (map F.told feeds.items) (C.told clock) r.0 (K.handed sink) (K.handed r.1)
-        (T.heard tap) (T.heard r.2)) }
+        → IsSettledRunWith studio.now (map F.told feeds.items) (C.told clock) r.0 (K.handed sink) (K.handed r.1)
+        (T.heard tap) (T.heard r.2) (G.taken gains) (G.taken r.3)) }
     ensures feeds { IfOk result (λ r. r.0.settled ≡ true → length feeds.items ≡ path_total studio.now.streams) }
 {
     let specs = studio.streams();
@@ -65,31 +78,36 @@ pub fn run_engine<R: Wait, F: Feed, C: Clock, K: Sink, T: RunObserver<F>, P: Idl
         counts: SendCounts::new(),
     };
     let mut rest = rest;
-    let ended = run_rounds(rt, &mut state, &mut rest);
+    let mut gains = gains;
+    let ended = run_rounds(rt, &mut state, &mut rest, &mut gains);
     // The engine is closed also after rounds that stopped early, so that the sink gets the datagrams that are left.
     let settled = settle(&mut state) && ended;
     let whole = settled && fits;
-    work_report(alloc, state, specs, room, whole)
+    let (report, sink, tap) = work_report(alloc, state, specs, room, whole)?;
+    Ok((report, sink, tap, gains))
 }
 
 /// Makes rounds until all feeds have ended. Returns false if the engine stopped taking events before that.
-fn run_rounds<R: Wait, F: Feed, C: Clock, K: Sink, T: RunObserver<F>, P: IdleWait>(
+fn run_rounds<R: Wait, F: Feed, C: Clock, K: Sink, T: RunObserver<F>, P: IdleWait, G: GainSource>(
     rt: &R,
     state: &mut RunState<F, C, K, T>,
     rest: &mut P,
+    gains: &mut G,
 ) -> bool
     ensures on { result ≡ true → (studio : Studio) (all : List (List (List Answer))) (clock : List ℤ)
         (before : Option (List (List ℕ))) (earlier : Option (List Heard))
         → IsUnderWay F.told C.told K.handed T.heard studio all clock before earlier state.old
-        → IsUnderWay F.told C.told K.handed T.heard studio all clock before earlier state.new }
+        → IsUnderWayWith F.told C.told K.handed T.heard studio all clock before earlier state.new
+        (G.taken gains.old) (G.taken gains.new) }
     ensures ended { result ≡ true → AllEnded state.new.readers.items }
 {
     // The first round does not rest: no feed was asked yet.
     let mut most = 0;
     // The length for which `Feed::next` says what it gives.
     let mut buf = [0u8; MAX_ARRIVAL_OCTETS];
+    let mut room = [0i32; MAX_GAINS];
     for _ in rt.forever() {
-        match state.round(rest, most, &mut buf) {
+        match state.round(gains, &mut room, rest, most, &mut buf) {
             Ok(Some(instants)) => most = instants,
             Ok(None) => return true,
             Err(_) => return false,

@@ -3,11 +3,12 @@ ghost use Rattle.std.specs.Prelude.{◌≡◌, ◌≤ℤ◌, pos, ◌^◌, ℕ, 
 ghost use Rattle.studio_config.specs.Studio.{Studio};
 ghost use Rattle.studio_io.specs.Answers.{Answer};
 ghost use Rattle.studio_io.specs.Clocks.{time_with};
-ghost use Rattle.engine_run.specs.Runs.{IsTurned, IsUnderWay};
+ghost use Rattle.engine_run.specs.Runs.{IsTurned, IsUnderWay, IsUnderWayWith};
 ghost use Rattle.engine_run.specs.Intake.{AllEnded};
 ghost use Rattle.engine_run.specs.Observers.{Heard};
 
 use crate::feed_reader::{FeedReader, have_all_ended};
+use crate::gain_requests::ask_source;
 use crate::intake::take_all;
 use crate::observer::RunObserver;
 use crate::output::send_due;
@@ -15,7 +16,7 @@ use crate::run::IdleWait;
 use path_merge::ClockFault;
 use rtp_stream::MAX_TIME;
 use studio_engine::{ArriveFault, Engine};
-use studio_io::{Clock, Feed, SendCounts, Sink};
+use studio_io::{Clock, Feed, GainSource, SendCounts, Sink};
 
 /// The error of an engine that takes no more events: it has taken 2^62, or was passed a datagram of a path that it does
 /// not have.
@@ -47,6 +48,18 @@ pub(crate) struct RunState<F, C, K, T> {
 }
 
 impl<F: Feed, C: Clock, K: Sink, T: RunObserver<F>> RunState<F, C, K, T> {
+    /// Asks the source of gains for requests, at most 64, and answers each.
+    fn ask<G: GainSource>(&mut self, source: &mut G, room: &mut [i32])
+        requires room { length room.old ≡ 8192 }
+        ensures on { (studio : Studio) (all : List (List (List Answer))) (clock : List ℤ)
+            (before : Option (List (List ℕ))) (earlier : Option (List Heard))
+            → IsUnderWay F.told C.told K.handed T.heard studio all clock before earlier self.old
+            → IsUnderWayWith F.told C.told K.handed T.heard studio all clock before earlier self.new
+            (G.taken source.old) (G.taken source.new) }
+    {
+        ask_source(&mut self.engine, source, room);
+    }
+
     /// Reads the clock and sends the datagrams that are due by then.
     fn turn(&mut self) -> Result<(), EngineStopped>
         ensures on { OnOk result ((studio : Studio) (all : List (List (List Answer))) (clock : List ℤ)
@@ -102,24 +115,31 @@ impl<F: Feed, C: Clock, K: Sink, T: RunObserver<F>> RunState<F, C, K, T> {
         Ok(most)
     }
 
-    /// Makes one round: reads the clock, sends the datagrams that are due, notifies the observer, rests for at most
-    /// `most` sampling instants, and takes the datagrams of the feeds. Reads the clock again after the rest if it was
-    /// long.
+    /// Makes one round: answers the requests of the source of gains, reads the clock, sends the datagrams that are due,
+    /// notifies the observer, rests for at most `most` sampling instants, and takes the datagrams of the feeds. Reads
+    /// the clock again after the rest if it was long.
     ///
     /// Returns the time that the next round may rest, in sampling instants at 48 kHz; `None` if all feeds had ended.
-    pub(crate) fn round<P: IdleWait>(
+    pub(crate) fn round<G: GainSource, P: IdleWait>(
         &mut self,
+        source: &mut G,
+        room: &mut [i32],
         rest: &mut P,
         most: i64,
         buf: &mut [u8],
     ) -> Result<Option<i64>, EngineStopped>
         requires room { length buf.old ≡ 2048 }
+        requires gains { length room.old ≡ 8192 }
         ensures on { OnOk result ((studio : Studio) (all : List (List (List Answer))) (clock : List ℤ)
             (before : Option (List (List ℕ))) (earlier : Option (List Heard))
             → IsUnderWay F.told C.told K.handed T.heard studio all clock before earlier self.old
-            → IsUnderWay F.told C.told K.handed T.heard studio all clock before earlier self.new) }
+            → IsUnderWayWith F.told C.told K.handed T.heard studio all clock before earlier self.new
+            (G.taken source.old) (G.taken source.new)) }
         ensures ended { IfOk result (λ most. most ≡ None → AllEnded self.new.readers.items) }
     {
+        // Before the clock is read: a change that is asked for now is in force from the first block that this round
+        // sends.
+        self.ask(source, room);
         self.turn()?;
         if have_all_ended(self.readers.as_slice()) {
             return Ok(None);

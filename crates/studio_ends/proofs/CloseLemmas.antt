@@ -1,4 +1,4 @@
--- What a close and what comes after it do to a stream's end.
+-- The close of a stream's end, and the calls that come after it.
 use Rattle.std.proofs.Common.{◌≡◌, ℕ, suc, false, List, [], ◌∷◌, ◌++◌, length, take, ℤ, sym, ap, subst, ◌∙◌, append-nil}
 use Rattle.std.proofs.Math.Seq.{take-length}
 use Rattle.rtrb.specs.Ring.{sent}

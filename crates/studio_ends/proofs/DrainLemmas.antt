@@ -1,4 +1,4 @@
--- What a closed merge has left, one mark further.
+-- The marks that a closed merge has left, one mark further.
 use Rattle.std.proofs.Common.{◌≡◌, ◌≤◌, ◌+◌, ℕ, zero, suc, List, [], ◌∷◌, ◌++◌, length, take, drop, ℤ, Option, refl, sym, ap, subst, ◌∙◌, arith, append_assoc, append-nil, length-append}
 use Rattle.std.specs.Option.{option_to_list}
 use Rattle.rtrb.specs.Ring.{sent, SameProducer}

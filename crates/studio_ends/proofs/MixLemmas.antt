@@ -1,4 +1,4 @@
--- What a turn of the mixer's end comes to.
+-- The result of a turn of the mixer's end.
 use Rattle.std.proofs.Common.{◌≡◌, ℕ, ◌+◌, List, ◌++◌, drop, Option, Some, None, is_some, IfSome, refl, sym, subst, arith}
 use Rattle.mix_packets.specs.OutSpec.{datagram_length}
 use Rattle.studio_config.specs.Studio.{Studio}

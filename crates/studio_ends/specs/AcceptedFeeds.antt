@@ -1,4 +1,4 @@
--- What each stream's ring delivered of marks that are accepted.
+-- The accepted ones of the marks that each stream's ring delivered.
 use Rattle.std.specs.Prelude.{ℕ, List, [], ◌∷◌, length, sum_by}
 use Rattle.rtp_stream.specs.declared.stream_spec.Stream.{Stream}
 use Rattle.rtp_stream.specs.StreamSpecFacts.{format_of}

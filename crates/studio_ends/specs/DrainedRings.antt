@@ -1,4 +1,4 @@
--- Which rings are finished and drained.
+-- The rings of a list that are finished and drained.
 use Rattle.std.specs.Prelude.{◌≡◌, Bool, false, List, [], ◌∷◌, ◌↔◌, None, MatchOption, IsSomeAnd}
 use Rattle.rtrb.specs.Ring.{received, all_sent, SameConsumer}
 use Rattle.studio_ends.specs.DrainedRing.{IsDrained}

@@ -1,4 +1,4 @@
--- Which packets have a stream's length.
+-- The packets that have a stream's length.
 use Rattle.std.specs.Prelude.{nat_eq, List, [], ◌∷◌, length, if◌then◌else◌}
 use Rattle.rtp_stream.specs.declared.stream_spec.Stream.{Stream}
 use Rattle.rtp_stream.specs.StreamSpecFacts.{format_of}

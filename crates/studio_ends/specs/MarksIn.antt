@@ -1,4 +1,4 @@
--- What the parts of the mixer's turn do.
+-- The steps of the mixer's turn.
 use Rattle.std.specs.Prelude.{◌≡◌, ℕ, ◌+◌, ◌≤◌, ◌⊎◌, true, List, [], ◌∷◌, ◌++◌, length, ℤ, slice_get, slice_set, Some}
 use Rattle.rtrb.specs.Ring.{received, known_items, SameConsumer}
 use Rattle.rtp_stream.specs.declared.stream_spec.Stream.{Stream}

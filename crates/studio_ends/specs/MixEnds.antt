@@ -1,4 +1,4 @@
--- What a turn of the mixer's end does.
+-- The turn of the mixer's end.
 use Rattle.std.specs.Prelude.{◌≡◌, ℕ, ◌+◌, List, ◌++◌, drop, Option, Some, None, is_some, IfSome}
 use Rattle.mix_packets.specs.OutSpec.{datagram_length}
 use Rattle.mix_packets.specs.Block.{block_start}

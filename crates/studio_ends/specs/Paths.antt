@@ -1,4 +1,4 @@
--- What a path's end does with a datagram.
+-- The steps of a path's end with a datagram.
 use Rattle.std.specs.Prelude.{◌≡◌, ℕ, ◌<◌, ◌^◌, List, [], ◌∷◌, ◌++◌}
 use Rattle.rtrb.specs.Ring.{sent, known_free}
 use Rattle.rtp_stream.specs.declared.packet.Packet.{Packet}

@@ -1,4 +1,4 @@
--- What the parts of a stream's turn do.
+-- The steps of a stream's turn.
 use Rattle.std.specs.Prelude.{◌≡◌, ℕ, suc, ◌+◌, ◌≤◌, ◌<◌, false, List, [], ◌∷◌, ◌++◌, length, map, take, ℤ, ◌≤ℤ◌}
 use Rattle.rtrb.specs.Ring.{sent, received, known_items, SameConsumer, SameProducer}
 use Rattle.rtrb.specs.declared.producer.Producer.{Producer}

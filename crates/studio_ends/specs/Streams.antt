@@ -1,4 +1,4 @@
--- Which history a stream's end stands at, and what its calls add to it.
+-- The history of a stream's end, and the events that its calls add to it.
 use Rattle.std.specs.Prelude.{◌≡◌, ℕ, suc, ◌+◌, ◌<◌, ◌≤◌, false, nat_eq, List, [], ◌∷◌, ◌++◌, length, take, get_or, ℤ, ◌≤ℤ◌, if◌then◌else◌, ◌⊎◌}
 use Rattle.rtrb.specs.Ring.{sent, received, known_free, SameProducer}
 use Rattle.rtrb.specs.declared.producer.Producer.{Producer}

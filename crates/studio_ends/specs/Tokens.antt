@@ -1,4 +1,4 @@
--- What a token changes of the ends of rings.
+-- The change that a token makes to the ends of rings.
 use Rattle.std.specs.Prelude.{◌≡◌, ℕ, zero, suc, List, [], ◌∷◌, IsSome, IfSome}
 use Rattle.rtrb.specs.Ring.{all_sent}
 use Rattle.studio_ends.specs.declared.rings.TokenConsumer.{TokenConsumer}

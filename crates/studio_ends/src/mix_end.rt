@@ -7,7 +7,7 @@ use crate::mix_end::marks_in::take_streams;
 use crate::rings::drained::any_stream_open;
 use crate::rings::marks::MarkConsumer;
 use crate::stream_end::turns::StreamDone;
-use gain_mix::ChangeFault;
+use gain_mix::{ChangeFault, Matrix};
 use rtp_stats::MixStatsSender;
 use studio_mix::Mixer;
 
@@ -74,6 +74,8 @@ impl MixEnd {
       Some,
       true,
     };
+    ghost use Rattle.std.specs.Prelude.{◌≤ℤ◌};
+    ghost use Rattle.gain_mix.specs.Changes.{matrix_at};
     ghost use Rattle.mix_packets.specs.Block.{block_start};
     ghost use Rattle.mix_packets.specs.OutSpec.{datagram_length};
     ghost use Rattle.rtrb.specs.Ring.{all_sent, IsFinishedOf};
@@ -149,8 +151,17 @@ impl MixEnd {
         self.mixer.next_block_start()
     }
 
-    /// Changes the gains: from `at` on, in sampling instants of the media clock, these are in force, in place of all
-    /// that was to change from then on. They are in units of 1/65,536, row by row, a row for each output channel.
+    /// Returns the gains in force at a media time that is not before the next block.
+    pub fn gains(&self, at: i64) -> &Matrix
+        ensures value { result.now ≡ matrix_at self.now.mixer.schedule at }
+        ensures stands { (studio : Studio) (number : ℕ) → MixHasFeeds studio self.now number
+            → block_start studio.output number ≤ℤ at → result.now ≡ matrix_at studio.schedule at }
+    {
+        self.mixer.gains(at)
+    }
+
+    /// Changes the gains: from `at` on, in sampling instants of the media clock, these are in force. They replace every
+    /// change that was planned from then on. They are in units of 1/65,536, row by row, a row for each output channel.
     ///
     /// `at` is not before `next_block_start`, so no datagram that was written changes. Up to 64 changes may be to
     /// come. An error changes nothing.

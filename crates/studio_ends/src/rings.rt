@@ -34,7 +34,7 @@ pub(crate) mod packet_cell;
 pub(crate) mod packets;
 mod payload_cell;
 
-/// The popping end of a ring, with the token of the pushing end once it was handed in.
+/// The popping end of a ring, with the token of the pushing end once it was passed in.
 #[derive(Drop)]
 pub struct TokenConsumer<T> {
     pub(crate) ring: Consumer<T>,
@@ -43,7 +43,7 @@ pub struct TokenConsumer<T> {
 }
 
 impl<T: Drop> TokenConsumer<T> {
-    /// A popping end over this ring, without a token.
+    /// Returns a popping end over this ring, without a token.
     pub(crate) fn new(ring: Consumer<T>) -> TokenConsumer<T>
         ensures { (result.ring ≡ ring) × (result.done ≡ None) }
     {

@@ -1,4 +1,4 @@
--- How the counts of datagrams balance.
+-- The balance of the counts of datagrams.
 use Rattle.std.specs.Prelude.{◌≡◌, ◌+◌, ℕ}
 
 -- each datagram was sent to an address, or failed there

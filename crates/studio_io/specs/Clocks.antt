@@ -1,4 +1,4 @@
--- What a clock tells.
+-- The readings of a clock.
 use Rattle.std.specs.Prelude.{◌≡◌, ◌^◌, List, [], ◌∷◌, ℤ, pos}
 use Rattle.std.specs.Int.{int_max, int_min}
 

@@ -4,6 +4,10 @@ pub mod Clocks
 pub mod Sinks
 pub mod Balances
 pub mod Memory
+pub mod Gains
 pub use Rattle.rtp_stream.specs.Reception
 pub use Rattle.rtp_stream.specs.PathCounts
 pub use Rattle.rtp_stream.specs.Marks
+pub use Rattle.gain_mix.specs.Gain
+pub use Rattle.gain_mix.specs.Changes
+pub use Rattle.gain_mix.specs.Live

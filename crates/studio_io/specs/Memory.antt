@@ -1,4 +1,4 @@
--- What a feed and a sink in memory tell.
+-- The contents of a feed and a sink in memory.
 use Rattle.std.specs.Prelude.{ℕ, List, [], ◌∷◌, ◌++◌, map, take}
 use Rattle.std.specs.declared.vec.Vec.{Vec}
 use Rattle.std.specs.declared.alloc.Global.{Global}

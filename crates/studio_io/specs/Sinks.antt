@@ -1,4 +1,4 @@
--- What a sink tells of the datagrams that it was handed.
+-- The datagrams that a sink was passed.
 use Rattle.std.specs.Prelude.{◌≡◌, ℕ, List, ◌++◌, Option, IfSome, IsSomeAnd}
 
 -- where a sink tells at the end, it told at the beginning, and was handed these datagrams since

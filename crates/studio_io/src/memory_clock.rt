@@ -13,7 +13,7 @@ pub struct MemoryClock<'a> {
 }
 
 impl<'a> MemoryClock<'a> {
-    /// A clock that returns these readings, in sampling instants at 48 kHz.
+    /// Returns a clock with these readings, in sampling instants at 48 kHz.
     pub fn new(readings: &'a [i64]) -> MemoryClock<'a>
         ensures { drop result.next result.readings.now ≡ readings.now }
     {

@@ -26,7 +26,7 @@ impl<'a> Model for MemoryFeed<'a> {
 }
 
 impl<'a> MemoryFeed<'a> {
-    /// A feed that has given none of these datagrams yet.
+    /// Returns a feed that has given none of these datagrams yet.
     pub fn new(datagrams: &'a [Vec<u8>]) -> MemoryFeed<'a>
         ensures { result ≡ told_of datagrams.now }
     {

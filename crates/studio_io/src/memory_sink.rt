@@ -26,7 +26,7 @@ impl Model for MemorySink {
 }
 
 impl MemorySink {
-    /// A sink that was passed no datagram yet.
+    /// Returns a sink that was passed no datagram yet.
     pub fn new(alloc: Global) -> MemorySink
         ensures { result ≡ Some [] }
     {

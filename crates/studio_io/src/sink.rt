@@ -40,7 +40,7 @@ pub struct SendCounts {
 }
 
 impl SendCounts {
-    /// The counts of a sink that was passed no datagram yet.
+    /// Returns the counts of a sink that was passed no datagram yet.
     pub fn new() -> SendCounts
         ensures { result.blocks ≡ 0 }
     {

@@ -1,5 +1,6 @@
 pub mod FeedLemmas
 pub mod StreamTurnLemmas
+pub mod GainRequestLemmas
 pub mod MixWorkerLemmas
 pub mod StreamTokenLemmas
 pub mod ZipLemmas

@@ -1,5 +1,5 @@
--- What the mixer's worker gave, turn by turn.
-use Rattle.std.proofs.Common.{◌≡◌, ℕ, ◌+◌, ◌<◌, ◌^◌, Bool, true, false, List, [], ◌∷◌, ◌++◌, length, take, Option, Some, None, is_some, IfSome, refl, sym, ap, subst, ◌∙◌, arith, append_assoc, append-nil, length-append}
+-- The datagrams that the mixer's worker gave, turn by turn.
+use Rattle.std.proofs.Common.{◌≡◌, ℕ, ◌+◌, ◌<◌, ◌^◌, Bool, true, false, ℤ, List, [], ◌∷◌, ◌++◌, length, take, Option, Some, None, is_some, IfSome, refl, sym, ap, subst, ◌∙◌, arith, append_assoc, append-nil, length-append, vec_items}
 use Rattle.rtrb.specs.Ring.{SameConsumer}
 use Rattle.rtrb.specs.declared.consumer.Consumer.{Consumer}
 use Rattle.rtp_stream.specs.MarkFacts.{MarkView}
@@ -12,7 +12,10 @@ use Rattle.studio_ends.specs.declared.rings.TokenConsumer.{TokenConsumer}
 use Rattle.studio_ends.specs.declared.mix_end.MixNote.{MixNote}
 use Rattle.studio_ends.specs.declared.mix_end.MixEnd.{MixEnd}
 use Rattle.studio_io.specs.Sinks.{Hands}
-use Rattle.studio_rings.specs.MixWorker.{AreSameSides, Mixes}
+use Rattle.studio_mix.specs.Changed.{with_changes}
+use Rattle.studio_rings.specs.GainRequests.{TakesChanges}
+use Rattle.studio_rings.specs.MixWorker.{AreSameSides, Mixes, MixesWith}
+use Rattle.studio_rings.proofs.GainRequestLemmas.{more_taken, no_more, with_changes-append}
 
 consumers : {T A P : Type 0} (a b c : Consumer T A P) → SameConsumer a b → SameConsumer b c → SameConsumer a c
 consumers a b c f g = ((g.0.0 ∙ f.0.0, g.0.1 ∙ f.0.1, g.0.2 ∙ f.0.2, g.0.3 ∙ f.0.3), g.1 ∙ f.1)
@@ -122,3 +125,61 @@ module _ {K : Type 0} (handed : K → Option (List (List ℕ))) where
         (one_given _ studio t before new_out size note.len some size_is (mixes studio (length before) h.feeds).datagram (gives studio before h));
     all = λ e. absurd (cc);
   }
+
+  -- before the first turn
+  pub with-none : (s : MixEnd) (sink : K) (n : ℕ) (taken : List (ℤ × List ℤ)) → MixesWith handed s sink n false s sink n taken taken
+  with-none s sink n taken = let none = mixes-none s sink n in
+      record { changes = []; taken = sym (append-nil taken); datagrams = none.datagrams; count = none.count; hands = none.hands; rings = none.rings; given = none.given; all = none.all }
+
+  -- changes, and then a turn
+  pub with-turn : (s t u : MixEnd) (sink new_sink : K) (n m : ℕ) (idle : Bool) (first last : List (ℤ × List ℤ)) → TakesChanges s t first last → Mixes handed t sink n idle u new_sink m
+      → MixesWith handed s sink n idle u new_sink m first last
+  with-turn s t u sink new_sink n m idle first last h k = record {
+    changes = h.changes;
+    taken = h.taken;
+    datagrams = k.datagrams;
+    count = k.count;
+    hands = k.hands;
+    rings = subst (λ sides. AreSameSides (vec_items sides) u.sides.items) h.sides k.rings;
+    given = λ studio before g. k.given (with_changes studio h.changes) before (h.given studio before g);
+    all = λ e studio before g. k.all e (with_changes studio h.changes) before (h.given studio before g);
+  }
+
+  pub with-more : (s t u : MixEnd) (sink then_sink last_sink : K) (n m k : ℕ) (idle now_idle : Bool) (a b c : List (ℤ × List ℤ))
+      → MixesWith handed s sink n idle t then_sink m a b → MixesWith handed t then_sink m now_idle u last_sink k b c → MixesWith handed s sink n now_idle u last_sink k a c
+  with-more s t u sink then_sink last_sink n m k idle now_idle a b c f g = record {
+    changes = f.changes ++ g.changes;
+    taken = more_taken a b c f.changes g.changes f.taken g.taken;
+    datagrams = f.datagrams ++ g.datagrams;
+    count = λ few.
+        let l = length-append f.datagrams g.datagrams in
+        let p = f.count (omega (arith, few, l)) in
+        let q = g.count (omega (arith, few, p, l)) in
+        omega (arith, p, q, l);
+    hands = hands-more (handed sink) (handed then_sink) (handed last_sink) f.datagrams g.datagrams f.hands g.hands;
+    rings = rings-trans s.sides.items t.sides.items u.sides.items f.rings g.rings;
+    given = λ studio before h.
+        subst (λ (x : Studio). HasGiven x u (before ++ (f.datagrams ++ g.datagrams))) (with_changes-append studio f.changes g.changes)
+        (subst (HasGiven (with_changes (with_changes studio f.changes) g.changes) u) (append_assoc before f.datagrams g.datagrams) (g.given (with_changes studio f.changes) (before ++ f.datagrams) (f.given studio before h)));
+    all = λ e studio before h.
+        subst (λ (x : Studio). AreAllGiven x u (before ++ (f.datagrams ++ g.datagrams))) (with_changes-append studio f.changes g.changes)
+        (subst (AreAllGiven (with_changes (with_changes studio f.changes) g.changes) u) (append_assoc before f.datagrams g.datagrams) (g.all e (with_changes studio f.changes) (before ++ f.datagrams) (f.given studio before h)));
+  }
+
+  -- whether or not it found nothing
+  pub with-on : (s t : MixEnd) (sink new_sink : K) (n m : ℕ) (idle : Bool) (a b : List (ℤ × List ℤ)) → MixesWith handed s sink n idle t new_sink m a b → MixesWith handed s sink n false t new_sink m a b
+  with-on s t sink new_sink n m idle a b h =
+      record { changes = h.changes; taken = h.taken; datagrams = h.datagrams; count = h.count; hands = h.hands; rings = h.rings; given = h.given; all = λ e. absurd (cc) }
+
+  -- a worker whose source took no change
+  pub mixes-unchanged : (s t : MixEnd) (sink new_sink : K) (n m : ℕ) (idle : Bool) (taken : List (ℤ × List ℤ)) → MixesWith handed s sink n idle t new_sink m taken taken → Mixes handed s sink n idle t new_sink m
+  mixes-unchanged s t sink new_sink n m idle taken h =
+      let none : h.changes ≡ [] = no_more taken h.changes h.taken in
+      record {
+        datagrams = h.datagrams;
+        count = h.count;
+        hands = h.hands;
+        rings = h.rings;
+        given = λ studio before g. subst (λ changes. HasGiven (with_changes studio changes) t (before ++ h.datagrams)) none (h.given studio before g);
+        all = λ e studio before g. subst (λ changes. AreAllGiven (with_changes studio changes) t (before ++ h.datagrams)) none (h.all e studio before g);
+      }

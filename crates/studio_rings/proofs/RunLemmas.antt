@@ -1,4 +1,4 @@
--- What a settled run comes to, of what its workers came to.
+-- The result of a settled run, by the results of its workers.
 use Rattle.std.proofs.Common.{◌≡◌, ℕ, ◌-◌, ◌^◌, true, List, [], ◌∷◌, ◌++◌, length, map, vec_len, ℤ, pos, ◌≤ℤ◌, Option, IfSome, refl, sym, ap, subst, ◌∙◌, arith, length-append}
 use Rattle.std.proofs.lemmas.List.Sums.{sum_by-cons}
 use Rattle.std.specs.List.{AllZip}
@@ -15,6 +15,7 @@ use Rattle.studio_config.specs.Studio.{Studio}
 use Rattle.studio_mix.specs.Feed.{Feed}
 use Rattle.rtp_stream.specs.declared.stream_counts.StreamCounts.{StreamCounts}
 use Rattle.studio_mix.specs.Blocks.{AreBlocks}
+use Rattle.studio_mix.specs.Changed.{with_changes}
 use Rattle.studio_ends.specs.Datagrams.{AreAllGiven}
 use Rattle.studio_ends.specs.FreshEnds.{AllFreshPaths, AllFreshRings, AllFreshStreams, AreFreshRings, AreOpened, IsFreshStream}
 use Rattle.studio_ends.specs.declared.ends.Ends.{Ends}
@@ -26,8 +27,8 @@ use Rattle.studio_ends.specs.declared.stream_end.StreamEnd.{StreamEnd}
 use Rattle.studio_ends.specs.declared.mix_end.MixEnd.{MixEnd}
 use Rattle.studio_io.specs.Answers.{Answer}
 use Rattle.studio_io.specs.declared.report.WorkReport.{WorkReport}
-use Rattle.studio_rings.specs.MixWorker.{Mixes}
-use Rattle.studio_rings.specs.Runs.{HaveStreamHistories, IsSettledRun, feeds_of}
+use Rattle.studio_rings.specs.MixWorker.{MixesWith}
+use Rattle.studio_rings.specs.Runs.{HaveStreamHistories, IsSettledRun, IsSettledRunWith, feeds_of}
 use Rattle.studio_rings.specs.StreamTokens.{AllGiveTokens, AllTellMarks, AreTold}
 use Rattle.studio_rings.specs.declared.jobs.PathJob.{PathJob}
 use Rattle.studio_rings.proofs.StreamTokenLemmas.{AreTokensFor}
@@ -37,6 +38,7 @@ use Rattle.studio_rings.specs.StreamWorkers.{AllReady, ArePairs, HasMarks, IsStr
 use Rattle.studio_rings.specs.declared.jobs.StreamJob.{StreamJob}
 use Rattle.studio_rings.specs.declared.jobs.StreamResult.{StreamResult}
 use Rattle.studio_rings.proofs.EndLemmas.{some_of}
+use Rattle.studio_rings.proofs.GainRequestLemmas.{no_more}
 use Rattle.studio_rings.proofs.JobLemmas.{cut_once, map_length}
 
 module _ {F : Type 0} where
@@ -178,25 +180,35 @@ module _ {F C : Type 0} where
       }
 
   -- a settled run
-  pub settled-run : {K : Type 0} (told : F → List Answer) (clock_told : C → List ℤ) (handed : K → Option (List (List ℕ))) (studio : Studio) (places : ℕ) (ends : Ends) (feeds : List F) (clocks : List C) (jobs : List (StreamJob F C)) (results : List StreamResult) (end : MixEnd) (sink new_sink : K) (report : WorkReport)
+  pub settled-run : {K : Type 0} (told : F → List Answer) (clock_told : C → List ℤ) (handed : K → Option (List (List ℕ))) (studio : Studio) (places : ℕ) (ends : Ends) (feeds : List F) (clocks : List C) (jobs : List (StreamJob F C)) (results : List StreamResult) (end : MixEnd) (sink new_sink : K) (report : WorkReport) (first last : List (ℤ × List ℤ))
       → AreOpenedTogether studio places ends → AreJobsOf ends.paths.items feeds clocks ends.streams.items jobs → AllZip (IsStreamResult told clock_told) jobs results
-      → report.streams.items ≡ counts_in results → Mixes handed ends.mix sink 0 true end new_sink report.blocks → AllGiveTokens (dones_in results)
+      → report.streams.items ≡ counts_in results → MixesWith handed ends.mix sink 0 true end new_sink report.blocks first last → AllGiveTokens (dones_in results)
       → ((studio : Studio) (feeds : List Feed) (datagrams : List (List ℕ)) → AreTold studio (dones_in results) feeds → AreAllGiven studio end datagrams → AreBlocks studio feeds datagrams)
-      → IsSettledRun studio places (map told feeds) (map clock_told clocks) report (handed sink) (handed new_sink)
-  settled-run told clock_told handed studio places ends feeds clocks jobs results end sink new_sink report opened h zip streams mixes tokens settles =
+      → IsSettledRunWith studio places (map told feeds) (map clock_told clocks) report (handed sink) (handed new_sink) first last
+  settled-run told clock_told handed studio places ends feeds clocks jobs results end sink new_sink report first last opened h zip streams mixes tokens settles =
       let paths = ends.paths.items in
       let own = ends.streams.items in
       let fresh = fresh_jobs studio.open_at places studio.streams paths feeds clocks own jobs opened.streams h in
       let room = have-places studio.open_at places studio.streams paths own opened.monitors ends.mix.sides.items opened.streams opened.rings in
       let all = have_all told clock_told studio.open_at places studio.streams paths feeds clocks own jobs results fresh room h zip tokens in
       record {
-        histories = all.histories;
-        streams = subst (λ (l : List StreamCounts). HaveStreamHistories studio.open_at places studio.streams (map told feeds) (map clock_told clocks) l all.histories) (sym streams) all.streams;
-        datagrams = mixes.datagrams;
-        blocks = settles studio (feeds_of studio.open_at studio.streams all.histories) mixes.datagrams (all.of_these, all.tells) (mixes.all refl studio [] opened.mix);
-        count = λ few. let n = mixes.count (omega (arith, few)) in omega (arith, n);
-        handed = mixes.hands;
+        changes = mixes.changes;
+        taken = mixes.taken;
+        run = record {
+          histories = all.histories;
+          streams = subst (λ (l : List StreamCounts). HaveStreamHistories studio.open_at places studio.streams (map told feeds) (map clock_told clocks) l all.histories) (sym streams) all.streams;
+          datagrams = mixes.datagrams;
+          blocks = settles (with_changes studio mixes.changes) (feeds_of studio.open_at studio.streams all.histories) mixes.datagrams (all.of_these, all.tells) (mixes.all refl studio [] opened.mix);
+          count = λ few. let n = mixes.count (omega (arith, few)) in omega (arith, n);
+          handed = mixes.hands;
+        };
       }
+
+-- a settled run that took no change is one of its studio
+pub settled-unchanged : (studio : Studio) (places : ℕ) (told : List (List Answer)) (clocks : List (List ℤ)) (report : WorkReport) (before after : Option (List (List ℕ))) (taken : List (ℤ × List ℤ))
+    → IsSettledRunWith studio places told clocks report before after taken taken → IsSettledRun studio places told clocks report before after
+settled-unchanged studio places told clocks report before after taken h =
+    subst (λ changes. IsSettledRun (with_changes studio changes) places told clocks report before after) (no_more taken h.changes h.taken) h.run
 
 -- where there were no results before
 pub zip_after : {A B : Type 0} (R : A → B → Type 0) (xs : List A) (before own all : List B) → before ≡ [] → all ≡ before ++ own → AllZip R xs own → AllZip R xs all

@@ -1,6 +1,7 @@
 pub mod PathWorkers
 pub mod ClockTurns
 pub mod Turns
+pub mod GainRequests
 pub mod MixWorker
 pub mod StreamTokens
 pub mod Runs
@@ -24,3 +25,7 @@ pub mod StreamResults
 pub use Rattle.studio_io.specs.Balances
 pub use Rattle.rtp_stream.specs.Reception
 pub use Rattle.studio_ends.specs.FreshEnds
+pub use Rattle.studio_mix.specs.Changed
+pub use Rattle.studio_io.specs.Gains
+pub use Rattle.gain_mix.specs.Changes
+pub use Rattle.gain_mix.specs.Gain

@@ -1,4 +1,4 @@
--- What a path's worker sends of what its feed gives.
+-- The packets of a feed that a path's worker sends.
 use Rattle.std.specs.Prelude.{◌≡◌, ℕ, ◌+◌, ◌-◌, ◌*◌, ◌<◌, ◌≤◌, ◌^◌, List, [], ◌∷◌, ◌++◌, length, ◌⊎◌, true, IfSome}
 use Rattle.rtrb.specs.Ends.{SameRing}
 use Rattle.rtrb.specs.Ring.{all_sent, sent, SameProducer}

@@ -1,4 +1,4 @@
--- What a run's report says of the streams' histories and of the datagrams.
+-- The streams' histories and the datagrams of a run, as its report has them.
 use Rattle.std.specs.Prelude.{◌≡◌, ℕ, suc, ◌-◌, ◌*◌, ◌<◌, ◌≤◌, ◌^◌, true, List, [], ◌∷◌, ◌++◌, length, sum_by, ℤ, Option}
 use Rattle.rtp_stream.specs.declared.stream_spec.Stream.{Stream}
 use Rattle.rtp_stream.specs.History.{is_closed, is_well_timed}
@@ -7,6 +7,7 @@ use Rattle.rtp_stream.specs.Counts.{counts_of, tally_of}
 use Rattle.rtp_stream.specs.declared.event.Event.{Event}
 use Rattle.rtp_stream.specs.declared.event.Event.TheVariants.{Close}
 use Rattle.studio_config.specs.Studio.{Studio}
+use Rattle.studio_mix.specs.Changed.{with_changes}
 use Rattle.studio_mix.specs.Feed.{Feed}
 use Rattle.studio_mix.specs.Blocks.{AreBlocks}
 use Rattle.rtp_stream.specs.PathCounts.{empty_path_tally, path_tally_of}
@@ -77,3 +78,9 @@ pub record IsSettledRun (studio : Studio) (places : ℕ) (told : List (List Answ
   pub blocks : AreBlocks studio (feeds_of studio.open_at studio.streams histories) datagrams
   pub count : length datagrams < 2 ^ 64 → report.blocks ≡ length datagrams
   pub handed : Hands before datagrams after
+
+-- a settled run that began with this studio: a settled run of the studio with exactly the changes of gains that its source took
+pub record IsSettledRunWith (studio : Studio) (places : ℕ) (told : List (List Answer)) (clocks : List (List ℤ)) (report : WorkReport) (before after : Option (List (List ℕ))) (first last : List (ℤ × List ℤ)) : Type 0 where
+  pub changes : List (ℤ × List ℤ)
+  pub taken : last ≡ first ++ changes
+  pub run : IsSettledRun (with_changes studio changes) places told clocks report before after

@@ -1,4 +1,4 @@
--- How a stream's worker closes its end, and hands on what is left.
+-- The close of a stream's end by its worker, and the marks that are passed on after it.
 use Rattle.std.specs.Prelude.{◌≡◌, false, List, ◌∷◌, [], ◌++◌, ℤ, Option, IfSome}
 use Rattle.rtrb.specs.Ring.{sent, producer_capacity, SameProducer, Finishes as Ends}
 use Rattle.rtp_stream.specs.declared.stream_spec.Stream.{Stream}

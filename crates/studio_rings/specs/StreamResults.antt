@@ -1,4 +1,4 @@
--- What the results of all streams come to.
+-- The results of all streams together.
 use Rattle.std.specs.Prelude.{ℕ, List, [], map, vec_len, sum_by, Option}
 use Rattle.studio_config.specs.Studio.{Studio}
 use Rattle.studio_ends.specs.Datagrams.{HasGiven}

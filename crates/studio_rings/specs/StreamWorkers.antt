@@ -1,4 +1,4 @@
--- What a stream's worker starts from, and what it comes to.
+-- The job of a stream's worker, and its result.
 use Rattle.std.specs.Prelude.{◌≡◌, ℕ, ◌<◌, ◌≤◌, ◌^◌, Bool, true, false, List, [], ◌∷◌, ◌++◌, length, map, slice_get, ℤ, pos, ◌≤ℤ◌, vec_len, vec_capacity, Option, Some, None, IsSome, IfSome}
 use Rattle.rtrb.specs.Ends.{SameRing}
 use Rattle.rtrb.specs.Ring.{all_sent, producer_capacity, IsFinishedOf, IsPair}

@@ -1,4 +1,4 @@
--- What the turns of a stream's worker come to.
+-- The turns of a stream's worker.
 use Rattle.std.specs.Prelude.{◌≡◌, ◌⊎◌, ℕ, suc, ◌+◌, ◌≤◌, true, false, List, [], ◌∷◌, ◌++◌, length, ℤ, ◌≤ℤ◌, IfSome}
 use Rattle.rtrb.specs.Ring.{all_sent, known_free, sent, producer_capacity, SameConsumer, SameProducer}
 use Rattle.rtp_stream.specs.declared.stream_spec.Stream.{Stream}

@@ -203,7 +203,7 @@ pub(crate) fn stream_jobs<F: Drop, C: Drop>(
     let mut feeds = feeds.into_iter();
     let mut clocks = clocks.into_iter();
     for end in streams {
-        // The lists are lent to a function for each stream, since each `?` takes the longer to prove the more is held.
+        // A function for each stream borrows the lists: the more is held across a `?`, the longer it takes to prove.
         let job = next_job(alloc, end, &mut paths, &mut feeds, &mut clocks)?;
         jobs.push_reserved(job);
     }

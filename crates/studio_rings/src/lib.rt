@@ -4,9 +4,11 @@
 //!    counts are to be read during the run.
 //! 2. `run_workers` takes the ends, a `Feed` for each path, stream by stream and path by path, a
 //!    `Clock` for each stream, and a `Sink`. It returns once every feed has ended and every datagram
-//!    was sent, with a `WorkReport` and the sink.
+//!    was sent, with a `WorkReport` and the sink. `run_workers_with_gains` also asks a `GainSource`
+//!    for changes of gains while it runs.
 //!
-//! If the report is `settled`, the sink was given the datagrams of exactly the ready blocks.
+//! If the report is `settled`, the sink was given the datagrams of exactly the ready blocks, of the
+//! studio with the changes of gains that were taken.
 //!
 //! Each worker is also a function or type of its own, for callers that start threads themselves:
 //!
@@ -14,8 +16,11 @@
 //!   ring.
 //! - `ClockedStream` is the end of a stream with its clock. `turn` goes to the greatest clock reading
 //!   so far, and `try_close` closes the stream once everything that its paths sent was taken.
-//! - `run_mixer` passes each datagram of the mixer to the sink. `is_settled_with` returns whether
-//!   everything that the streams' tokens report reached the mixer.
+//! - `run_mixer` passes each datagram of the mixer to the sink, and `run_mixer_with_gains` also asks
+//!   a `GainSource`. `answer_request` answers one request by the mixer's end. `is_settled_with`
+//!   returns whether everything that the streams' tokens report reached the mixer.
+//!
+//! This crate also exports the ends of the rings, and the devices and the report of a run.
 #![tactic(auto)]
 
 mod jobs;
@@ -27,10 +32,18 @@ mod tokens;
 mod worker;
 
 pub use jobs::{PathJob, PathResult};
-pub use run::run_workers;
-pub use studio_io::{Clock, Feed, FeedAnswer, SendAnswer, SendCounts, Sink, WorkFault, WorkReport};
+pub use run::{run_workers, run_workers_with_gains};
+pub use studio_ends::{
+    Ends, MixEnd, MixNote, MonitorEnd, Offer, OpenFault, PathCounts, PathDone, PathEnd, PathsOpen,
+    StatsReceivers, StopReason, StreamDone, StreamEnd, TurnNote, open, open_with_stats,
+};
+pub use studio_io::{
+    Clock, Feed, FeedAnswer, GainAction, GainAnswer, GainRequest, GainSource, NoGains, SendAnswer,
+    SendCounts, Sink, WorkFault, WorkReport,
+};
 pub use tokens::is_settled_with;
 pub use worker::Backoff;
 pub use worker::clocked_stream::ClockedStream;
-pub use worker::mixer::{MixResult, run_mixer};
+pub use worker::gain_requests::answer_request;
+pub use worker::mixer::{MixResult, run_mixer, run_mixer_with_gains};
 pub use worker::path::run_path;

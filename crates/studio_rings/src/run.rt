@@ -7,7 +7,7 @@ ghost use Rattle.studio_mix.specs.Blocks.{AreBlocks};
 ghost use Rattle.studio_ends.specs.Datagrams.{AreAllGiven};
 ghost use Rattle.studio_ends.specs.FreshEnds.{AllFreshStreams};
 ghost use Rattle.studio_io.specs.Balances.{Balances};
-ghost use Rattle.studio_rings.specs.Runs.{IsSettledRun};
+ghost use Rattle.studio_rings.specs.Runs.{IsSettledRun, IsSettledRunWith};
 ghost use Rattle.studio_rings.specs.StreamTokens.{AllGiveTokens, AreAllDrained, AreTokensOf, AreTold};
 ghost use Rattle.studio_rings.specs.Jobs.{AreJobsOf, HaveRoom};
 ghost use Rattle.studio_rings.specs.StreamResults.{AreOpenedTogether};
@@ -16,13 +16,13 @@ use crate::jobs::{StreamJob, StreamResult, stream_jobs, unset_flags};
 use crate::results::{RunResults, collect_results, reserve_results};
 use crate::stream_threads::run_streams;
 use crate::tokens::is_settled_with;
-use crate::worker::mixer::MixResult;
+use crate::worker::mixer::{MixResult, MixWorker};
 use std::alloc::{AllocError, Global};
 use std::sync::Wait;
 use std::sync::atomic::AtomicBool;
 use std::thread::Threads;
 use studio_ends::{Ends, PathEnd, StreamEnd};
-use studio_io::{Clock, Feed, Sink, WorkFault, WorkReport};
+use studio_io::{Clock, Feed, GainSource, NoGains, SendCounts, Sink, WorkFault, WorkReport};
 
 /// The jobs of the workers, and the room for all their results.
 #[derive(Drop)]
@@ -149,6 +149,38 @@ pub fn run_workers<R: Threads + Wait + Sync, F: Feed + Send, C: Clock + Send, K:
         → IsSettledRun studio places (map F.told feeds.items) (map C.told clocks.items) r.0 (K.handed sink)
         (K.handed r.1)) }
 {
+    let (report, sink, _) = run_workers_with_gains(rt, alloc, ends, feeds, clocks, sink, NoGains)?;
+    Ok((report, sink))
+}
+
+/// Runs the workers as `run_workers` does. Before each turn of the mixer `gains` is asked for changes of gains, in the
+/// calling thread, until it has no request or 64 were answered. A settled run is one of the studio with exactly the
+/// changes that it took.
+pub fn run_workers_with_gains<
+    R: Threads + Wait + Sync,
+    F: Feed + Send,
+    C: Clock + Send,
+    K: Sink,
+    G: GainSource,
+>(
+    rt: &R,
+    alloc: Global,
+    ends: Ends,
+    feeds: Vec<F>,
+    clocks: Vec<C>,
+    sink: K,
+    gains: G,
+) -> Result<(WorkReport, K, G), WorkFault>
+    requires opened { (studio : Studio) × (places : ℕ) × IsStudio studio × AreOpenedTogether studio places ends }
+    requires feeds { length feeds.items ≡ length ends.paths.items }
+    requires clocks { length clocks.items ≡ length ends.streams.items }
+    ensures balance { IfOk result (λ r. Balances r.0.blocks r.0.sent_a r.0.fault_a r.0.sent_b r.0.fault_b) }
+    ensures faults { IfOk result (λ r. length r.0.feed_faults.items ≡ length feeds.items) }
+    ensures settled { IfOk result (λ r. r.0.settled ≡ true → (studio : Studio) (places : ℕ)
+        → AreOpenedTogether studio places ends
+        → IsSettledRunWith studio places (map F.told feeds.items) (map C.told clocks.items) r.0 (K.handed sink)
+        (K.handed r.1) (G.taken gains) (G.taken r.2)) }
+{
     let Ends {
         paths,
         streams,
@@ -164,9 +196,17 @@ pub fn run_workers<R: Threads + Wait + Sync, F: Feed + Send, C: Clock + Send, K:
     } = memory;
     // Set by the first worker that cannot start a thread. Every worker reads it between its steps.
     let stop = AtomicBool::new(false);
-    let Ok((results, mixed)) = run_streams(rt, jobs, results, mix, sink, &ended, &stop) else {
+    let mixed = MixResult {
+        end: mix,
+        sink,
+        counts: SendCounts::new(),
+    };
+    let task = MixWorker { mixed, gains };
+    let Ok((results, done)) = run_streams(rt, jobs, results, task, &ended, &stop) else {
         return Err(WorkFault::Start);
     };
+    let MixWorker { mixed, gains } = done;
     let parts = collect_results(results, parts);
-    Ok(report(mixed, parts))
+    let (work, sink) = report(mixed, parts);
+    Ok((work, sink, gains))
 }

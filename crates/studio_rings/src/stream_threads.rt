@@ -18,20 +18,18 @@ ghost use Rattle.std.specs.Prelude.{
 ghost use Rattle.std.specs.Option.{option_to_list};
 ghost use Rattle.std.specs.Thread.{IsSync};
 ghost use Rattle.std.specs.List.{AllZip};
-ghost use Rattle.studio_rings.specs.MixWorker.{Mixes};
 ghost use Rattle.studio_rings.specs.StreamWorkers.{AllReady, IsReady, IsStreamResult};
 
 use crate::jobs::{StreamJob, StreamResult};
 use crate::path_threads::WorkerStopped;
-use crate::worker::mixer::{MixResult, run_mixer};
+use crate::worker::mixer::MixTask;
 use crate::worker::stream::run_stream;
 use std::snapshot::Snapshot;
 use std::sync::Wait;
 use std::sync::atomic::{AtomicBool, Ordering};
 use std::thread;
 use std::thread::{Promise, Threads};
-use studio_ends::MixEnd;
-use studio_io::{Clock, Feed, Sink};
+use studio_io::{Clock, Feed};
 
 /// The promise of a stream's thread: its result, if it has one, is that of running this job.
 #[derive(Drop)]
@@ -58,21 +56,20 @@ fn last_job<F: Drop, C: Drop>(jobs: &mut Vec<StreamJob<F, C>>) -> Option<StreamJ
 
 /// Runs each stream in a thread of its own, and the mixer in the calling thread. Appends the results in the order of
 /// the streams. Returns `WorkerStopped` if a thread cannot be started.
-pub(crate) fn run_streams<R: Threads + Wait + Sync, F: Feed + Send, C: Clock + Send, K: Sink>(
+pub(crate) fn run_streams<R: Threads + Wait + Sync, F: Feed + Send, C: Clock + Send, M: MixTask>(
     rt: &R,
     jobs: Vec<StreamJob<F, C>>,
     results: Vec<StreamResult>,
-    mix: MixEnd,
-    sink: K,
+    task: M,
     ended: &[AtomicBool],
     stop: &AtomicBool,
-) -> Result<(Vec<StreamResult>, MixResult<K>), WorkerStopped>
+) -> Result<(Vec<StreamResult>, M), WorkerStopped>
     requires ready { AllReady jobs.items }
     requires room { vec_len results + vec_len jobs ≤ vec_capacity results }
     requires flags { vec_len jobs ≤ length ended.now }
     ensures results { IfOk result (λ r. (own : List StreamResult) × (r.0.items ≡ results.items ++ own)
         × AllZip (IsStreamResult F.told C.told) jobs.items own) }
-    ensures mixes { IfOk result (λ r. Mixes K.handed mix sink 0 true r.1.end r.1.sink r.1.counts.blocks) }
+    ensures mixes { IfOk result (λ r. M.mixed task r.1) }
     ensures len { IfOk result (λ r. vec_len r.0 ≡ vec_len results + vec_len jobs) }
     ensures capacity { IfOk result (λ r. vec_capacity r.0 ≡ vec_capacity results) }
 {
@@ -80,7 +77,7 @@ pub(crate) fn run_streams<R: Threads + Wait + Sync, F: Feed + Send, C: Clock + S
     // The last stream's thread is started first and the calls below start the others, so the results come in order:
     // the last stream's is pushed after theirs.
     let Some(job) = last_job(&mut jobs) else {
-        let mixed = run_mixer(rt, mix, sink, ended, stop);
+        let mixed = task.mix(rt, ended, stop);
         return Ok((results, mixed));
     };
     let flag = &ended[jobs.len()];
@@ -91,7 +88,7 @@ pub(crate) fn run_streams<R: Threads + Wait + Sync, F: Feed + Send, C: Clock + S
     thread::scope(
         thread::scope_env(),
         rt,
-        move |scope| -> Result<(Vec<StreamResult>, MixResult<K>), WorkerStopped>
+        move |scope| -> Result<(Vec<StreamResult>, M), WorkerStopped>
             requires sync { IsSync R.row }
             requires ready { AllReady jobs.items }
             requires own { IsReady job }
@@ -100,7 +97,7 @@ pub(crate) fn run_streams<R: Threads + Wait + Sync, F: Feed + Send, C: Clock + S
             requires promise { promise.job.value ≡ job }
             ensures results { IfOk result (λ r. (own : List StreamResult) × (r.0.items ≡ results.items ++ own)
                 × AllZip (IsStreamResult F.told C.told) (jobs.items ++ job ∷ []) own) }
-            ensures mixes { IfOk result (λ r. Mixes K.handed mix sink 0 true r.1.end r.1.sink r.1.counts.blocks) }
+            ensures mixes { IfOk result (λ r. M.mixed task r.1) }
             ensures len { IfOk result (λ r. vec_len r.0 ≡ vec_len results + vec_len jobs + 1) }
             ensures capacity { IfOk result (λ r. vec_capacity r.0 ≡ vec_capacity results) }
         {
@@ -116,7 +113,7 @@ pub(crate) fn run_streams<R: Threads + Wait + Sync, F: Feed + Send, C: Clock + S
                 return Err(WorkerStopped);
             };
             // The thread is joined before an error of the others is returned.
-            let rest = run_streams(rt, jobs, results, mix, sink, ended, stop);
+            let rest = run_streams(rt, jobs, results, task, ended, stop);
             let result = child.join(rt);
             let (mut all, mixed) = rest?;
             all.push_reserved(result?);

@@ -1,5 +1,5 @@
 //! The pause of a worker that has nothing to do. `path`, `stream` and `mixer` are the workers; `clocked_stream` and
-//! `clocked_turn` are a stream's end with its clock, and its turns.
+//! `clocked_turn` are a stream's end with its clock, and its turns; `gain_requests` answers a source of gains.
 
 use std::sync::Wait;
 use std::thread::Parker;
@@ -7,11 +7,13 @@ use std::time::Duration;
 
 pub(crate) mod clocked_stream;
 mod clocked_turn;
+pub(crate) mod gain_requests;
 pub(crate) mod mixer;
 pub(crate) mod path;
 pub(crate) mod stream;
 
 /// The first pause of most workers, in microseconds: 1 ms.
+// The packet time that all AES67 devices have: about one packet of a path comes in such a pause.
 const FIRST: u64 = 1_000;
 
 /// Pauses that grow while nothing arrives: each is twice the one before, up to a longest.

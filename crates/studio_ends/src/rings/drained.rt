@@ -25,6 +25,7 @@ pub(crate) fn any_path_open(sides: &mut Vec<PacketConsumer>, open_yet: &mut [boo
 }
 
 /// Sets the flag of each stream's ring that is still open. Returns true if any is.
+// As `any_path_open`. One function for both would need a trait with a ghost view of a ring's items.
 pub(crate) fn any_stream_open(sides: &mut Vec<MarkConsumer>, open_yet: &mut [bool]) -> bool
     requires room { vec_len sides.old ≤ length open_yet.old }
     requires clear { AllFalse open_yet.old }

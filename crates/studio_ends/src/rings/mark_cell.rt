@@ -48,7 +48,7 @@ impl<const N: usize> Model for MarkCell<N> {
 impl<const N: usize> MarkCell<N> {
     ghost use Rattle.studio_ends.specs.MarkCells.{IsWithin};
 
-    /// The mark of a stream's end.
+    /// Returns the mark of a stream's end.
     pub(crate) fn new(format: PacketFormat) -> MarkCell<N> {
         MarkCell {
             format,
@@ -151,7 +151,7 @@ impl<const N: usize> Model for SizedMarkProducer<N> {
 }
 
 impl<const N: usize> SizedMarkProducer<N> {
-    /// A pushing end over this ring, for marks of this format.
+    /// Returns a pushing end over this ring, for marks of this format.
     pub(crate) fn new(ring: Producer<MarkCell<N>>, format: PacketFormat) -> SizedMarkProducer<N>
         ensures { result ≡ ring.entry }
     {

@@ -73,7 +73,7 @@ pub(crate) struct MarkProducer {
     end: ProducerBySize,
 }
 
-/// The popping end, with the token of the pushing end once it was handed in.
+/// The popping end, with the token of the pushing end once it was passed in.
 #[derive(Drop)]
 pub(crate) struct MarkConsumer {
     end: ConsumerBySize,

@@ -28,7 +28,7 @@ impl<const N: usize> Model for PacketCell<N> {
 }
 
 impl<const N: usize> PacketCell<N> {
-    /// A packet with an empty payload.
+    /// Returns a packet with an empty payload.
     pub(crate) fn new() -> PacketCell<N> {
         PacketCell {
             seq: 0,
@@ -85,7 +85,7 @@ impl<const N: usize> Model for SizedPacketProducer<N> {
 }
 
 impl<const N: usize> SizedPacketProducer<N> {
-    /// A pushing end over this ring.
+    /// Returns a pushing end over this ring.
     pub(crate) fn new(ring: Producer<PacketCell<N>>) -> SizedPacketProducer<N>
         ensures { result ≡ ring.entry }
     {

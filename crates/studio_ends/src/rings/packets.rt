@@ -77,7 +77,7 @@ pub(crate) struct PacketProducer {
     end: ProducerBySize,
 }
 
-/// The popping end, with the token of the pushing end once it was handed in.
+/// The popping end, with the token of the pushing end once it was passed in.
 #[derive(Drop)]
 pub(crate) struct PacketConsumer {
     end: ConsumerBySize,

@@ -39,7 +39,7 @@ impl<const N: usize> Model for PayloadCell<N> {
 }
 
 impl<const N: usize> PayloadCell<N> {
-    /// A cell with no octets.
+    /// Returns a cell with no octets.
     pub(crate) fn new() -> PayloadCell<N>
         ensures { result ≡ [] }
     {

@@ -6,6 +6,7 @@ ghost use Rattle.studio_rings.specs.Turns.{CatchesUp, Closes, GoesOn, KeepsToken
 use crate::worker::Backoff;
 use crate::worker::clocked_stream::ClockedStream;
 use path_merge::StreamClock;
+use rtp_stream::MAX_TIME;
 use std::sync::Wait;
 use studio_ends::{StopReason, StreamEnd, TurnNote};
 use studio_io::Clock;
@@ -64,7 +65,7 @@ impl<C: Clock> ClockedStream<C> {
         ensures tokens { KeepsTokens self.old.end.sides.items self.new.end.sides.items }
     {
         // A reading before the last one or after 2^60 would be a clock fault, whatever the clock returns.
-        self.now = self.clock.now().clamp(self.now, 1 << 60);
+        self.now = self.clock.now().clamp(self.now, MAX_TIME);
         read_first(&mut self.end, self.now);
         let note = turn_at(&mut self.end, self.now);
         snooze_after(rt, &mut self.pause, self.now, &note);

@@ -14,6 +14,7 @@ use studio_ends::{Offer, PathEnd};
 use studio_io::{Feed, FeedAnswer, FeedState};
 
 /// The longest pause after a feed had nothing, in microseconds: 10 ms.
+// Only for feeds that do not wait by themselves: the first datagram after a silence may wait so long.
 const FEED_PAUSE: u64 = 10_000;
 
 /// The longest pause after a feed failed, in microseconds: 2 ms.

@@ -26,6 +26,7 @@ use studio_ends::{PathDone, StreamDone, StreamEnd};
 use studio_io::{Clock, Feed};
 
 /// The longest pause at a full ring of marks, in microseconds: 2 ms.
+// Half of the longest pause of the mixer, whose turns free the places.
 const DRAIN_PAUSE: u64 = 2_000;
 
 /// Passes the token of the path at a place to the stream. Returns true if there is one.

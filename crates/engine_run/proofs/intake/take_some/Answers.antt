@@ -1,4 +1,4 @@
-use Rattle.std.proofs.Common.{◌≡◌, arith, ◌+◌, ◌∙◌, length-append, length, ap, subst}
+use Rattle.std.proofs.Common.{◌≡◌, arith, ◌∙◌, length, ap, subst}
 use Rattle.engine_run.specs.Intake.{GaveBy, Takes}
 use Rattle.engine_run.proofs.AnswerLemmas.{goes-nowhere}
 use Rattle.engine_run.proofs.AskLemmas.{asks-none}

@@ -1,4 +1,4 @@
-use Rattle.std.proofs.Common.{◌≡◌, sym, subst}
+use Rattle.std.proofs.Common.{sym, subst}
 use Rattle.studio_session.specs.Report.{AreCounts}
 use Rattle.engine_run.proofs.report.work_report.Goals as goal
 

@@ -1,4 +1,30 @@
+use Rattle.std.proofs.Common.{refl, ◌∙◌}
+use Rattle.studio_mix.specs.Changed.{with_changes}
+use Rattle.engine_run.proofs.GainRequestLemmas.{run-as-it-was, run-took-more}
 use Rattle.engine_run.proofs.run.run_rounds.Goals as goal
+
+pub loop-init : goal.loop-init
+loop-init g c = record {
+  room = refl;
+  gains = refl;
+  on = λ studio all clock before earlier h. run-as-it-was g.F.Feed.told g.C.Clock.told g.K.Sink.handed g.T.RunObserver.heard studio all clock before earlier _ _ h;
+}
+
+pub returns-in-Ok-None-clause-on : goal.returns-in-Ok-None-clause-on
+returns-in-Ok-None-clause-on g c = λ e studio all clock before earlier h.
+    let first = c.loop.invariant.on studio all clock before earlier h in
+    run-took-more g.F.Feed.told g.C.Clock.told g.K.Sink.handed g.T.RunObserver.heard studio all clock before earlier _ _ _ _ _ first
+    (c.in-Ok-None.ensures.on (with_changes studio first.changes) all clock before earlier first.run)
 
 pub returns-in-Ok-None-clause-ended : goal.returns-in-Ok-None-clause-ended
 returns-in-Ok-None-clause-ended g c = λ e. c.in-Ok-None.ensures.ended c.in-Ok-None.field-0-is
+
+pub loop-preserved : goal.loop-preserved
+loop-preserved g c = record {
+  room = c.round.auto.buf ∙ c.loop.invariant.room;
+  gains = c.round.auto.room ∙ c.loop.invariant.gains;
+  on = λ studio all clock before earlier h.
+      let first = c.loop.invariant.on studio all clock before earlier h in
+      run-took-more g.F.Feed.told g.C.Clock.told g.K.Sink.handed g.T.RunObserver.heard studio all clock before earlier _ _ _ _ _ first
+      (c.in-Ok-Some.ensures.on (with_changes studio first.changes) all clock before earlier first.run);
+}

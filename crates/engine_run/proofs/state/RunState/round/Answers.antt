@@ -1,7 +1,16 @@
+use Rattle.studio_mix.specs.Changed.{with_changes}
 use Rattle.engine_run.proofs.state.RunState.round.Goals as goal
 
 pub returns-then-have_all_ended-clause-on : goal.returns-then-have_all_ended-clause-on
-returns-then-have_all_ended-clause-on g c = λ studio all clock before earlier h. (c.in_ok-turn.ensures.on studio all clock before earlier h).run
+returns-then-have_all_ended-clause-on g c = λ studio all clock before earlier h.
+    let asked = c.ask.ensures.on studio all clock before earlier h in
+    let changed = with_changes studio asked.changes in
+    record { changes = asked.changes; taken = asked.taken; run = (c.in_ok-turn.ensures.on changed all clock before earlier asked.run).run }
 
 pub returns-clause-on : goal.returns-clause-on
-returns-clause-on g c = λ studio all clock before earlier h. c.in_ok-most.ensures.on studio all clock before earlier (c.in_ok-turn_if_stale.ensures.on studio all clock before earlier (c.notify_before_wait.ensures.on studio all clock before earlier (c.in_ok-turn.ensures.on studio all clock before earlier h)))
+returns-clause-on g c = λ studio all clock before earlier h.
+    let asked = c.ask.ensures.on studio all clock before earlier h in
+    let changed = with_changes studio asked.changes in
+    let turned = c.in_ok-turn.ensures.on changed all clock before earlier asked.run in
+    let rested = c.in_ok-turn_if_stale.ensures.on changed all clock before earlier (c.notify_before_wait.ensures.on changed all clock before earlier turned) in
+    record { changes = asked.changes; taken = asked.taken; run = c.in_ok-most.ensures.on changed all clock before earlier rested }

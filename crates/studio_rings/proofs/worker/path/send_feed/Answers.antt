@@ -2,7 +2,6 @@ use Rattle.std.proofs.Common.{rules, ◌≤◌, arith, refl, ◌∙◌, ap, sym,
 use Rattle.rtrb.specs.Ring.{SameProducer}
 use Rattle.studio_ends.specs.declared.path_end.PathEnd.{PathEnd}
 use Rattle.studio_ends.proofs.TurnLemmas.{producers}
-use Rattle.studio_io.specs.FeedStates.{new_state}
 use Rattle.studio_io.specs.declared.feed_state.FeedState.{FeedState}
 use Rattle.studio_io.specs.declared.feed.FeedAnswer.TheVariants.{Datagram, Nothing, Fault, Ended}
 use Rattle.studio_rings.proofs.FeedLemmas.{Sends, few-faults, sends-answer, sends-none}

@@ -1,0 +1,10 @@
+use Rattle.std.proofs.Common.{◌++◌, ap, ◌∙◌}
+use Rattle.studio_io.specs.Gains.{changes_in}
+use Rattle.engine_run.proofs.gain_requests.ask_once.Goals as goal
+
+pub returns-clause-stands : goal.returns-clause-stands
+returns-clause-stands g c = λ studio events datagrams s. record {
+  changes = changes_in c.answer_request-answer.result c.answer_request-answer.new.gains;
+  taken = c.answer.ensures.taken c.in-Some.ensures.asks ∙ ap (λ l. l ++ changes_in c.answer_request-answer.result c.answer_request-answer.new.gains) c.next.ensures.taken;
+  stands = c.answer_request-answer.ensures.stands studio events datagrams s;
+}

@@ -1,0 +1,26 @@
+use Rattle.std.proofs.Common.{false, refl, sym, subst, ◌∙◌}
+use Rattle.studio_rings.specs.MixWorker.{MixesWith}
+use Rattle.studio_rings.proofs.MixWorkerLemmas.{with-more, with-none, with-on, with-turn}
+use Rattle.studio_rings.proofs.worker.mixer.run_mixer_with_gains.Goals as goal
+
+pub loop-init : goal.loop-init
+loop-init g c = record {
+  room = refl;
+  mixes = subst (λ n. MixesWith g.K.Sink.handed c.args.end c.args.sink 0 false c.args.end c.args.sink n (g.G.GainSource.taken c.args.gains) (g.G.GainSource.taken c.args.gains)) (sym c.new-counts.ensures)
+      (with-none g.K.Sink.handed c.args.end c.args.sink 0 (g.G.GainSource.taken c.args.gains));
+}
+
+pub loop-preserved-then-not-mix_once : goal.loop-preserved-then-not-mix_once
+loop-preserved-then-not-mix_once g c = record {
+  room = c.ask_source.auto.room ∙ c.loop.invariant.room;
+  mixes = with-more g.K.Sink.handed _ _ _ _ _ _ _ _ _ _ _ _ _ _ c.loop.invariant.mixes (with-turn g.K.Sink.handed _ _ _ _ _ _ _ _ _ _ c.ask_source.ensures c.if-not-mix_once.ensures);
+}
+
+pub returns-then-last : goal.returns-then-last
+returns-then-last g c = with-more g.K.Sink.handed _ _ _ _ _ _ _ _ _ _ _ _ _ _ c.loop.invariant.mixes (with-turn g.K.Sink.handed _ _ _ _ _ _ _ _ _ _ c.ask_source.ensures c.if-not-mix_once.ensures)
+
+pub loop-preserved : goal.loop-preserved
+loop-preserved g c = record {
+  room = c.ask_source.auto.room ∙ c.loop.invariant.room;
+  mixes = with-on g.K.Sink.handed _ _ _ _ _ _ _ _ _ (with-more g.K.Sink.handed _ _ _ _ _ _ _ _ _ _ _ _ _ _ c.loop.invariant.mixes (with-turn g.K.Sink.handed _ _ _ _ _ _ _ _ _ _ c.ask_source.ensures c.if-not-mix_once.ensures));
+}

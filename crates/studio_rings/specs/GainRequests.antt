@@ -1,0 +1,18 @@
+-- A mixer's end that took changes of gains.
+use Rattle.std.specs.Prelude.{◌≡◌, ℕ, ℤ, List, ◌++◌}
+use Rattle.mix_packets.specs.Block.{block_start}
+use Rattle.studio_config.specs.Studio.{Studio}
+use Rattle.studio_mix.specs.Changed.{with_changes}
+use Rattle.studio_ends.specs.Datagrams.{HasGiven}
+use Rattle.studio_ends.specs.declared.mix_end.MixEnd.{MixEnd}
+
+-- where the mixer's next block begins
+abbrev pub next_start : MixEnd → ℤ
+next_start end = block_start end.mixer.packer.spec end.mixer.packer.number
+
+-- the end took exactly these changes more, and the datagrams that it gave are those of the studio that has them
+pub record TakesChanges (s t : MixEnd) (first last : List (ℤ × List ℤ)) : Type 0 where
+  pub changes : List (ℤ × List ℤ)
+  pub taken : last ≡ first ++ changes
+  pub sides : t.sides ≡ s.sides
+  pub given : (studio : Studio) (datagrams : List (List ℕ)) → HasGiven studio s datagrams → HasGiven (with_changes studio changes) t datagrams
