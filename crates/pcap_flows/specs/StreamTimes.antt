@@ -1,4 +1,4 @@
--- How far a stream's capture time less its timestamp moves, and the clock that an import gives the stream.
+-- The distance by which a stream's capture time less its timestamp moves, and the clock that an import gives the stream.
 use Rattle.std.specs.Prelude.{ℕ, ◌^◌, nat_le, nat_lt, ℤ, pos, ◌-ℤ◌, int_lt, if◌then◌else◌, unsigned_abs}
 use Rattle.pcap_flows.specs.declared.import.stream_times.StreamTimes.{StreamTimes}
 use Rattle.rtp_stream.specs.declared.stream_spec.StreamClock.{StreamClock}

@@ -37,7 +37,7 @@ pub(crate) struct CaptureTimes {
 }
 
 impl CaptureTimes {
-    /// The times of no packet.
+    /// Returns the times of no packet.
     pub(crate) fn new() -> CaptureTimes
         ensures { result ≡ spec.times_begun }
     {

@@ -26,7 +26,7 @@ pub(crate) struct Flow {
 }
 
 impl Flow {
-    /// A flow with its first packet. Returns `AllocError` if the allocation of 1 MiB fails.
+    /// Returns a flow with its first packet. Returns `AllocError` if the allocation of 1 MiB fails.
     pub(crate) fn new(alloc: Global, first: &FlowPacket) -> Result<Flow, AllocError>
         ensures { IfOk result (λ flow. flow_view flow ≡ flow_first first.now) }
     {
@@ -96,7 +96,7 @@ pub(crate) struct Lengths {
 }
 
 impl Lengths {
-    /// The lengths of a single packet.
+    /// Returns the lengths of a single packet.
     pub(crate) fn new(len: usize) -> Lengths
         ensures { result ≡ lengths_first len }
     {
@@ -131,7 +131,7 @@ pub(crate) struct Steps {
 }
 
 impl Steps {
-    /// The steps of a single packet, which has none.
+    /// Returns the steps of a single packet, which has none.
     pub(crate) fn new(seq: u16, ts: u32) -> Steps
         ensures { result ≡ steps_first seq ts }
     {

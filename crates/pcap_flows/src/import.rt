@@ -65,7 +65,7 @@ pub fn trace_text(alloc: Global, octets: &[u8], routes: &[Route]) -> Result<Vec<
 }
 
 impl Trace {
-    /// A trace without lines.
+    /// Returns a trace without lines.
     fn new(alloc: Global) -> Trace
         ensures text { result.text.items ≡ [] }
         ensures clock { result.clock ≡ clock_begun }

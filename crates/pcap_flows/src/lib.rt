@@ -11,7 +11,7 @@
 //!    the capture once for each 16 skews between paths. `table_text` returns a line for each path,
 //!    stream by stream.
 //! 3. `routes_of` decides which flow is which path of which stream of a trace.
-//! 4. `trace_text` returns the trace of the capture by these routes, and `config_text` a configuration
+//! 4. `trace_text` returns the trace of the capture by these routes, and `config_for` a configuration
 //!    that fits it. The clock of a trace counts sampling instants at 48 kHz from the time of the
 //!    first datagram, and never goes back.
 //!
@@ -39,7 +39,7 @@ pub use capture_times::TimeJump;
 pub use fault::ImportFault;
 pub use flow_text::table_text;
 pub use import::clock::CaptureClock;
-pub use import::config::config_text;
+pub use import::config::{CaptureConfig, config_for};
 pub use import::{MAX_TRACE_EVENTS, MAX_TRACE_OCTETS, datagram_octets, route_in, trace_text};
 pub use packet::FlowKey;
 pub use packet_place::place_of_packet;

@@ -27,7 +27,7 @@ pub(crate) struct ReceivedNumbers {
 impl ReceivedNumbers {
     ghost use Rattle.pcap_flows.specs.ReceivedNumbers.{numbers_first, numbers_view, numbers_with, span_of};
 
-    /// The numbers of a single packet. Returns `AllocError` if the allocation of 1 MiB fails.
+    /// Returns the numbers of a single packet. Returns `AllocError` if the allocation of 1 MiB fails.
     pub(crate) fn new(alloc: Global, seq: u16, ts: u32) -> Result<ReceivedNumbers, AllocError>
         ensures { IfOk result (λ numbers. numbers_view numbers ≡ numbers_first seq ts) }
     {

@@ -54,7 +54,7 @@ pub(crate) struct PairTimes {
 }
 
 impl PairTimes {
-    /// A pair before its first packet.
+    /// Returns a pair before its first packet.
     pub(crate) fn new(alloc: Global, pair: FlowPair) -> Result<PairTimes, AllocError> {
         let none = Times {
             number: 0,

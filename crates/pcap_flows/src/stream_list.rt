@@ -22,7 +22,7 @@ pub struct StreamList {
 }
 
 impl StreamList {
-    /// The streams of a table. Returns `AllocError` if an allocation fails.
+    /// Returns the streams of a table. Returns `AllocError` if an allocation fails.
     pub fn new(alloc: Global, table: &FlowTable) -> Result<StreamList, AllocError> {
         let paths = paths_of(alloc, table)?;
         let streams = listed_streams(alloc, table, paths.as_slice())?;

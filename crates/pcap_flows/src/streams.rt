@@ -160,7 +160,7 @@ pub(crate) struct StreamFlows {
 }
 
 impl StreamFlows {
-    /// The flows of the stream that begins at a place.
+    /// Returns the flows of the stream that begins at a place.
     pub(crate) fn new(paths: &[FlowPath], first: usize) -> StreamFlows {
         let mut stream = StreamFlows {
             places: [first; 4],

@@ -59,7 +59,7 @@ impl FlowTable {
         }
     }
 
-    /// A table without flows.
+    /// Returns a table without flows.
     pub fn new(alloc: Global) -> FlowTable
         ensures { table_view result ≡ no_table }
     {

@@ -1,4 +1,4 @@
--- How a replay ends.
+-- The end of a replay.
 use Rattle.std.proofs.Common.{◌≡◌, inl, inr, ◌<◌, ℕ, Bool, true, false, List, [], ◌∷◌, ◌++◌, length, take, Option, IfSome, refl, sym, subst, ◌∙◌}
 use Rattle.std.specs.Io.KnownBytes.{Appends}
 use Rattle.std.proofs.KnownBytes.{Appends-nil}
@@ -15,7 +15,7 @@ use Rattle.studio_engine.specs.Session.{HasSession, shut}
 use Rattle.studio_engine.specs.Engine.{EngineState}
 use Rattle.studio_engine.proofs.CountsLemmas.{settled_ready}
 use Rattle.studio_mix.proofs.FirstBlockLemmas.{first_all}
-use Rattle.studio_session.specs.Play.{feeds_of}
+use Rattle.studio_session.specs.Play.{IsRunnableBy, feeds_of}
 use Rattle.studio_run.specs.Buffer.{BreaksOff, PassesOn}
 use Rattle.studio_run.specs.Listing.{counts_text_of, datagrams_text}
 use Rattle.studio_run.specs.Play.{WritesEvents}
@@ -98,8 +98,8 @@ ends_write studio plan first a c H run fault is s =
     as_write studio plan first a c H fault (ends_front studio plan first a c c H run fault s (inl (subst (StopsAt studio s.stops.events a run c H) is s.stops.at)))
 
 -- an observer received all events and datagrams
-pub heard_all : (studio : Studio) (events : List TraceEvent) (datagrams : List (List ℕ)) (H : Hearing) → AreDatagrams studio events datagrams → H events datagrams → HasHeardAll studio events H
-heard_all studio events datagrams H ready told = record { datagrams = datagrams; given = ready; told = told }
+pub heard_all : (studio : Studio) (events : List TraceEvent) (datagrams : List (List ℕ)) (H : Hearing) → IsRunnableBy studio events → AreDatagrams studio events datagrams → H events datagrams → HasHeardAll studio events H
+heard_all studio events datagrams H runs ready told = record { runs = runs; datagrams = datagrams; given = ready; told = told }
 
 pub ends_behind : (studio : Studio) (plan : PlanView) (first a b c : Option (List ℕ)) (H : Hearing) (run : ReplayState) (fault result : ReplayFault) → EndsBehind run.text b c fault result
     → StopsFile studio plan first a run b H fault → BreaksOffReplay studio plan first a c H result
@@ -127,22 +127,22 @@ report_written studio events datagrams a b c h ready passes rest = record {
   wrote = PassesOn-finished a b c h (datagrams_text datagrams ++ counts_text_of studio events) passes rest;
 }
 
-pub report_unwritten : (studio : Studio) (events : List TraceEvent) (datagrams : List (List ℕ)) (a b c : Option (List ℕ)) (h : List ℕ) (H : Hearing) → AreDatagrams studio events datagrams → H events datagrams
+pub report_unwritten : (studio : Studio) (events : List TraceEvent) (datagrams : List (List ℕ)) (a b c : Option (List ℕ)) (h : List ℕ) (H : Hearing) → IsRunnableBy studio events → AreDatagrams studio events datagrams → H events datagrams
     → PassesOn a [] b h (datagrams_text datagrams ++ counts_text_of studio events) → (n : ℕ) × (n < length h) × Appends b c (take n h) → BreaksReport studio events a c H
-report_unwritten studio events datagrams a b c h H ready told passes part = inr (
+report_unwritten studio events datagrams a b c h H runs ready told passes part = inr (
   (λ report is.
       subst (BreaksOff a [] c) (report_alone studio events (datagrams_text datagrams ++ counts_text_of studio events) report (report_is studio events datagrams ready) is)
       (BreaksOff-finished a b c h (datagrams_text datagrams ++ counts_text_of studio events) passes part)),
-  heard_all studio events datagrams H ready told,
+  heard_all studio events datagrams H runs ready told,
 )
 
-pub report_uncounted : (studio : Studio) (events : List TraceEvent) (datagrams : List (List ℕ)) (a b c : Option (List ℕ)) (h : List ℕ) (H : Hearing) → AreDatagrams studio events datagrams → H events datagrams
+pub report_uncounted : (studio : Studio) (events : List TraceEvent) (datagrams : List (List ℕ)) (a b c : Option (List ℕ)) (h : List ℕ) (H : Hearing) → IsRunnableBy studio events → AreDatagrams studio events datagrams → H events datagrams
     → PassesOn a [] b h (datagrams_text datagrams) → BreaksOff b h c (counts_text_of studio events) → BreaksReport studio events a c H
-report_uncounted studio events datagrams a b c h H ready told passes broken = inr (
+report_uncounted studio events datagrams a b c h H runs ready told passes broken = inr (
   (λ report is.
       subst (BreaksOff a [] c) (report_alone studio events (datagrams_text datagrams ++ counts_text_of studio events) report (report_is studio events datagrams ready) is)
       (BreaksOff-later a b c [] h (datagrams_text datagrams) (counts_text_of studio events) passes broken)),
-  heard_all studio events datagrams H ready told,
+  heard_all studio events datagrams H runs ready told,
 )
 
 -- a first close is an event

@@ -1,4 +1,4 @@
--- What was written of a report so far.
+-- The part of a report that was written so far.
 use Rattle.std.proofs.Common.{◌≡◌, inl, inr, ◌<◌, ℕ, Bool, List, [], ◌∷◌, ◌++◌, length, map, take, Option, None, option_map, IfSome, Ok, refl, sym, ap, subst, ◌∙◌, append-nil}
 use Rattle.std.specs.Prelude.{⊤}
 use Rattle.std.specs.Io.KnownBytes.{Appends}
@@ -51,12 +51,12 @@ broke_more studio engine events earlier a b c h H K datagrams first early told b
       first = broken.stands.given.first;
       count = both.count;
       wrote = both.wrote;
-      told = record { earlier = earlier; early = early; datagrams = datagrams ++ broken.more; first = broken.stands.given.first; told = broken.told earlier told };
+      told = record { runs = broken.stands.runnable; earlier = earlier; early = early; datagrams = datagrams ++ broken.more; first = broken.stands.given.first; told = broken.told earlier told };
     }
 
 -- what an observer received so far
 pub heard_first : (studio : Studio) (events : List TraceEvent) (a b : Option (List ℕ)) (H : Hearing) (run : ReplayState) → HasReplayed studio events a run b H → HasHeardFirst studio events H
-heard_first studio events a b H run r = record { earlier = events; early = first_same events; datagrams = r.datagrams; first = r.session.given.first; told = r.told }
+heard_first studio events a b H run r = record { runs = r.session.runnable; earlier = events; early = first_same events; datagrams = r.datagrams; first = r.session.given.first; told = r.told }
 
 -- before the first event
 pub begun_replayed : (studio : Studio) (a : Option (List ℕ)) (H : Hearing) (run : ReplayState) → HasBegun studio run → H [] [] → HasReplayed studio [] a run a H

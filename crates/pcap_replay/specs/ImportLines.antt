@@ -1,4 +1,4 @@
--- What an import writes as lines that a trace can have.
+-- The lines that an import writes, and that a trace can have.
 use Rattle.std.specs.Prelude.{◌≡◌, ◌≤◌, ◌<◌, ◌^◌, List, [], ◌∷◌, length, Some, IfSome}
 use Rattle.hex.specs.Hex.{IsBytes}
 use Rattle.pcap_file.specs.Packet.{PacketView}

@@ -1,4 +1,4 @@
--- What is known of an observer that may be absent.
+-- The events that are known of an observer that may be absent.
 use Rattle.std.specs.Prelude.{ℕ, List, Option, Some, None, ⊤}
 use Rattle.studio_session.specs.Event.{TraceEvent}
 

@@ -12,7 +12,7 @@ use Rattle.studio_config.specs.Studio.{Studio}
 use Rattle.studio_mix.specs.Blocks.{AreFirstBlocks}
 use Rattle.studio_session.specs.Event.{TraceEvent}
 use Rattle.studio_session.specs.Fault.{closed_at}
-use Rattle.studio_session.specs.Play.{feeds_of}
+use Rattle.studio_session.specs.Play.{IsRunnableBy, feeds_of}
 use Rattle.studio_session.specs.Run.{AreDatagrams}
 use Rattle.studio_engine.specs.Session.{HasSession}
 use Rattle.studio_run.specs.Buffer.{BreaksOff, PassesOn}
@@ -42,8 +42,9 @@ pub record HasBegun (studio : Studio) (run : ReplayState) : Type 0 where
   pub rested : run.engine.turning ≡ false
   pub none : run.text ≡ []
 
--- an observer received a prefix of these events, and some of the datagrams that they all give
+-- an observer received a prefix of these events, whose readings are in order, and some of the datagrams that they all give
 pub record HasHeardFirst (studio : Studio) (events : List TraceEvent) (heard : Hearing) : Type 0 where
+  pub runs : IsRunnableBy studio events
   pub earlier : List TraceEvent
   pub early : AreFirst earlier events
   pub datagrams : List (List ℕ)
@@ -129,8 +130,9 @@ pub record StopsFile (studio : Studio) (plan : PlanView) (first : Option (List �
   pub told : IfSome first (λ file. BeginsWith file entries × IsReason file entries fault)
   pub stops : Stops studio (events_told studio plan entries) written run written_then heard fault
 
--- an observer received all these events, and exactly the datagrams that they give
+-- an observer received all these events, whose readings are in order, and exactly the datagrams that they give
 pub record HasHeardAll (studio : Studio) (events : List TraceEvent) (heard : Hearing) : Type 0 where
+  pub runs : IsRunnableBy studio events
   pub datagrams : List (List ℕ)
   pub given : AreDatagrams studio events datagrams
   pub told : heard events datagrams

@@ -1,4 +1,4 @@
--- Where the datagrams of a capture go, and from when its readings count.
+-- The path to which each datagram of a capture goes, and the time from which its readings count.
 use Rattle.std.specs.Prelude.{ℕ, ◌+◌, ◌-◌, nat_lt, List, [], ◌∷◌, Option, Some, None, if◌then◌else◌}
 use Rattle.pcap_file.specs.Packet.{PacketView}
 use Rattle.pcap_flows.specs.declared.import.clock.CaptureClock.{CaptureClock}

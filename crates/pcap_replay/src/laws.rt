@@ -13,9 +13,9 @@ ghost use Rattle.pcap_replay.specs.ImportLines.{AreLines};
 ghost use Rattle.pcap_replay.specs.Routing.{Flows, places_of};
 ghost use Rattle.pcap_replay.specs.RecordPackets.{AreRecorded, AreRising};
 
-/// The packets of a run's arrivals and the time of its close give the events of the run, except for each reading that
-/// another one follows directly. By `studio_session::readings_may_be_left_out` such readings change no datagram and no
-/// count.
+/// States that the packets of a run's arrivals and the time of its close give the events of the run, except for each
+/// reading that another one follows directly. By `studio_session::readings_may_be_left_out` such readings change no
+/// datagram and no count.
 pub fn a_record_says_its_run()
     ensures { (studio : Studio) (events : List TraceEvent) (packets : List PacketView) (closing : Option ℕ)
         → pos 0 ≤ℤ studio.open_at
@@ -24,9 +24,9 @@ pub fn a_record_says_its_run()
         → replay_events studio (places_of studio) packets closing ≡ pruned_events events }
 {}
 
-/// The events of a capture's packets by routes are those of the trace that an import writes by the same routes, if a
-/// studio opens at time 0, a trace can have the line of each packet that has a route, and the trace is within its
-/// limits.
+/// States that the events of a capture's packets by routes are those of the trace that an import writes by the same
+/// routes, if a studio opens at time 0, a trace can have the line of each packet that has a route, and the trace is
+/// within its limits.
 pub fn a_replay_takes_its_import()
     ensures { (studio : Studio) (routes : List Route) (packets : List PacketView) → studio.open_at ≡ pos 0
         → AreLines routes packets

@@ -13,7 +13,8 @@
 //!    write.
 //!
 //! A `ReplayObserver` is called with these events and with the datagrams that they give.
-//! `WavObserver` writes the datagrams to a WAV file.
+//! `WavObserver` writes the datagrams to a WAV file, and `wav_file::StreamWav` the samples of one
+//! stream.
 #![tactic(auto)]
 
 mod count_lines;
@@ -28,6 +29,7 @@ mod record_times;
 mod recording;
 mod routing;
 mod state;
+mod stream_observer;
 mod wav_observer;
 
 pub use fault::ReplayFault;

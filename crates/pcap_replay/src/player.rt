@@ -126,7 +126,7 @@ fn replay_routed<R: Read, W: Write, L: ReplayObserver>(
 }
 
 impl ReplayState {
-    /// A replay that took no event yet. Returns `AllocError` if an allocation fails.
+    /// Returns a replay that took no event yet. Returns `AllocError` if an allocation fails.
     fn new(alloc: Global, spec: &StudioSpec, plan: &Routing<'_>) -> Result<ReplayState, AllocError>
         ensures begun { IfOk result (λ run. HasBegun spec.now run) }
         ensures clock { IfOk result (λ run. run.clock ≡ clock_before (plan_view plan.now)) }

@@ -211,8 +211,8 @@ fn paths_behind_stream<'a>(
     }
 }
 
-/// Returns the first difference between the streams of a record with these paths and those of a studio, if there is
-/// one beside the names and the order of the interfaces.
+/// Returns the first difference between the streams of a record with these paths and those of a studio, if there is one
+/// other than in the names and the order of the interfaces.
 fn stream_difference(paths: &[RecordedPath], streams: &[StreamSpec]) -> Option<RecordingFault> {
     for (number, stream) in streams.iter().enumerate() {
         let fault = stream_fault(paths, number, stream);

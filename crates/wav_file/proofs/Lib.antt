@@ -10,3 +10,4 @@ pub mod MixWavLemmas
 pub mod StreamTrackLemmas
 pub mod PartLemmas
 pub mod StreamPartLemmas
+pub mod StreamEventsLemmas

@@ -184,7 +184,7 @@ part_of_all studio events a b m n h i wav then session all r are =
     }
 
 -- a file that had its header alone has its data
-begun_part : (y z : List ℕ) (wav then : WavState) (octets rest : List ℕ) → y ≡ header_octets wav.format 0 → wav.count ≡ 0 → HasPart (Some y) (Some z) wav then octets rest → IsBegun (Some z) then octets rest
+pub begun_part : (y z : List ℕ) (wav then : WavState) (octets rest : List ℕ) → y ≡ header_octets wav.format 0 → wav.count ≡ 0 → HasPart (Some y) (Some z) wav then octets rest → IsBegun (Some z) then octets rest
 begun_part y z wav then octets rest head none h =
     let count = h.count in
     record {

@@ -8,4 +8,5 @@ pub mod PartFile
 pub mod MixRun
 pub mod StreamSamples
 pub mod StreamTrack
+pub mod StreamEvents
 pub mod StreamRun

@@ -1,13 +1,17 @@
 -- A stream's file while its samples are written.
-use Rattle.std.specs.Prelude.{◌≡◌, ℕ, ℤ, List, [], take, drop, Option}
+use Rattle.std.specs.Prelude.{◌≡◌, ℕ, ℤ, List, [], take, drop, Option, None}
 use Rattle.rtp_stream.specs.declared.stream_spec.Stream.{Stream}
 use Rattle.rtp_stream.specs.MarkFacts.{MarkView}
 use Rattle.studio_session.specs.Event.{TraceEvent}
 use Rattle.studio_session.specs.Cursor.{CursorState, HasPulled}
 use Rattle.studio_session.specs.Play.{stream_marks}
 use Rattle.wav_file.specs.MixWav.{HasAdded}
-use Rattle.wav_file.specs.StreamSamples.{end_of, samples_behind}
+use Rattle.wav_file.specs.StreamSamples.{end_of, samples_behind, stream_format}
 use Rattle.wav_file.specs.declared.stream_track.StreamTrack.{StreamTrack}
+
+-- a file whose header was written, and no sample
+abbrev pub first_track : Stream → StreamTrack
+first_track stream = record { wav = record { format = stream_format stream; count = 0 }; frames = stream.frames; end = None }
 
 -- the samples of these marks were added
 pub record HasTracked (made made_then : Option (List ℕ)) (track track_then : StreamTrack) (marks : List MarkView) : Type 0 where

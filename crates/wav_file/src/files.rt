@@ -32,7 +32,7 @@ pub struct SeekFile<F> {
 }
 
 impl<F: Write + Seek> SeekFile<F> {
-    /// An `Overwrite` over an empty file.
+    /// Returns an `Overwrite` over an empty file.
     pub fn new(file: F) -> Self {
         SeekFile { file }
     }

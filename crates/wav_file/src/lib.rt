@@ -4,13 +4,15 @@
 //!   caller's `CreateFile`, and writes the report and the samples of its datagrams. `write_mix_wav`
 //!   does the same for events, to a file that exists.
 //! - `list_to_wav` writes a listing as `studio_run::list_marks` does, and before it the samples of
-//!   one stream, by `write_stream_wav`.
+//!   one stream, by `write_stream_wav`. `wav_stream` finds the stream.
+//! - `StreamWav` writes the samples of one stream while the events of a run come one by one.
 //! - `WavWriter` is the writer below both. `begin` writes the header with room for the sizes of a
 //!   file beyond 4 GiB, `push` the samples of a payload, and `finish` the sizes. If `push` fails,
 //!   call `finish_partial`: it sets the sizes to those of the whole payloads before.
 //!
 //! - A live run writes a `LiveWavFile`, which a `CreateLiveWav` makes. Its sizes are renewed while it
 //!   grows, by `WavWriter::renew`, in an order that a power failure can cut anywhere.
+//! - It also writes raw PCM to a `PcmOutput`, which a `CreatePcm` makes, by `to_little_endian`.
 //!
 //! The caller keeps the file, an `Overwrite`. `SeekFile` makes one of any file that seeks.
 //! `WavWriter` does not allocate.
@@ -20,8 +22,10 @@ mod fault;
 mod files;
 mod header;
 mod live_file;
+mod live_pcm;
 mod mix_wav;
 mod samples;
+mod stream_events;
 mod stream_track;
 mod stream_wav;
 mod writer;
@@ -30,6 +34,9 @@ pub use fault::{FileFault, StreamWavFault, WavRunFault};
 pub use files::{CreateFile, Overwrite, SeekFile};
 pub use header::WavFormat;
 pub use live_file::{CreateLiveWav, LiveWavFault, LiveWavFile, WavEnd};
+pub use live_pcm::{CreatePcm, PcmEnd, PcmFault, PcmOutput, PcmRoom};
 pub use mix_wav::{play_to_wav, write_mix_wav};
-pub use stream_wav::{list_to_wav, write_stream_wav};
+pub use samples::to_little_endian;
+pub use stream_events::StreamWav;
+pub use stream_wav::{list_to_wav, wav_stream, write_stream_wav};
 pub use writer::{WavFault, WavWriter};

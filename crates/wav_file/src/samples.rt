@@ -4,9 +4,9 @@ ghost use Rattle.wav_file.specs.Samples.{little_16, little_24, little_samples};
 
 use rtp_wire::{Enc, Payload};
 
-/// Returns the whole samples of a payload, least significant octet first.
-pub(crate) fn to_little_endian(enc: Enc, octets: &[u8]) -> Payload
-    requires { length octets.now ≤ 1440 }
+/// Returns the whole samples of a payload, of at most 1,440 octets, least significant octet first.
+pub fn to_little_endian(enc: Enc, octets: &[u8]) -> Payload
+    requires short { length octets.now ≤ 1440 }
     ensures { result.items ≡ little_samples enc octets.now }
 {
     match enc {

@@ -1,16 +1,19 @@
 //! The samples of a stream, written mark by mark.
-ghost use Rattle.std.specs.Prelude.{◌≡◌, ◌+◌, ◌≤◌, ◌++◌, length, option_copied, Some, OnErr, OnOk};
+ghost use Rattle.std.specs.Prelude.{◌≡◌, ◌+◌, ◌≤◌, ◌++◌, ℕ, length, option_copied, take, Some, IfOk, OnErr, OnOk};
+ghost use Rattle.std.specs.Io.KnownBytes.{Appends};
 ghost use Rattle.std.specs.Option.{option_to_list};
 ghost use Rattle.rtp_stream.specs.MarkFacts.{IsTime};
 ghost use Rattle.rtp_stream.specs.MarkRef.{body_from, IsShort};
 ghost use Rattle.lane_align.specs.Lane.{frames_between};
 ghost use Rattle.wav_file.specs.MixWav.{HasAdded};
-ghost use Rattle.wav_file.specs.StreamSamples.{body_samples, gap_samples, samples_behind};
+ghost use Rattle.wav_file.specs.Header.{header_octets};
+ghost use Rattle.wav_file.specs.StreamSamples.{body_samples, gap_samples, samples_behind, stream_format};
 ghost use Rattle.wav_file.specs.PartFile.{HasPrefix};
-ghost use Rattle.wav_file.specs.StreamTrack.{HasTracked};
+ghost use Rattle.wav_file.specs.StreamTrack.{HasTracked, first_track};
 
+use crate::header::WavFormat;
 use crate::writer::{WavFault, WavWriter};
-use path_merge::{MarkKindRef, MarkRef};
+use path_merge::{MarkKindRef, MarkRef, StreamSpec};
 use std::io::Write;
 
 /// The WAV file of a stream while its samples are written.
@@ -24,6 +27,26 @@ pub(crate) struct StreamTrack {
 }
 
 impl StreamTrack {
+    /// Writes the header of a stream's samples to an empty file. Returns an error if a write fails.
+    pub(crate) fn begin<F: Write>(spec: StreamSpec, file: &mut F) -> Result<StreamTrack, WavFault>
+        ensures first { IfOk result (λ track. track ≡ first_track spec) }
+        ensures ok { OnOk result
+            (Appends (F.contents file.old) (F.contents file.new) (header_octets (stream_format spec) 0)) }
+        ensures fault { OnErr result ((n : ℕ)
+            × Appends (F.contents file.old) (F.contents file.new) (take n (header_octets (stream_format spec) 0))) }
+    {
+        let format = WavFormat {
+            enc: spec.enc(),
+            channels: spec.channels(),
+        };
+        let wav = WavWriter::begin(format, file)?;
+        Ok(StreamTrack {
+            wav,
+            frames: spec.frames(),
+            end: None,
+        })
+    }
+
     /// Writes the samples of the next mark, if there is one.
     pub(crate) fn add_next<F: Write>(
         &mut self,

@@ -2,6 +2,7 @@
 ghost use Rattle.std.specs.Prelude.{◌≡◌, ◌<◌, ◌≤◌, Some, None, slice_get, IfErr, IfOk, OnErr, OnOk};
 ghost use Rattle.std.specs.Prelude.{ℕ, ℤ, List, [], Option};
 ghost use Rattle.rtp_stream.specs.declared.stream_spec.Stream.{Stream};
+ghost use Rattle.path_merge.specs.Goal.{HasGivenAll};
 ghost use Rattle.studio_session.specs.Play.{HasPathsBy, IsRunnableBy, stream_marks};
 ghost use Rattle.wav_file.specs.StreamRun.{FailsBoth, FailsListing, IsUnfit, ListsAndRecords, ListsAndRecordsTextOf};
 ghost use Rattle.studio_session.specs.Event.{TraceEvent};
@@ -14,9 +15,8 @@ ghost use Rattle.wav_file.specs.declared.stream_track.StreamTrack.{StreamTrack};
 
 use crate::fault::{StreamWavFault, WavRunFault};
 use crate::files::{CreateFile, Overwrite};
-use crate::header::WavFormat;
 use crate::stream_track::StreamTrack;
-use crate::writer::{WavFault, WavWriter};
+use crate::writer::WavFault;
 use path_merge::StreamSpec;
 use rtp_wire::MAX_ARRIVAL_OCTETS;
 use std::alloc::Global;
@@ -47,7 +47,7 @@ pub fn list_to_wav<R: Read, W: Write, M: CreateFile>(
         (W.contents writer.new)) }
 {
     // The stream comes first: an unfit one is a fault before the trace is read.
-    let stream = stream_at(spec, number)?;
+    let stream = wav_stream(spec, number)?;
     let trace = read_all(alloc, reader)?;
     let events = runnable_events(alloc, spec, trace.as_slice())?;
     let file = write_both(alloc, spec, stream, number, &events, writer, files)?;
@@ -55,8 +55,9 @@ pub fn list_to_wav<R: Read, W: Write, M: CreateFile>(
 }
 
 /// Returns the stream with a number, or an error if there is none or it has more than 8 channels.
-fn stream_at(spec: &StudioSpec, number: u8) -> Result<StreamSpec, StreamWavFault>
+pub fn wav_stream(spec: &StudioSpec, number: u8) -> Result<StreamSpec, StreamWavFault>
     ensures ok { IfOk result (λ stream. slice_get spec.now.streams number ≡ Some stream) }
+    ensures few { IfOk result (λ stream. stream.channels ≤ 8) }
     ensures fault { IfErr result (IsUnfit spec.now number) }
 {
     match spec.streams().get(usize::from(number)) {
@@ -116,18 +117,7 @@ pub fn write_stream_wav<E: EventSource, F: Overwrite>(
         (stream_samples stream (stream_marks stream number open_at (E.events source.now)))
         (F.Write.contents file.old) (F.Write.contents file.new)) }
 {
-    let spec = cursor.spec();
-    let format = WavFormat {
-        enc: spec.enc(),
-        channels: spec.channels(),
-    };
-    let wav = WavWriter::begin(format, file)?;
-    let frames = spec.frames();
-    let mut track = StreamTrack {
-        wav,
-        frames,
-        end: None,
-    };
+    let mut track = StreamTrack::begin(cursor.spec(), file)?;
     match add_marks(&mut track, file, source, cursor) {
         Ok(()) => track.wav.finish(file),
         Err(fault) => {
@@ -169,7 +159,7 @@ fn add_marks<E: EventSource, F: Write>(
 }
 
 /// Writes the samples of all marks that are due after the events so far.
-fn add_taken<F: Write>(
+pub(crate) fn add_taken<F: Write>(
     track: &mut StreamTrack,
     file: &mut F,
     cursor: &mut Cursor,
@@ -188,6 +178,7 @@ fn add_taken<F: Write>(
         → HasPrefix made (F.contents file.new) first.wav track.new.wav
         (samples_behind first.wav.format first.frames first.end (stream_marks stream number open_at events))) }
     ensures settled { OnOk result (cursor.new.reading ≡ None) }
+    ensures all { OnOk result (HasGivenAll cursor.new.merge) }
     ensures kept { IsSameCursor cursor.old cursor.new }
 {
     // The label names the loop in its proof.

@@ -12,7 +12,7 @@ pub struct CaptureClock {
 }
 
 impl CaptureClock {
-    /// A clock at 0 that was given no time yet.
+    /// Returns a clock at 0 that was given no time yet.
     pub fn new() -> CaptureClock
         ensures { result ≡ clock_begun }
     {

@@ -5,24 +5,20 @@ use crate::packet_format::{PacketFormat, first_format};
 use crate::routes::{Route, Routes};
 use crate::skew::{push_pairs, skews_of};
 use crate::table::FlowTable;
+use rtp_stream::Stream;
 use std::alloc::{AllocError, Global};
 
 /// The least latency that is chosen: 10 ms, in sampling instants at 48 kHz.
+// Paths without a skew in the capture may have one later, and the system may wake a receiver late.
 const MIN_LATENCY: u32 = 480;
 
-/// The configuration of a stream that fits some flows.
+/// The stream of a configuration that fits some flows.
 #[derive(Clone, Copy)]
 pub(crate) struct StreamPlan {
-    /// The format of its packets.
-    pub(crate) format: PacketFormat,
-    /// The number of its paths.
-    pub(crate) paths: u8,
-    /// The times of its packets.
+    /// The stream.
+    pub(crate) stream: Stream,
+    /// The times of the flows' packets.
     pub(crate) times: StreamTimes,
-    /// The latency in sampling instants at 48 kHz.
-    pub(crate) latency: u32,
-    /// The window in packets.
-    pub(crate) window: u16,
 }
 
 /// Returns a plan for each stream of the routes. `latency` is in milliseconds; if it is none, it is twice the greatest
@@ -84,12 +80,20 @@ fn plan_of(
     };
     let paths = places.len().min(4) as u8;
     let window = window_for(&format, latency, paths).ok_or(ImportFault::Latency)?;
-    Ok(StreamPlan {
-        format,
-        paths,
-        times: *times,
+    let stream = Stream {
+        enc: format.enc,
+        channels: format.channels,
+        frames: format.frames,
+        pt: format.pt,
+        ssrc: None,
+        clock: times.clock_for(latency),
         latency,
         window,
+        paths,
+    };
+    Ok(StreamPlan {
+        stream,
+        times: *times,
     })
 }
 

@@ -33,7 +33,7 @@ returns-in_err-write_all_counts-clause-fault g c =
     let session = closed_session spec c.args.self c.close.new.self events written _ _ r (c.in-Ok.ensures.stands spec events r.datagrams r.session) in
     let gives = c.in_ok-write_drained.ensures.ok spec all r.datagrams begun session in
     let ready = settled_datagrams spec engine all (r.datagrams ++ gives.more) gives.stands (c.in_ok-write_drained.ensures.settled ∙ c.in-Ok.ensures.closed) in
-    report_uncounted spec all (r.datagrams ++ gives.more) written _ _ _ _ ready (gives.told all (c.closed.ensures.heard begun events r.datagrams r.told)) (wrote_more _ _ _ _ _ r.datagrams gives.more r.wrote gives.wrote)
+    report_uncounted spec all (r.datagrams ++ gives.more) written _ _ _ _ gives.stands.runnable ready (gives.told all (c.closed.ensures.heard begun events r.datagrams r.told)) (wrote_more _ _ _ _ _ r.datagrams gives.more r.wrote gives.wrote)
     (c.in_err-write_all_counts.ensures.fault spec all (r.datagrams ++ gives.more) gives.stands (sym c.streams.ensures.value)))
 
 pub returns-in_err-finish-clause-fault : goal.returns-in_err-finish-clause-fault
@@ -48,7 +48,7 @@ returns-in_err-finish-clause-fault g c =
     let ready = settled_datagrams spec engine all (r.datagrams ++ gives.more) gives.stands (c.in_ok-write_drained.ensures.settled ∙ c.in-Ok.ensures.closed) in
     let held = report_held spec all (r.datagrams ++ gives.more) written _ _ _ _ (wrote_more _ _ _ _ _ r.datagrams gives.more r.wrote gives.wrote)
     (c.in_ok-write_all_counts.ensures.ok spec all (r.datagrams ++ gives.more) gives.stands (sym c.streams.ensures.value)) in
-    report_unwritten spec all (r.datagrams ++ gives.more) written _ _ c.write_all_counts.new.text _ ready (gives.told all (c.closed.ensures.heard begun events r.datagrams r.told)) held c.in_err-finish.ensures.fault)
+    report_unwritten spec all (r.datagrams ++ gives.more) written _ _ c.write_all_counts.new.text _ gives.stands.runnable ready (gives.told all (c.closed.ensures.heard begun events r.datagrams r.told)) held c.in_err-finish.ensures.fault)
 
 pub returns-clause-ok : goal.returns-clause-ok
 returns-clause-ok g c = λ events written begun r.
@@ -69,4 +69,4 @@ returns-clause-hears g c = λ events written begun r.
     let session = closed_session spec c.args.self c.close.new.self events written _ _ r (c.in-Ok.ensures.stands spec events r.datagrams r.session) in
     let gives = c.in_ok-write_drained.ensures.ok spec all r.datagrams begun session in
     let ready = settled_datagrams spec c.write_drained.new.engine all (r.datagrams ++ gives.more) gives.stands (c.in_ok-write_drained.ensures.settled ∙ c.in-Ok.ensures.closed) in
-    heard_all spec all (r.datagrams ++ gives.more) _ ready (gives.told all (c.closed.ensures.heard begun events r.datagrams r.told))
+    heard_all spec all (r.datagrams ++ gives.more) _ gives.stands.runnable ready (gives.told all (c.closed.ensures.heard begun events r.datagrams r.told))
