@@ -1,1 +1,3 @@
 pub mod ConnectionsLemmas
+pub mod IntegerLemmas
+pub mod BodyLemmas

@@ -1,4 +1,4 @@
--- What a client was answered.
+-- The responses that a client was sent.
 use Rattle.std.specs.Prelude.{◌≡◌, ℕ, List, ◌++◌, All}
 use Rattle.http.specs.declared.request.Request.{Request}
 use Rattle.http.specs.Request.{head_of}

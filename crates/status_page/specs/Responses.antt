@@ -1,4 +1,4 @@
--- What is answered to a request.
+-- The response to a request.
 use Rattle.std.specs.Prelude.{◌≡◌, ℕ, ◌≤◌, List, [], ◌∷◌, Bool, true, false, ◌||◌, Option, Some, None, codes, if◌then◌else◌}
 use Rattle.std.specs.Str.{bytes_eq}
 use Rattle.json.specs.Print.{print}
@@ -72,9 +72,13 @@ answers snapshot true true (Some resource) response = IsResponse 200 (shown_fiel
 abbrev pub IsAnswer : Snapshot → Option (List ℕ) → List ℕ → List ℕ → Response → Type 0
 IsAnswer snapshot host method path response = answers snapshot (is_here host) (is_read method) (resource_of path) response
 
--- at most 8,192 octets of a head, of trailers and of a body, and no request while an answer waits
-pub record IsGuarded (config : Config) : Type 0 where
+-- at most 8,192 octets of a head and of trailers, at most so many of a body, and no request while an answer waits
+pub record IsGuardedUpTo (most : ℕ) (config : Config) : Type 0 where
   pub head : config.limits.max_head_len ≤ 8192
   pub trailers : config.limits.max_trailers_len ≤ 8192
-  pub body : config.max_body_len ≤ 8192
+  pub body : config.max_body_len ≤ most
   pub pending : config.max_pending ≡ 0
+
+-- the same, with a body of at most 8,192 octets
+abbrev pub IsGuarded : Config → Type 0
+IsGuarded = IsGuardedUpTo 8192

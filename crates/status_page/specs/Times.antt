@@ -1,5 +1,5 @@
 -- The limits on the times of a client's requests.
-use Rattle.std.specs.Prelude.{ℕ, ◌-◌, Bool, false, ◌||◌, nat_lt, Option, Some, None}
+use Rattle.std.specs.Prelude.{◌-◌, Bool, false, ◌||◌, nat_lt, Option, Some, None}
 use Rattle.std.specs.Duration.{as_nanos}
 use Rattle.std.specs.declared.time.Duration.{Duration}
 use Rattle.status_page.specs.declared.server.times.RequestTimes.{RequestTimes}

@@ -10,6 +10,10 @@
 //! - **With sockets**: `PageServer::bind` listens on 127.0.0.1, and each `turn` waits for sockets and
 //!   responds from the page. `serve_page` does so in a thread of its own, and takes a newer snapshot
 //!   from its `RingSource` before each turn.
+//! - **With gains**: a `ControlPage` also shows the gains of the run at `/gains`, and changes them for a
+//!   client that has the run's `Token`. It asks a `GainDesk`, which the run's side implements. The
+//!   connections of its clients come from `new_control_connection`. `PageServer` and `serve_page` take
+//!   either page.
 //!
 //! Nothing else waits for the server's thread. A client that reads nothing delays only itself. It is
 //! dropped after ten seconds, and so is one whose request is not complete ten seconds after its
@@ -21,17 +25,25 @@
 #![tactic(auto)]
 
 mod condition;
+mod control;
+mod control_page;
 mod fields;
 mod page;
 mod server;
 mod snapshot;
 
+pub use control::shape::GainShape;
+pub use control::token::Token;
+pub use control::{Control, DeskAnswer, GainDesk};
+pub use control_page::ControlPage;
 pub use page::Page;
+pub use page::controls_html::CONTROLS;
 pub use page::html::HTML;
 pub use page::metrics::metrics_text;
 pub use page::state::state_json;
 pub use rtp_stats::ArrivalMargin;
-pub use server::client::new_connection;
+pub use server::client::{new_connection, new_control_connection};
+pub use server::served::ServedPage;
 pub use server::source::{RingSource, serve_page};
 pub use server::{MAX_CLIENTS, PageServer};
 pub use snapshot::{

@@ -1,6 +1,6 @@
-//! The page: the service that responds to requests from one snapshot. `html` has the page's text, `state` writes the
-//! snapshot as JSON, and `metrics` as metrics, of lines in `samples` and pieces in `text`. `resource` has the paths,
-//! and `host` the hosts to which requests may be addressed.
+//! The page: the service that responds to requests from one snapshot. `html` has the page's text, `controls_html` that
+//! of its gains, `state` writes the snapshot as JSON, and `metrics` as metrics, of lines in `samples` and pieces in
+//! `text`. `resource` has the paths, and `host` the hosts to which requests may be addressed.
 ghost use Rattle.std.specs.Prelude.{◌≡◌, [], ◌∷◌, ◌++◌, codes, OnOk, IfOk};
 ghost use Rattle.http_server.specs.Connection.{config_of, history};
 ghost use Rattle.http_server.specs.History.{IsServed, Rests};
@@ -29,7 +29,8 @@ use http_server::{Connection, Response, Service};
 use std::alloc::{AllocError, Global};
 use std::marker::Model;
 
-mod host;
+pub(crate) mod controls_html;
+pub(crate) mod host;
 pub(crate) mod html;
 pub(crate) mod metrics;
 pub(crate) mod resource;
@@ -91,8 +92,17 @@ impl Page {
         connection.advance(self);
     }
 
+    /// Returns the allocator of the page.
+    pub(crate) fn alloc(&self) -> Global {
+        self.alloc
+    }
+
     /// Writes a resource into a response. Returns `AllocError` if an allocation fails.
-    fn show(&mut self, resource: Resource, response: &mut Response) -> Result<(), AllocError>
+    pub(crate) fn show(
+        &mut self,
+        resource: Resource,
+        response: &mut Response,
+    ) -> Result<(), AllocError>
         requires { IsBlank response.old }
         ensures shown { OnOk result
             (IsResponse 200 (shown_fields resource) (content_of self.old resource) response.new) }
@@ -141,10 +151,7 @@ impl Service for Page {
             return misdirect(response);
         }
         match Resource::of(request.uri().path()) {
-            None => {
-                response.status = StatusCode::NOT_FOUND;
-                add_guard(response)
-            }
+            None => refuse_path(response),
             Some(resource) if is_read(request.method()) => self.show(resource, response),
             Some(_) => refuse(response),
         }
@@ -152,14 +159,23 @@ impl Service for Page {
 }
 
 /// Returns true if a method only reads.
-fn is_read(method: &Method) -> bool
+pub(crate) fn is_read(method: &Method) -> bool
     ensures { result ≡ is_read method.now }
 {
     method.as_str() == "GET" || method.as_str() == "HEAD"
 }
 
+/// Writes the response to a path at which there is no resource: 404.
+pub(crate) fn refuse_path(response: &mut Response) -> Result<(), AllocError>
+    requires { IsBlank response.old }
+    ensures { OnOk result (IsResponse 404 guard_fields [] response.new) }
+{
+    response.status = StatusCode::NOT_FOUND;
+    add_guard(response)
+}
+
 /// Writes the response to a method that does not only read: 405, with the allowed methods.
-fn refuse(response: &mut Response) -> Result<(), AllocError>
+pub(crate) fn refuse(response: &mut Response) -> Result<(), AllocError>
     requires { IsBlank response.old }
     ensures { OnOk result (IsResponse 405 refused_fields [] response.new) }
 {
@@ -173,7 +189,7 @@ const MISDIRECTED_TEXT: &str =
     "The page answers only to the hosts 127.0.0.1, localhost and [::1].\n";
 
 /// Writes the response to a request that is addressed to another host: 421, with the hosts to which the page answers.
-fn misdirect(response: &mut Response) -> Result<(), AllocError>
+pub(crate) fn misdirect(response: &mut Response) -> Result<(), AllocError>
     requires { IsBlank response.old }
     ensures { OnOk result (IsResponse 421 misdirected_fields misdirected_text response.new) }
 {
@@ -190,7 +206,7 @@ fn misdirect(response: &mut Response) -> Result<(), AllocError>
 }
 
 /// Adds a header field, and then those that every response has, to a response that has none.
-fn add_fields(
+pub(crate) fn add_fields(
     response: &mut Response,
     name: HeaderName,
     value: HeaderValue,
@@ -244,7 +260,7 @@ fn add_no_sniff(response: &mut Response) -> Result<(), AllocError>
 }
 
 /// Returns these octets in a form that connections share without a copy.
-fn shared(octets: Vec<u8>) -> Result<Bytes, AllocError>
+pub(crate) fn shared(octets: Vec<u8>) -> Result<Bytes, AllocError>
     ensures { IfOk result (λ shared. shared ≡ octets.items) }
 {
     Ok(Bytes::from_vec(octets)?)

@@ -1,7 +1,7 @@
-//! The server of the page: its listener and its clients. `client` has a client's turn, `times` the limits on its
-//! requests, and `source` the snapshots and the loop of the page's thread.
-use crate::page::Page;
-use crate::server::client::{Client, Progress, new_connection};
+//! The server of the page: its listener and its clients. `served` has the pages that it can serve, `client` a client's
+//! turn, `times` the limits on its requests, and `source` the snapshots and the loop of the page's thread.
+use crate::server::client::{Client, Progress};
+use crate::server::served::ServedPage;
 use mio::net::{TcpListener, TcpStream};
 use mio::{Events, Interest, Poll, Token};
 use slab::Slab;
@@ -12,11 +12,13 @@ use std::net::{Ipv4Addr, Net, SocketAddr};
 use std::time::Duration;
 
 pub(crate) mod client;
+pub(crate) mod served;
 pub(crate) mod source;
 mod times;
 
 /// The greatest number of clients at the same time. A further one takes the place of the client that has been longest
 /// without a complete request.
+// An open page and a scraper use a connection or two each. The limit bounds the memory of the server.
 pub const MAX_CLIENTS: usize = 64;
 
 /// The greatest number of events of one poll.
@@ -97,17 +99,17 @@ impl PageServer {
     /// Gives each client that is ready its turn, disconnects those that are done, that neither read nor wrote for 10 s,
     /// or whose request is not complete 10 s after its first octet, and accepts new ones. `now` is the reading of a
     /// monotonic clock. Call it after each `wait`.
-    pub fn turn(&mut self, page: &mut Page, now: Duration) {
+    pub fn turn<P: ServedPage>(&mut self, page: &mut P, now: Duration) {
         // New clients come last: they may get the places of clients that were just disconnected.
         self.note_ready();
         for place in 0..MAX_CLIENTS {
             self.turn_at(place, page, now);
         }
-        self.take_clients(now);
+        self.take_clients(page, now);
     }
 
     /// Gives the client at a place its turn, and disconnects it if it is done.
-    fn turn_at(&mut self, place: usize, page: &mut Page, now: Duration) {
+    fn turn_at<P: ServedPage>(&mut self, place: usize, page: &mut P, now: Duration) {
         if is_done_at(&mut self.clients, place, page, now) {
             remove_client(&mut self.clients, place);
         }
@@ -138,7 +140,7 @@ impl PageServer {
     /// Accepts the clients that wait. If there is no place for one, the client that has been longest without a complete
     /// request is disconnected.
     // So no number of clients that hold their connections keeps others from the page.
-    fn take_clients(&mut self, now: Duration) {
+    fn take_clients<P: ServedPage>(&mut self, page: &P, now: Duration) {
         for _ in 0..MAX_AT_ONCE {
             let Ok((stream, _)) = self.listener.accept() else {
                 return;
@@ -146,14 +148,14 @@ impl PageServer {
             if self.clients.len() >= MAX_CLIENTS {
                 remove_longest_waiting(&mut self.clients);
             }
-            self.take(stream, now);
+            self.take(page, stream, now);
         }
     }
 
     /// Adds a client. It is disconnected if the system refuses to poll it or an allocation fails.
-    fn take(&mut self, mut stream: TcpStream, now: Duration) {
+    fn take<P: ServedPage>(&mut self, page: &P, mut stream: TcpStream, now: Duration) {
         if self.register_client(&mut stream) {
-            let client = Client::new(stream, new_connection(self.alloc, self.keys), now);
+            let client = Client::new(stream, page.connection(self.alloc, self.keys), now);
             keep(&mut self.clients, client);
         }
     }
@@ -168,7 +170,12 @@ impl PageServer {
 
 /// Gives the client at a place its turn, and returns true if there is one that is done then.
 // This function and those below only borrow the clients, so that few functions hold sockets.
-fn is_done_at(clients: &mut Slab<Client>, place: usize, page: &mut Page, now: Duration) -> bool {
+fn is_done_at<P: ServedPage>(
+    clients: &mut Slab<Client>,
+    place: usize,
+    page: &mut P,
+    now: Duration,
+) -> bool {
     match clients.get_mut(place) {
         Some(client) => client.run_turn(page, now),
         None => false,

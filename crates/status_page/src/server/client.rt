@@ -2,9 +2,9 @@
 ghost use Rattle.std.specs.Prelude.{◌≡◌};
 ghost use Rattle.http_server.specs.Connection.{config_of, history};
 ghost use Rattle.http_server.specs.History.{new_history};
-ghost use Rattle.status_page.specs.Responses.{IsGuarded};
+ghost use Rattle.status_page.specs.Responses.{IsGuarded, IsGuardedUpTo};
 
-use crate::page::Page;
+use crate::server::served::ServedPage;
 use crate::server::times::RequestTimes;
 use http_server::{Config, Connection};
 use http1::Limits;
@@ -18,6 +18,12 @@ use std::time::Duration;
 // More than a browser or Prometheus sends, and a bound on what 64 clients can make the server hold.
 const MAX_OCTETS: usize = 8192;
 
+/// The greatest number of octets of a request's body if the gains can be changed.
+// 8,192 gains of at most nine octets each, with their commas, are 74,000. So 64 clients can make the server hold 8 MiB
+// of bodies, and some more while these grow. A client needs no token for that: the server reads a body before the page
+// sees its head.
+const MAX_CONTROL_OCTETS: usize = 131_072;
+
 /// The greatest number of reads and writes in one turn.
 // A limit, so that a busy client does not keep the others from their turns.
 const MAX_STEPS: u32 = 16;
@@ -28,18 +34,33 @@ pub fn new_connection(alloc: Global, keys: RandomState) -> Connection
     ensures limits { IsGuarded (config_of result) }
     ensures new { history result ≡ new_history }
 {
-    let config = Config {
+    Connection::new(alloc, keys, config(MAX_OCTETS))
+}
+
+/// Returns the connection of a new client of a page whose gains can be changed. It differs from `new_connection` in
+/// that it refuses a body only if it has more than 131,072 octets.
+pub fn new_control_connection(alloc: Global, keys: RandomState) -> Connection
+    ensures limits { IsGuardedUpTo 131072 (config_of result) }
+    ensures new { history result ≡ new_history }
+{
+    Connection::new(alloc, keys, config(MAX_CONTROL_OCTETS))
+}
+
+/// Returns the limits of a connection that takes bodies of up to so many octets.
+fn config(max_body_len: usize) -> Config
+    ensures { IsGuardedUpTo max_body_len result }
+{
+    Config {
         limits: Limits {
             max_head_len: MAX_OCTETS,
             max_extensions_len: MAX_OCTETS,
             max_trailers_len: MAX_OCTETS,
         },
-        max_body_len: MAX_OCTETS,
+        max_body_len,
         // So a client that sends requests and reads no response cannot fill the memory with responses.
         max_pending: 0,
         read_size: MAX_OCTETS,
-    };
-    Connection::new(alloc, keys, config)
+    }
 }
 
 /// The state of a client between two turns.
@@ -75,7 +96,7 @@ impl Client {
     }
 
     /// Takes the client's turn if it is ready, and returns true if the client is to be disconnected.
-    pub(crate) fn run_turn(&mut self, page: &mut Page, now: Duration) -> bool {
+    pub(crate) fn run_turn<P: ServedPage>(&mut self, page: &mut P, now: Duration) -> bool {
         if self.progress == Progress::Ready {
             self.turn(page, now);
         }
@@ -94,7 +115,7 @@ impl Client {
     }
 
     /// Reads requests and writes responses until the socket would block, or the turn's steps are used up.
-    fn turn(&mut self, page: &mut Page, now: Duration) {
+    fn turn<P: ServedPage>(&mut self, page: &mut P, now: Duration) {
         // A client stays ready until its socket would block: only then does the system send an event again.
         self.progress = Progress::Ready;
         for _ in 0..MAX_STEPS {
@@ -107,11 +128,11 @@ impl Client {
     }
 
     /// Responds to the request that was read, if it is complete.
-    fn answer(&mut self, page: &mut Page, now: Duration) {
+    fn answer<P: ServedPage>(&mut self, page: &mut P, now: Duration) {
         if self.connection.wants_write() {
             return;
         }
-        page.answer(&mut self.connection);
+        page.respond(&mut self.connection, now);
         // A response follows a complete request. A body that waits for `100 Continue` has another ten seconds.
         if self.connection.wants_write() {
             self.times.note_complete(now);

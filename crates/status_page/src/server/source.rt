@@ -1,6 +1,6 @@
 //! The source of a page's snapshots, and the loop of the page's thread.
-use crate::page::Page;
 use crate::server::PageServer;
+use crate::server::served::ServedPage;
 use crate::snapshot::Snapshot;
 use rtrb::Consumer;
 use std::sync::Wait;
@@ -31,12 +31,12 @@ impl RingSource {
     }
 
     /// Updates a page if there is a newer snapshot. Returns false once the run has ended. It does not wait.
-    fn update(&mut self, page: &mut Page) -> bool {
+    fn update<P: ServedPage>(&mut self, page: &mut P) -> bool {
         let is_over = self.ring.is_abandoned();
         // As many as are in the ring now, so that it ends even if snapshots are pushed all the time.
         for _ in 0..self.ring.slots() {
             if let Ok(newer) = self.ring.pop() {
-                page.update(newer);
+                page.show(newer);
             }
         }
         !is_over
@@ -45,10 +45,10 @@ impl RingSource {
 
 /// Serves a page's clients until the run has ended and each client has had the last snapshot, but for at most 300 ms
 /// after the end. It blocks the calling thread, which should be one of its own.
-pub fn serve_page<R: Wait + Clock>(
+pub fn serve_page<R: Wait + Clock, P: ServedPage>(
     rt: &R,
     mut server: PageServer,
-    mut page: Page,
+    mut page: P,
     mut source: RingSource,
 ) {
     serve_until_end(rt, &mut server, &mut page, &mut source);
@@ -56,10 +56,10 @@ pub fn serve_page<R: Wait + Clock>(
 
 /// Serves like `serve_page`, on borrowed parts.
 // A function of its own, so that few functions hold sockets.
-fn serve_until_end<R: Wait + Clock>(
+fn serve_until_end<R: Wait + Clock, P: ServedPage>(
     rt: &R,
     server: &mut PageServer,
-    page: &mut Page,
+    page: &mut P,
     source: &mut RingSource,
 ) {
     let mut now = Duration::ZERO;
@@ -78,7 +78,12 @@ fn serve_until_end<R: Wait + Clock>(
 
 /// Serves the last snapshot, which the page has had since the time `since`, until each client has had it, but for at
 /// most 300 ms.
-fn serve_last<R: Wait + Clock>(rt: &R, server: &mut PageServer, page: &mut Page, since: Duration) {
+fn serve_last<R: Wait + Clock, P: ServedPage>(
+    rt: &R,
+    server: &mut PageServer,
+    page: &mut P,
+    since: Duration,
+) {
     for _ in rt.forever() {
         // Without a clock nothing would bound the time.
         let Ok(now) = rt.monotonic() else {

@@ -6,6 +6,7 @@ use std::time::Duration;
 
 /// The time in nanoseconds in which a request has to be complete, and after which a client that neither read nor wrote
 /// is disconnected: ten seconds.
+// A browser sends a request at once. Slow clients would otherwise keep their places for good.
 const LIMIT_NANOS: u128 = 10_000_000_000;
 
 /// The times of a client's requests, as readings of a monotonic clock.

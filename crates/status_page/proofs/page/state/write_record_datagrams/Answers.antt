@@ -1,4 +1,4 @@
-use Rattle.std.proofs.Common.{◌≡◌, [], ◌∷◌, ◌++◌, OnOk, codes, List, ap, subst, ◌∙◌, append_assoc}
+use Rattle.std.proofs.Common.{◌≡◌, [], ◌∷◌, ◌++◌, OnOk, codes, ap, subst, ◌∙◌, append_assoc}
 use Rattle.json.specs.Token.{key}
 use Rattle.status_page.specs.State.{known_token}
 use Rattle.status_page.proofs.page.state.write_record_datagrams.Goals as goal

@@ -1,0 +1,138 @@
+-- The responses of the page of a run whose gains can be changed.
+use Rattle.std.specs.Prelude.{◌≡◌, ◌⊎◌, ℕ, ◌*◌, List, [], length, take, drop, codes, bytes_eq, ℤ, Option, Some, None, Result, Ok, Err, if◌then◌else◌}
+use Rattle.std.specs.declared.time.Duration.{Duration}
+use Rattle.http.specs.declared.request.Request.{Request}
+use Rattle.http.specs.Request.{body_of, head_of}
+use Rattle.http_uri.specs.Uri.{uri_query}
+use Rattle.http_server.specs.declared.response.Response.{Response}
+use Rattle.http_server.specs.Response.{IsResponse}
+use Rattle.json.specs.Json.{Json}
+use Rattle.studio_io.specs.declared.gain_source.GainAction.TheVariants.{Show as ShowAction}
+use Rattle.studio_io.specs.declared.gain_source.GainRequest.{GainRequest}
+use Rattle.status_page.specs.declared.control.Control.{Control}
+use Rattle.status_page.specs.declared.control.DeskAnswer.{DeskAnswer}
+use Rattle.status_page.specs.declared.control.fault.ControlFault.{ControlFault}
+use Rattle.status_page.specs.declared.control.fault.ControlFault.TheVariants.{Query}
+use Rattle.status_page.specs.declared.control.reply.ShownTimes.{ShownTimes}
+use Rattle.status_page.specs.declared.control.verdict.Verdict.{Verdict}
+use Rattle.status_page.specs.declared.control.verdict.Verdict.TheVariants.{OtherHost, Refused, NoResource, WrongMethod, WrongGainsMethod, WithoutToken, Show, ShowGains, ChangeGains}
+use Rattle.status_page.specs.declared.control_page.ControlPage.{ControlPage}
+use Rattle.status_page.specs.ChangeRate.{allows, counted}
+use Rattle.status_page.specs.ControlPages.{control_content_of}
+use Rattle.status_page.specs.ControlFaults.{IsFault, IsWithoutToken, IsWrongMethod}
+use Rattle.status_page.specs.GainBodies.{IsBuffer, change_of, value_of}
+use Rattle.status_page.specs.GainReplies.{IsShownReply, IsTakenReply, shown_in, taken_in}
+use Rattle.status_page.specs.Integers.{integer_in}
+use Rattle.status_page.specs.Responses.{guard_fields, misdirected_fields, misdirected_text, refused_fields, shown_fields}
+use Rattle.status_page.specs.Verdicts.{verdict_of}
+
+-- how a desk answers: its state, the request, the gains in the buffer, the outcome, the gains in the buffer after it, and the state then
+abbrev pub Asks : Type 0 → Type 1
+Asks D = D → GainRequest → List ℤ → DeskAnswer → List ℤ → D → Type 0
+
+-- the time in a query: `at=` and an integer
+abbrev pub time_at : List ℕ → Option ℤ
+time_at query = if bytes_eq (take 3 query) (codes "at=") then integer_in (drop 3 query) else None
+
+abbrev pub time_found : Option ℤ → Result (Option ℤ) ControlFault
+time_found None = Err Query
+time_found (Some at) = Ok (Some at)
+
+-- the time that a query asks for: that of the next block without a query
+abbrev pub time_in_query : Option (List ℕ) → Result (Option ℤ) ControlFault
+time_in_query None = Ok None
+time_in_query (Some query) = time_found (time_at query)
+
+-- the token and the shape are the same
+pub record HasSameLock {D : Type 0} (old new : Control D) : Type 0 where
+  pub token : new.token ≡ old.token
+  pub shape : new.shape ≡ old.shape
+
+-- the run was asked for the gains at a time, and the reply is its answer
+pub record AsksToShow {D : Type 0} (asks : Asks D) (old : Control D) (at : Option ℤ) (new : Control D) (reply : Result ShownTimes ControlFault) : Type 0 where
+  pub sent : List ℤ
+  pub places : length sent ≡ old.shape.outs * old.shape.ins
+  pub outcome : DeskAnswer
+  pub asked : asks old.desk (record { at = at; action = ShowAction }) sent outcome new.gains.items new.desk
+  pub is_reply : reply ≡ shown_in outcome
+
+-- a query at fault is refused, and the run is not asked
+abbrev pub ShowsBy : {D : Type 0} → Asks D → Control D → Result (Option ℤ) ControlFault → Control D → Result ShownTimes ControlFault → Type 0
+ShowsBy asks old (Err fault) new reply = (new.desk ≡ old.desk) × (reply ≡ Err fault)
+ShowsBy asks old (Ok at) new reply = AsksToShow asks old at new reply
+
+-- the run was asked for exactly this change, and the reply is its answer
+pub record AsksToChange {D : Type 0} (asks : Asks D) (old : Control D) (value : Option Json) (request : GainRequest) (new : Control D) (reply : Result ℤ ControlFault) : Type 0 where
+  pub sent : List ℤ
+  pub buffer : IsBuffer old.shape.outs old.shape.ins value request.action sent
+  pub outcome : DeskAnswer
+  pub asked : asks old.desk request sent outcome new.gains.items new.desk
+  pub is_reply : reply ≡ taken_in outcome
+
+-- a body at fault is refused, and the run is not asked
+abbrev pub ChangesTo : {D : Type 0} → Asks D → Control D → Option Json → Result GainRequest ControlFault → Control D → Result ℤ ControlFault → Type 0
+ChangesTo asks old value (Err fault) new reply = (new.desk ≡ old.desk) × (reply ≡ Err fault)
+ChangesTo asks old value (Ok request) new reply = AsksToChange asks old value request new reply
+
+abbrev pub ChangesBy : {D : Type 0} → Asks D → Control D → Option Json → Control D → Result ℤ ControlFault → Type 0
+ChangesBy asks old value new reply = ChangesTo asks old value (change_of old.shape.outs old.shape.ins value) new reply
+
+-- an allocation failed
+abbrev pub IsFailed : Response → Type 0
+IsFailed response = IsResponse 500 [] [] response
+
+-- the response is such, unless an allocation failed
+abbrev pub IsWrittenOrFailed : (Response → Type 0) → Response → Type 0
+IsWrittenOrFailed Is response = Is response ⊎ IsFailed response
+
+-- the gains were asked for at the time of the query, and the response is the reply; or an allocation failed before that
+abbrev pub Shows : {D : Type 0} → Asks D → Control D → Option (List ℕ) → Control D → Response → Type 0
+Shows asks old query new response =
+    ((reply : Result ShownTimes ControlFault) × ShowsBy asks old (time_in_query query) new reply × IsWrittenOrFailed (IsShownReply old.shape.outs old.shape.ins reply new.gains.items) response)
+    ⊎ ((new.desk ≡ old.desk) × IsFailed response)
+
+-- the change of the body was asked for, and the response is the reply; or an allocation failed before that
+abbrev pub Changes : {D : Type 0} → Asks D → Control D → Option Json → Control D → Response → Type 0
+Changes asks old value new response =
+    ((reply : Result ℤ ControlFault) × ChangesBy asks old value new reply × IsWrittenOrFailed (IsTakenReply reply) response)
+    ⊎ ((new.desk ≡ old.desk) × IsFailed response)
+
+-- at this time
+abbrev pub at_time : {D : Type 0} → ControlPage D → Duration → ControlPage D
+at_time page time = record page { time = time }
+
+-- what is done with a request
+abbrev pub verdict_on : {D : Type 0} → ControlPage D → Request (List ℕ) → Verdict
+verdict_on page request = verdict_of page.control.token (allows page.rate page.time) (head_of request)
+
+-- the gains were shown, and nothing but the desk has changed
+pub record ShowsGains {D : Type 0} (asks : Asks D) (old : ControlPage D) (request : Request (List ℕ)) (response : Response) (new : ControlPage D) : Type 0 where
+  pub shows : Shows asks old.control (uri_query (head_of request).uri) new.control response
+  pub lock : HasSameLock old.control new.control
+  pub page : new.page ≡ old.page
+  pub rate : new.rate ≡ old.rate
+  pub time : new.time ≡ old.time
+
+-- a change was asked for and counted, and nothing but the desk has changed
+pub record ChangesGains {D : Type 0} (asks : Asks D) (old : ControlPage D) (request : Request (List ℕ)) (response : Response) (new : ControlPage D) : Type 0 where
+  pub changes : Changes asks old.control (value_of (body_of request)) new.control response
+  pub lock : HasSameLock old.control new.control
+  pub page : new.page ≡ old.page
+  pub rate : new.rate ≡ counted old.rate old.time
+  pub time : new.time ≡ old.time
+
+-- what the page does by a verdict
+abbrev pub responds : {D : Type 0} → Asks D → Verdict → ControlPage D → Request (List ℕ) → Response → ControlPage D → Type 0
+responds asks OtherHost old request response new = IsResponse 421 misdirected_fields misdirected_text response × (new ≡ old)
+responds asks (Refused fault) old request response new = IsFault fault response × (new ≡ old)
+responds asks NoResource old request response new = IsResponse 404 guard_fields [] response × (new ≡ old)
+responds asks WrongMethod old request response new = IsResponse 405 refused_fields [] response × (new ≡ old)
+responds asks WrongGainsMethod old request response new = IsWrongMethod response × (new ≡ old)
+responds asks WithoutToken old request response new = IsWithoutToken response × (new ≡ old)
+responds asks (Show resource) old request response new = IsResponse 200 (shown_fields resource) (control_content_of old.page resource) response × (new ≡ old)
+responds asks ShowGains old request response new = ShowsGains asks old request response new
+responds asks ChangeGains old request response new = ChangesGains asks old request response new
+
+-- the answer to a request, by its verdict
+abbrev pub control_answers : {D : Type 0} → Asks D → ControlPage D → Request (List ℕ) → Response → ControlPage D → Type 0
+control_answers asks old request response new = responds asks (verdict_on old request) old request response new

@@ -1,0 +1,77 @@
+-- The responses to requests for the gains.
+use Rattle.std.specs.Prelude.{ℕ, List, [], ◌∷◌, ◌++◌, codes, ℤ, Result, Ok, Err}
+use Rattle.std.specs.Fmt.{signed_decimal}
+use Rattle.json.specs.Print.{print}
+use Rattle.json.specs.Token.{Token, begin_object, end_object, begin_array, end_array, key, number}
+use Rattle.http_server.specs.declared.response.Response.{Response}
+use Rattle.http_server.specs.Response.{IsResponse}
+use Rattle.gain_mix.specs.Gain.{rows_of}
+use Rattle.studio_io.specs.declared.gain_source.GainAnswer.{GainAnswer}
+use Rattle.studio_io.specs.declared.gain_source.GainAnswer.TheVariants.{Taken, Refused, Shown}
+use Rattle.status_page.specs.declared.control.DeskAnswer.{DeskAnswer}
+use Rattle.status_page.specs.declared.control.DeskAnswer.TheVariants as Desk
+use Rattle.status_page.specs.declared.control.fault.ControlFault.{ControlFault}
+use Rattle.status_page.specs.declared.control.fault.ControlFault.TheVariants.{NoAnswer}
+use Rattle.status_page.specs.declared.control.reply.ShownTimes.{ShownTimes}
+use Rattle.status_page.specs.ControlFaults.{IsFault, fault_of, json_fields}
+use Rattle.status_page.specs.State.{array_tokens}
+
+-- a change that was taken or refused. An answer that only shows gains is no answer to it
+abbrev pub taken_of : GainAnswer → Result ℤ ControlFault
+taken_of (Taken at) = Ok at
+taken_of (Refused fault) = Err (fault_of fault)
+taken_of (Shown at) = Err NoAnswer
+
+abbrev pub taken_in : DeskAnswer → Result ℤ ControlFault
+taken_in (Desk.Answered answer next) = taken_of answer
+taken_in Desk.NoAnswer = Err NoAnswer
+
+-- the gains that an answer shows. A change that was taken is no answer to a request that asks for none
+abbrev pub shown_of : GainAnswer → ℤ → Result ShownTimes ControlFault
+shown_of (Shown at) next = Ok (record { at = at; next_block_start = next })
+shown_of (Refused fault) next = Err (fault_of fault)
+shown_of (Taken at) next = Err NoAnswer
+
+abbrev pub shown_in : DeskAnswer → Result ShownTimes ControlFault
+shown_in (Desk.Answered answer next) = shown_of answer next
+shown_in Desk.NoAnswer = Err NoAnswer
+
+-- a time behind its key
+abbrev pub time_member : List ℕ → ℤ → List Token
+time_member name time = key name ∷ number (signed_decimal time) ∷ []
+
+-- a change that was taken
+abbrev pub taken_tokens : ℤ → List Token
+taken_tokens at = begin_object ∷ (time_member (codes "at") at ++ end_object ∷ [])
+
+-- numbers
+unfoldable pub number_tokens : List ℤ → List Token
+number_tokens [] = []
+number_tokens (n ∷ ns) = number (signed_decimal n) ∷ number_tokens ns
+
+-- a row of gains
+abbrev pub row_tokens : List ℤ → List Token
+row_tokens row = begin_array ∷ (number_tokens row ++ end_array ∷ [])
+
+-- rows of gains
+abbrev pub rows_tokens : List (List ℤ) → List Token
+rows_tokens [] = []
+rows_tokens (row ∷ rows) = row_tokens row ++ rows_tokens rows
+
+-- the time of the gains, and the first time whose gains could still change
+abbrev pub time_members : ShownTimes → List Token
+time_members times = time_member (codes "at") times.at ++ time_member (codes "next_block_start") times.next_block_start
+
+-- gains that are shown
+abbrev pub shown_tokens : ShownTimes → List (List ℤ) → List Token
+shown_tokens times rows = begin_object ∷ (time_members times ++ array_tokens (codes "gains") (rows_tokens rows) ++ end_object ∷ [])
+
+-- the response to a request for a change
+abbrev pub IsTakenReply : Result ℤ ControlFault → Response → Type 0
+IsTakenReply (Ok at) response = IsResponse 200 json_fields (print (taken_tokens at)) response
+IsTakenReply (Err fault) response = IsFault fault response
+
+-- the response to a request for the gains
+abbrev pub IsShownReply : ℕ → ℕ → Result ShownTimes ControlFault → List ℤ → Response → Type 0
+IsShownReply outs ins (Ok times) gains response = IsResponse 200 json_fields (print (shown_tokens times (rows_of ins outs gains))) response
+IsShownReply outs ins (Err fault) gains response = IsFault fault response

@@ -1,0 +1,188 @@
+//! The page of a run whose gains can be changed. It serves what a `Page` does, and the gains at `/gains`.
+ghost use Rattle.std.specs.Prelude.{◌≡◌, OnOk, true};
+ghost use Rattle.http_server.specs.Connection.{config_of, history};
+ghost use Rattle.http_server.specs.Exchange.{Calls};
+ghost use Rattle.http_server.specs.History.{IsServed, Rests};
+ghost use Rattle.http_server.specs.Response.{IsBlank, IsResponse};
+ghost use Rattle.std.specs.declared.time.Duration.{Duration};
+ghost use Rattle.status_page.specs.ChangeRate.{allows};
+ghost use Rattle.status_page.specs.ControlPages.{control_content_of, control_page_text};
+ghost use Rattle.status_page.specs.Responses.{shown_fields};
+ghost use Rattle.status_page.specs.declared.page.resource.Resource.TheVariants.{Page as ThePage};
+ghost use Rattle.status_page.specs.Controls.{
+  ChangesGains,
+  ShowsGains,
+  at_time,
+  control_answers,
+  verdict_on,
+};
+
+use crate::control::rate::ChangeRate;
+use crate::control::reply::{ask_for_token, refuse, refuse_method};
+use crate::control::verdict::{Verdict, verdict_of};
+use crate::control::{Control, GainDesk};
+use crate::page::controls_html::controls_html;
+use crate::page::html::page_html;
+use crate::page::resource::Resource;
+use crate::page::{self, Page};
+use crate::server::client::new_control_connection;
+use crate::server::served::ServedPage;
+use crate::snapshot::Snapshot;
+use bytes::Bytes;
+use http::{HeaderName, Request};
+use http_server::{Connection, Response, Service};
+use std::alloc::{AllocError, Global};
+use std::hash::RandomState;
+use std::time::Duration;
+
+/// The page of a run whose gains can be changed.
+#[derive(Drop)]
+pub struct ControlPage<D: GainDesk> {
+    page: Page,
+    control: Control<D>,
+    rate: ChangeRate,
+    /// The time of the requests that are answered next.
+    time: Duration,
+}
+
+impl<D: GainDesk> ControlPage<D> {
+    /// Returns a page with this control of the run's gains.
+    pub fn new(page: Page, control: Control<D>) -> ControlPage<D>
+        ensures page { result.page ≡ page }
+        ensures control { result.control ≡ control }
+        ensures free { (now : Duration) → allows result.rate now ≡ true }
+    {
+        ControlPage {
+            page,
+            control,
+            rate: ChangeRate::new(),
+            time: Duration::ZERO,
+        }
+    }
+
+    /// Responds from a newer snapshot from now on.
+    pub fn update(&mut self, snapshot: Snapshot)
+        ensures page { self.new.page ≡ snapshot }
+        ensures control { self.new.control ≡ self.old.control }
+        ensures rate { self.new.rate ≡ self.old.rate }
+    {
+        self.page.update(snapshot);
+    }
+
+    /// Responds to the requests that were read from a client. `now` is the reading of a monotonic clock. Call it after
+    /// each read and after each write.
+    pub fn answer(&mut self, connection: &mut Connection, now: Duration)
+        ensures served { ∥ IsServed (config_of connection.new) (history connection.new) ∥₁ }
+        ensures calls { Calls (control_answers D.asks) (at_time self.old now) self.new
+            (history connection.old).calls (history connection.new).calls }
+        ensures rests { Rests (config_of connection.new) (history connection.new) }
+        ensures config { config_of connection.new ≡ config_of connection.old }
+    {
+        self.time = now;
+        connection.advance(self);
+    }
+
+    /// Returns what is done with a request.
+    fn verdict(&self, request: &Request<Bytes>) -> Verdict
+        ensures { result ≡ verdict_on self.now request.now }
+    {
+        verdict_of(request, &self.control.token, self.rate.allows(self.time))
+    }
+
+    /// Writes a resource into a response. Returns `AllocError` if an allocation fails.
+    fn show_resource(
+        &mut self,
+        resource: Resource,
+        response: &mut Response,
+    ) -> Result<(), AllocError>
+        requires { IsBlank response.old }
+        ensures shown { OnOk result (IsResponse 200 (shown_fields resource)
+            (control_content_of self.old.page resource) response.new) }
+        ensures same { self.new ≡ self.old }
+    {
+        match resource {
+            Resource::Page => show_page(response),
+            Resource::State | Resource::Metrics => self.page.show(resource, response),
+        }
+    }
+
+    /// Shows the gains.
+    fn show_gains(&mut self, request: &Request<Bytes>, response: &mut Response)
+        requires { IsBlank response.old }
+        ensures { ShowsGains D.asks self.old request.now response.new self.new }
+    {
+        let alloc = self.page.alloc();
+        self.control.show(alloc, request.uri().query(), response);
+    }
+
+    /// Asks for the change in the body of a request.
+    fn change_gains(&mut self, request: &Request<Bytes>, response: &mut Response)
+        requires { IsBlank response.old }
+        ensures { ChangesGains D.asks self.old request.now response.new self.new }
+    {
+        let alloc = self.page.alloc();
+        self.rate.count(self.time);
+        self.control.change(alloc, request.body(), response);
+    }
+}
+
+impl<D: GainDesk> Service for ControlPage<D> {
+    ghost answers = { control_answers D.asks };
+
+    fn call(
+        &mut self,
+        request: &Request<Bytes>,
+        response: &mut Response,
+    ) -> Result<(), AllocError> {
+        match self.verdict(request) {
+            Verdict::OtherHost => page::misdirect(response),
+            Verdict::Refused(fault) => refuse(fault, response),
+            Verdict::NoResource => page::refuse_path(response),
+            Verdict::WrongMethod => page::refuse(response),
+            Verdict::WrongGainsMethod => refuse_method(response),
+            Verdict::WithoutToken => ask_for_token(response),
+            Verdict::Show(resource) => self.show_resource(resource, response),
+            Verdict::ShowGains => {
+                self.show_gains(request, response);
+                Ok(())
+            }
+            Verdict::ChangeGains => {
+                self.change_gains(request, response);
+                Ok(())
+            }
+        }
+    }
+}
+
+/// The end of the page, before which its gains come.
+const PAGE_END: &str = "</body>\n</html>\n";
+
+/// Writes the page with its gains into a response. Returns `AllocError` if an allocation fails.
+fn show_page(response: &mut Response) -> Result<(), AllocError>
+    requires { IsBlank response.old }
+    ensures { OnOk result (IsResponse 200 (shown_fields ThePage) control_page_text response.new) }
+{
+    let content_type = HeaderName::from_static("content-type");
+    page::add_fields(response, content_type, Resource::Page.media_type())?;
+    let text = page_html().as_bytes();
+    let (front, _) = text.split_at(text.len().saturating_sub(PAGE_END.len()));
+    response.body.push(Bytes::from_static(front))?;
+    response
+        .body
+        .push(Bytes::from_static(controls_html().as_bytes()))?;
+    response.body.push(Bytes::from_static(PAGE_END.as_bytes()))
+}
+
+impl<D: GainDesk> ServedPage for ControlPage<D> {
+    fn connection(&self, alloc: Global, keys: RandomState) -> Connection {
+        new_control_connection(alloc, keys)
+    }
+
+    fn show(&mut self, snapshot: Snapshot) {
+        self.update(snapshot);
+    }
+
+    fn respond(&mut self, connection: &mut Connection, now: Duration) {
+        self.answer(connection, now);
+    }
+}
