@@ -1,4 +1,4 @@
--- What is shown of a path's packets.
+-- The numbers of a path's packets as a snapshot shows them.
 use Rattle.std.specs.Prelude.{◌≡◌, ℕ, ℤ, ◌+◌, ◌-◌, ◌^◌, min, List, Option, slice_index, slice_get, Some, None}
 use Rattle.rtp_stream.specs.declared.counts.Counts.{Counts}
 use Rattle.rtp_stream.specs.declared.stream_spec.Stream.{Stream}

@@ -1,4 +1,4 @@
--- What is shown of an engine's streams.
+-- The numbers of an engine's streams as a snapshot shows them.
 use Rattle.std.specs.Prelude.{◌≡◌, ◌<◌, ℕ, List, Option, Some, slice_get, slice_index, IsSomeAnd}
 use Rattle.rtp_stream.specs.Counts.{tally_of}
 use Rattle.rtp_stream.specs.PathCounts.{path_tally_of}

@@ -1,4 +1,4 @@
--- What the status of an engine notes of its offers.
+-- The notes that the status of an engine makes of its offers.
 use Rattle.std.specs.Prelude.{◌≡◌, ◌≢◌, ℕ, [], List, length, slice_get, Some, None, ℤ, Option, MatchBool, nat_lt}
 use Rattle.rtp_wire.specs.Datagram.{head_at}
 use Rattle.rtp_stream.specs.declared.fate.Fate.{Fate}

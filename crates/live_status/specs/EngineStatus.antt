@@ -1,4 +1,4 @@
--- What is published of an engine.
+-- The snapshots that are published of an engine.
 use Rattle.std.specs.Prelude.{◌≡◌, ◌≤◌, ◌<◌, ℕ, Bool, List, Option, length, replicate, slice_get, IfSome}
 use Rattle.rtp_stats.specs.declared.copy_tracker.CopyTracker.{CopyTracker}
 use Rattle.studio_engine.specs.Engine.{EngineState}

@@ -1,4 +1,4 @@
--- What stays in a snapshot whose health is filled in.
+-- The parts of a snapshot that stay when its health is filled in.
 use Rattle.std.specs.Prelude.{◌≡◌, ℕ}
 use Rattle.status_page.specs.declared.snapshot.PathState.{PathState}
 use Rattle.status_page.specs.declared.snapshot.StreamState.{StreamState}

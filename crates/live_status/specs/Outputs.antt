@@ -1,4 +1,4 @@
--- What is shown of output channels.
+-- The numbers of output channels as a snapshot shows them.
 use Rattle.std.specs.Prelude.{◌≡◌, ℕ, List, slice_get, slice_index_or, MatchOption}
 use Rattle.rtp_stats.specs.declared.stats.MixStats.{MixStats}
 use Rattle.status_page.specs.declared.snapshot.OutputState.{OutputState}

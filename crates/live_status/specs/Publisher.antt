@@ -1,4 +1,4 @@
--- What a publisher shows.
+-- The snapshots that a publisher shows.
 use Rattle.std.specs.Prelude.{◌≡◌, ◌≤◌, ℕ, ℤ, int_le, Bool, false, ◌||◌, List, length, replicate, Option, option_map, unwrap_or, IsNone, IsSomeAnd, MatchOption}
 use Rattle.rtrb.specs.declared.producer.Producer.{Producer}
 use Rattle.rtp_stats.specs.Channel.{Gives}

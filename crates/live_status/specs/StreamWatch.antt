@@ -1,5 +1,5 @@
 -- The watches of streams.
-use Rattle.std.specs.Prelude.{◌≡◌, ℕ, ◌*◌, Bool, not, ◌==◌, List, [], ◌∷◌, slice_get, ℤ, None, MatchOption}
+use Rattle.std.specs.Prelude.{◌≡◌, ℕ, ◌*◌, Bool, not, ◌==◌, List, [], ◌∷◌, slice_get, ℤ, MatchOption}
 use Rattle.rtp_stream.specs.declared.stream_spec.Stream.{Stream}
 use Rattle.status_page.specs.declared.snapshot.StreamState.{StreamState}
 use Rattle.live_status.specs.Conditions.{SetsCondition}

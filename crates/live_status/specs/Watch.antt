@@ -1,4 +1,4 @@
--- What is shown of paths by their margins, and by when their packets came in time, late or too early.
+-- The state of paths as a snapshot shows it, by their margins, and by the times at which their packets came in time, late or too early.
 use Rattle.std.specs.Prelude.{◌≡◌, ℕ, ◌+◌, ◌-◌, ◌^◌, max, min, nat_lt, Bool, true, false, not, ◌&&◌, ◌==◌, List, [], fold, slice_get, ℤ, pos, ◌+ℤ◌, int_le, Option, Some, None, option_map, MatchOption, if◌then◌else◌}
 use Rattle.rtp_stats.specs.Drift.{MinuteState, drift_of, minute_after, minute_from}
 use Rattle.rtp_stats.specs.Margins.{second_of}

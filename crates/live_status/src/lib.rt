@@ -15,12 +15,16 @@
 //! of each path, and paths of which no packet is in time.
 //!
 //! A `Meter` measures the peaks of the mix if one thread sends it.
+//!
+//! `GainChannel::new` makes the two ends of a channel by which a page changes the gains of a run: the
+//! `PageDesk` sends requests, and `RunGains` is the source of gains that the run asks.
 #![tactic(auto)]
 
 mod count_lines;
 mod engine_offers;
 mod engine_status;
 mod fd_ready;
+mod gain_channel;
 mod health;
 mod lines;
 mod meter;
@@ -34,6 +38,10 @@ mod stream_status;
 
 pub use engine_status::EngineStatus;
 pub use fd_ready::{STDERR, STDIN, is_ready};
+pub use gain_channel::GainChannel;
+pub use gain_channel::link::GainLink;
+pub use gain_channel::page_desk::PageDesk;
+pub use gain_channel::run_gains::RunGains;
 pub use health::{HealthSource, fill_health};
 pub use lines::report::{SinkCounts, write_feed_faults, write_sink_counts};
 pub use meter::Meter;

@@ -1,7 +1,9 @@
 //! The server of a run's page, which runs in a thread of its own, and the error of a page that cannot be opened.
 
 use rtrb::{Producer, RingBuffer};
-use status_page::{Page, PageServer, RingSource, Snapshot, serve_page};
+use status_page::{
+    Control, ControlPage, GainDesk, Page, PageServer, RingSource, Snapshot, serve_page,
+};
 use std::alloc::{AllocError, AllocFailed, Global};
 use std::hash::RandomState;
 use std::io;
@@ -39,22 +41,25 @@ impl<T: Drop> From<AllocFailed<T>> for PageFault {
     }
 }
 
-/// The server of a run's page, with the page and the ring from which its snapshots come.
+/// The server of a run's page, with the page, the ring from which its snapshots come, and the control of the run's
+/// gains, if the page has it.
 #[derive(Drop)]
-pub struct PageThread {
+pub struct PageThread<D: GainDesk> {
     server: PageServer,
     page: Page,
     source: RingSource,
+    control: Option<Control<D>>,
 }
 
-impl PageThread {
+impl<D: GainDesk> PageThread<D> {
     /// Binds a port of 127.0.0.1, and returns the page's server and the end of the ring for its snapshots. At port 0
     /// the system picks one. Returns `PageFault::Page` if the port cannot be bound.
     pub(crate) fn bind<R: Net + RandomSource>(
         rt: &R,
         alloc: Global,
         port: u16,
-    ) -> Result<(PageThread, Producer<Snapshot>), PageFault> {
+        control: Option<Control<D>>,
+    ) -> Result<(PageThread<D>, Producer<Snapshot>), PageFault> {
         let (producer, consumer) = RingBuffer::new(alloc, MAX_SNAPSHOTS)?;
         match bind_server(rt, alloc, port) {
             Ok(server) => Ok((
@@ -62,6 +67,7 @@ impl PageThread {
                     server,
                     page: Page::new(alloc, Snapshot::new()),
                     source: RingSource::new(consumer),
+                    control,
                 },
                 producer,
             )),
@@ -80,8 +86,12 @@ impl PageThread {
             server,
             page,
             source,
+            control,
         } = self;
-        serve_page(rt, server, page, source);
+        match control {
+            Some(control) => serve_page(rt, server, ControlPage::new(page, control), source),
+            None => serve_page(rt, server, page, source),
+        }
     }
 }
 

@@ -5,7 +5,7 @@ use crate::meter::Meter;
 use crate::page_thread::{PageFault, PageThread};
 use crate::publisher::StatusPublisher;
 use rtrb::Producer;
-use status_page::{Snapshot, StreamName};
+use status_page::{Control, GainDesk, Snapshot, StreamName};
 use std::alloc::{AllocError, Global};
 use std::io::Write;
 use std::net::Net;
@@ -32,27 +32,28 @@ pub struct StatusOutputs<'a, E> {
 
 /// The page of a run and the end of the ring for its snapshots. Both are `None` without a page.
 #[derive(Drop)]
-pub struct OpenPage {
+pub struct OpenPage<D: GainDesk> {
     /// The page's server. The caller runs it in a thread of its own.
-    pub thread: Option<PageThread>,
+    pub thread: Option<PageThread<D>>,
     /// The end of the ring into which the publisher puts snapshots.
     pub snapshots: Option<Producer<Snapshot>>,
 }
 
-/// Binds the page's port, if a page is wanted. Returns `PageFault::Memory` if an allocation fails, and
-/// `PageFault::Page` if the port cannot be bound.
-pub fn open_page<R: Net + RandomSource>(
+/// Binds the page's port, if a page is wanted, which gets this control of the run's gains, if there is one. Returns
+/// `PageFault::Memory` if an allocation fails, and `PageFault::Page` if the port cannot be bound.
+pub fn open_page<R: Net + RandomSource, D: GainDesk>(
     rt: &R,
     alloc: Global,
     port: Option<u16>,
-) -> Result<OpenPage, PageFault> {
+    control: Option<Control<D>>,
+) -> Result<OpenPage<D>, PageFault> {
     let Some(port) = port else {
         return Ok(OpenPage {
             thread: None,
             snapshots: None,
         });
     };
-    let (thread, snapshots) = PageThread::bind(rt, alloc, port)?;
+    let (thread, snapshots) = PageThread::bind(rt, alloc, port, control)?;
     Ok(OpenPage {
         thread: Some(thread),
         snapshots: Some(snapshots),

@@ -1,4 +1,4 @@
-use Rattle.std.proofs.Common.{ℤ, subst, to_z, of_z, w64}
+use Rattle.std.proofs.Common.{ℤ, subst, w64}
 use Rattle.std.proofs.lemmas.Int.{to_z-of_z}
 use Rattle.live_status.specs.StreamWatch.{ShowsStreams}
 use Rattle.live_status.proofs.publisher.set_streams.Goals as goal

@@ -1,4 +1,4 @@
-use Rattle.std.proofs.Common.{◌≡◌, ℤ, Option, Some, None, MatchOption, option_copied, slice_get, refl, sym, ap, subst, ◌∙◌, to_z, of_z, w64}
+use Rattle.std.proofs.Common.{◌≡◌, ℤ, Option, Some, None, MatchOption, option_copied, slice_get, refl, sym, ap, subst, ◌∙◌, w64}
 use Rattle.std.proofs.lemmas.Int.{to_z-of_z}
 use Rattle.status_page.specs.declared.snapshot.PathState.{PathState}
 use Rattle.live_status.specs.Watch.{IsNoted}

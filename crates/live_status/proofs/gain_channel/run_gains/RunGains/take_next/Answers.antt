@@ -1,0 +1,24 @@
+use Rattle.std.proofs.Common.{[], ◌∷◌, ◌++◌, inr, refl, sym, ap, ◌∙◌}
+use Rattle.rtrb.specs.Ring.{received}
+use Rattle.live_status.proofs.gain_channel.run_gains.RunGains.take_next.Goals as goal
+
+pub returns-in-Ok-admit-clause-opens : goal.returns-in-Ok-admit-clause-opens
+returns-in-Ok-admit-clause-opens g c = record {
+  letter = c.in-Ok-admit.letter;
+  came = c.in-Ok.ensures.ok.0 ∙ ap (λ l. received c.args.self.now.requests ++ l ∷ []) (sym c.in-Ok-admit.ensures.only.0);
+  taken = refl;
+  asked = refl;
+  gains = c.in-Ok-admit.ensures.gains;
+  sent_are = c.is_full.ensures.looked.1;
+}
+
+pub returns-in-Err-clause-none : goal.returns-in-Err-clause-none
+returns-in-Err-clause-none g c = λ none.
+    inr (record {
+      letter = c.in-Ok.letter;
+      outcome = c.in-Err.outcome;
+      came = c.in-Ok.ensures.ok.0;
+      is = c.in-Err.ensures.returned;
+      taken = refl;
+      sent_are = c.push_reserved.ensures.sent.0 ∙ ap (λ l. l ++ c.in-Err.outcome ∷ []) c.is_full.ensures.looked.1;
+    })

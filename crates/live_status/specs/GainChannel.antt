@@ -1,0 +1,59 @@
+-- The steps of both ends of a channel for gains, and the changes that went through it.
+use Rattle.std.specs.Prelude.{◌≡◌, ◌⊎◌, ℤ, List, [], ◌∷◌, ◌++◌, flat_map, Some}
+use Rattle.rtrb.specs.Ring.{received, sent}
+use Rattle.studio_io.specs.Gains.{changes_in}
+use Rattle.studio_io.specs.declared.gain_source.GainAnswer.{GainAnswer}
+use Rattle.studio_io.specs.declared.gain_source.GainRequest.{GainRequest}
+use Rattle.live_status.specs.GainLetters.{HasGains, IsReturned}
+use Rattle.status_page.specs.declared.control.DeskAnswer.{DeskAnswer}
+use Rattle.status_page.specs.declared.control.DeskAnswer.TheVariants.{Answered, NoAnswer}
+use Rattle.live_status.specs.declared.gain_channel.letters.RequestLetter.{RequestLetter}
+use Rattle.live_status.specs.declared.gain_channel.letters.OutcomeLetter.{OutcomeLetter}
+use Rattle.live_status.specs.declared.gain_channel.run_gains.RunGains.{RunGains}
+
+-- the changes that the outcome of a request takes: one, or none
+abbrev pub changes_of : DeskAnswer → List ℤ → List (ℤ × List ℤ)
+changes_of (Answered answer next) gains = changes_in answer gains
+changes_of NoAnswer gains = []
+
+-- the changes that were taken by the outcomes that were sent, in order
+abbrev pub changes_sent : List OutcomeLetter → List (ℤ × List ℤ)
+changes_sent outcomes = flat_map (λ (letter : OutcomeLetter). changes_of letter.outcome letter.gains.items) outcomes
+
+module _ {R : Type 0} where
+  -- the changes that a run's end has taken
+  abbrev pub changes_by : RunGains R → List (ℤ × List ℤ)
+  changes_by end = changes_sent (sent end.answers)
+
+  -- the run's end took the next request from the ring, and is to answer it
+  pub record Opens (request : GainRequest) (before after : List ℤ) (old new : RunGains R) : Type 0 where
+    pub letter : RequestLetter
+    pub came : received new.requests ≡ received old.requests ++ letter ∷ []
+    pub taken : new.taken ≡ Some letter
+    pub asked : letter.request ≡ request
+    pub gains : HasGains request.action letter.gains.items before after
+    pub sent_are : sent new.answers ≡ sent old.answers
+
+  -- it took no request, or one that it sent back at once
+  abbrev pub Rests : RunGains R → RunGains R → Type 0
+  Rests old new = (received new.requests ≡ received old.requests) × (new.taken ≡ old.taken) × (sent new.answers ≡ sent old.answers)
+
+  pub record Returns (old new : RunGains R) : Type 0 where
+    pub letter : RequestLetter
+    pub outcome : OutcomeLetter
+    pub came : received new.requests ≡ received old.requests ++ letter ∷ []
+    pub is : IsReturned letter outcome
+    pub taken : new.taken ≡ old.taken
+    pub sent_are : sent new.answers ≡ sent old.answers ++ outcome ∷ []
+
+  abbrev pub PassesBack : RunGains R → RunGains R → Type 0
+  PassesBack old new = Rests old new ⊎ Returns old new
+
+  -- it sent this answer to the request of a letter, with the gains that the answer shows
+  pub record Answers (letter : RequestLetter) (answer : GainAnswer) (next : ℤ) (gains : List ℤ) (old new : RunGains R) : Type 0 where
+    pub outcome : OutcomeLetter
+    pub own : outcome.number ≡ letter.number
+    pub is : outcome.outcome ≡ Answered answer next
+    pub shown : outcome.gains.items ≡ gains
+    pub sent_are : sent new.answers ≡ sent old.answers ++ outcome ∷ []
+    pub received_are : received new.requests ≡ received old.requests

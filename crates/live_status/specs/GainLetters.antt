@@ -1,0 +1,27 @@
+-- The letters between a page that asks for gains and a run.
+use Rattle.std.specs.Prelude.{◌≡◌, ℕ, ℤ, Bool, true, false, List, Option, Some, None}
+use Rattle.status_page.specs.declared.control.DeskAnswer.TheVariants.{NoAnswer}
+use Rattle.live_status.specs.declared.gain_channel.letters.RequestLetter.{RequestLetter}
+use Rattle.live_status.specs.declared.gain_channel.letters.OutcomeLetter.{OutcomeLetter}
+use Rattle.studio_io.specs.declared.gain_source.GainAction.{GainAction}
+use Rattle.studio_io.specs.declared.gain_source.GainAction.TheVariants.{SetAll, SetOne, Show}
+
+-- the number of requests that are to be answered
+abbrev pub count_of : Option RequestLetter → ℕ
+count_of None = 0
+count_of (Some letter) = 1
+
+-- there is one
+abbrev pub has_one : Option RequestLetter → Bool
+has_one None = false
+has_one (Some letter) = true
+
+-- the gains in a buffer after a request was taken: those of the request if it sets all, and else those before
+abbrev pub HasGains : GainAction → List ℤ → List ℤ → List ℤ → Type 0
+HasGains SetAll wanted before after = after ≡ wanted
+HasGains (SetOne output input gain) wanted before after = after ≡ before
+HasGains Show wanted before after = after ≡ before
+
+-- the outcome of a request that was not taken
+abbrev pub IsReturned : RequestLetter → OutcomeLetter → Type 0
+IsReturned letter outcome = (outcome.number ≡ letter.number) × (outcome.outcome ≡ NoAnswer)

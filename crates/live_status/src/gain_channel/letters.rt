@@ -1,0 +1,38 @@
+//! The letters between a page and a run: requests for gains in one direction, and their outcomes in the other.
+ghost use Rattle.std.specs.Prelude.{◌≡◌, length};
+
+use rtrb::Protocol;
+use status_page::DeskAnswer;
+use studio_io::GainRequest;
+
+/// A request on its way from the page to the run.
+#[derive(Drop)]
+pub(crate) struct RequestLetter {
+    /// The number of requests before it.
+    pub(crate) number: u64,
+    pub(crate) request: GainRequest,
+    /// The gains in the page's buffer. The outcome comes back in this memory.
+    pub(crate) gains: Vec<i32>,
+}
+
+/// The outcome of a request on its way from the run to the page.
+#[derive(Drop)]
+pub(crate) struct OutcomeLetter {
+    /// The number of the request.
+    pub(crate) number: u64,
+    pub(crate) outcome: DeskAnswer,
+    /// The gains that the answer shows, or those of the request if it was not taken.
+    pub(crate) gains: Vec<i32>,
+}
+
+/// The rule of both rings: the letters are numbered from 0 in the order in which they are sent.
+#[derive(Clone, Copy)]
+pub(crate) struct Numbered;
+
+impl Protocol<RequestLetter> for Numbered {
+    ghost allows = { λ before letter. letter.number ≡ length before };
+}
+
+impl Protocol<OutcomeLetter> for Numbered {
+    ghost allows = { λ before letter. letter.number ≡ length before };
+}

@@ -1,0 +1,216 @@
+//! The run's end of a channel for gains: a source of requests, whose outcomes it sends to the page.
+ghost use Rattle.std.specs.Prelude.{◌≡◌, ◌<◌, ◌+◌, [], ◌++◌, List, length, true, false};
+ghost use Rattle.std.specs.Prelude.{IfSome, IsNone, IfOk, IfErr, OnErr, Some, None};
+ghost use Rattle.std.specs.Option.{ForSome};
+ghost use Rattle.rtrb.specs.Ring.{known_free, received, sent};
+ghost use Rattle.live_status.specs.GainLetters.{HasGains, IsReturned, count_of, has_one};
+
+use crate::gain_channel::letters::{Numbered, OutcomeLetter, RequestLetter};
+use crate::gain_channel::link::GainLink;
+use rtrb::{Consumer, Producer};
+use status_page::DeskAnswer;
+use std::alloc::Global;
+use std::sync::Wait;
+use studio_io::{GainAction, GainAnswer, GainRequest, GainSource};
+
+/// The run's end of a channel. The outcome of each request goes back with the request's own number, in order.
+#[derive(Drop)]
+pub struct RunGains<'a, R> {
+    rt: &'a R,
+    link: &'a GainLink,
+    pub(crate) requests: Consumer<RequestLetter, Global, Numbered>,
+    pub(crate) answers: Producer<OutcomeLetter, Global, Numbered>,
+    /// The request that the run is to answer, if there is one.
+    pub(crate) taken: Option<RequestLetter>,
+    ghost in_turn: { length (received requests) ≡ length (sent answers) + count_of taken },
+    ghost own_number: { ForSome taken (λ letter. letter.number ≡ length (sent answers)) },
+    ghost roomy: { ForSome taken (λ letter. 0 < known_free answers) },
+}
+
+impl<'a, R: Wait> RunGains<'a, R> {
+    // Imported here, since the struct depends on what its file imports, and `GainChannel` names the struct.
+    ghost use Rattle.live_status.specs.GainChannel.{Answers, Opens, PassesBack, changes_by};
+    ghost use Rattle.studio_io.specs.Gains.{changes_in};
+    ghost use Rattle.live_status.specs.declared.gain_channel.letters.RequestLetter.{RequestLetter};
+
+    /// Returns the end of two rings, through which nothing has come yet.
+    pub(crate) fn new(
+        rt: &'a R,
+        link: &'a GainLink,
+        requests: Consumer<RequestLetter, Global, Numbered>,
+        answers: Producer<OutcomeLetter, Global, Numbered>,
+    ) -> RunGains<'a, R>
+        requires received { received requests ≡ [] }
+        requires sent { sent answers ≡ [] }
+        ensures answers { result.answers ≡ answers }
+        ensures taken { IsNone result.taken }
+    {
+        RunGains {
+            rt,
+            link,
+            requests,
+            answers,
+            taken: None,
+        }
+    }
+
+    /// Takes the next request, if there is one that the page has not withdrawn. A request to set all gains writes them
+    /// to `gains`; one with another number of gains is not taken. A request that is not taken goes back.
+    fn take_next(&mut self, gains: &mut [i32]) -> Option<GainRequest>
+        ensures opens { IfSome result (λ request. Opens request gains.old gains.new self.old self.new) }
+        ensures none { IsNone result → PassesBack self.old self.new }
+    {
+        // A request is taken only if its outcome has a place, and the one before it has its answer: so no change is
+        // made whose answer could not be sent.
+        if self.taken.is_some() || self.answers.is_full() {
+            return None;
+        }
+        let Ok(letter) = self.requests.pop() else {
+            return None;
+        };
+        let is_taken = self.link.take();
+        match admit(letter, is_taken, gains) {
+            Ok(letter) => {
+                let request = letter.request;
+                self.taken = Some(letter);
+                Some(request)
+            }
+            Err(outcome) => {
+                self.answers.push_reserved(outcome);
+                self.link.wake();
+                None
+            }
+        }
+    }
+
+    /// Sends the answer to the request that was taken, if there is one.
+    fn send_answer(&mut self, answer: GainAnswer, next_block_start: i64, gains: &[i32])
+        ensures none { IsNone self.new.taken }
+        ensures sent { (letter : RequestLetter) → self.old.taken ≡ Some letter
+            → Answers letter answer next_block_start gains.now self.old self.new }
+        ensures taken { has_one self.old.taken ≡ true
+            → changes_by self.new ≡ changes_by self.old ++ changes_in answer gains.now }
+        ensures kept { self.old.taken ≡ None → sent self.new.answers ≡ sent self.old.answers }
+    {
+        let Some(letter) = self.taken.take() else {
+            return;
+        };
+        let outcome = answered(self.rt, letter, answer, next_block_start, gains);
+        self.answers.push_reserved(outcome);
+        self.link.wake();
+    }
+}
+
+impl<'a, R: Wait> GainSource for RunGains<'a, R> {
+    ghost use Rattle.live_status.specs.GainChannel.{Answers, Opens, PassesBack, changes_by};
+    ghost use Rattle.studio_io.specs.Gains.{changes_in};
+    ghost use Rattle.live_status.specs.declared.gain_channel.letters.RequestLetter.{RequestLetter};
+
+    ghost taken = { λ source. changes_by source };
+
+    ghost asks = { λ source. has_one source.taken };
+
+    fn next(&mut self, gains: &mut [i32]) -> Option<GainRequest>
+        ensures asks { IfSome result (λ _. has_one self.new.taken ≡ true) }
+        ensures taken { changes_by self.new ≡ changes_by self.old }
+        ensures opens { IfSome result (λ request. Opens request gains.old gains.new self.old self.new) }
+        ensures none { IsNone result → PassesBack self.old self.new }
+    {
+        self.take_next(gains)
+    }
+
+    fn answer(&mut self, answer: GainAnswer, next_block_start: i64, gains: &[i32])
+        ensures taken { has_one self.old.taken ≡ true
+            → changes_by self.new ≡ changes_by self.old ++ changes_in answer gains.now }
+        ensures sent { (letter : RequestLetter) → self.old.taken ≡ Some letter
+            → Answers letter answer next_block_start gains.now self.old self.new }
+        ensures kept { self.old.taken ≡ None → sent self.new.answers ≡ sent self.old.answers }
+    {
+        self.send_answer(answer, next_block_start, gains);
+    }
+}
+
+/// Returns a request that the run takes, after writing its gains to `gains` if it sets all. Returns its outcome, which
+/// is no answer, if the run does not take it, or if it does not have as many gains as `gains`.
+fn admit(
+    letter: RequestLetter,
+    is_taken: bool,
+    gains: &mut [i32],
+) -> Result<RequestLetter, OutcomeLetter>
+    ensures only { IfOk result (λ taken. (taken ≡ letter) × (is_taken ≡ true)) }
+    ensures gains { IfOk result (λ taken. HasGains taken.request.action taken.gains.items gains.old gains.new) }
+    ensures returned { IfErr result (λ outcome. IsReturned letter outcome) }
+    ensures kept { OnErr result (gains.new ≡ gains.old) }
+{
+    if !is_taken {
+        return Err(returned(letter));
+    }
+    if letter.request.action != GainAction::SetAll {
+        return Ok(letter);
+    }
+    if letter.gains.len() != gains.len() {
+        return Err(returned(letter));
+    }
+    gains.copy_from_slice(letter.gains.as_slice());
+    Ok(letter)
+}
+
+/// Returns the outcome of a request that was not taken.
+fn returned(letter: RequestLetter) -> OutcomeLetter
+    ensures { IsReturned letter result }
+{
+    let RequestLetter {
+        number,
+        request: _,
+        gains,
+    } = letter;
+    OutcomeLetter {
+        number,
+        outcome: DeskAnswer::NoAnswer,
+        gains,
+    }
+}
+
+/// Returns the outcome of a request that was taken: this answer, with the gains that it shows.
+fn answered<R: Wait>(
+    rt: &R,
+    letter: RequestLetter,
+    answer: GainAnswer,
+    next_block_start: i64,
+    gains: &[i32],
+) -> OutcomeLetter
+    ensures own { result.number ≡ letter.number }
+    ensures answer { result.outcome ≡ DeskAnswer.Answered answer next_block_start }
+    ensures shown { result.gains.items ≡ gains.now }
+{
+    let RequestLetter {
+        number,
+        request: _,
+        gains: memory,
+    } = letter;
+    let mut shown = memory;
+    copy_gains(rt, gains, &mut shown);
+    OutcomeLetter {
+        number,
+        outcome: DeskAnswer::Answered {
+            answer,
+            next_block_start,
+        },
+        gains: shown,
+    }
+}
+
+/// Copies gains to memory that a letter carries.
+// The memory has room for 8,192 gains, and a run passes no more, so the first copy succeeds without an allocation. The
+// trait does not limit them: more of them wait here until there is memory, since what was taken has to be reported.
+fn copy_gains<R: Wait>(rt: &R, gains: &[i32], memory: &mut Vec<i32>)
+    ensures { memory.new.items ≡ gains.now }
+{
+    for _ in rt.forever() {
+        memory.clear();
+        if memory.extend_from_slice(gains).is_ok() {
+            return;
+        }
+    }
+    unreachable!()
+}
