@@ -1,1 +1,2 @@
 pub mod AudioLemmas
+pub mod PcmLemmas

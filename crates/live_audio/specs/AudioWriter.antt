@@ -1,4 +1,4 @@
--- What of the mix went to its WAV file.
+-- The part of the mix that went to its WAV file.
 use Rattle.std.specs.Prelude.{◌≡◌, ◌<◌, ℕ, ◌+◌, ◌*◌, List, [], ◌++◌, length, Option, Some, true}
 use Rattle.rtrb.specs.Ring.{known_items, received}
 use Rattle.rtp_wire.specs.Sample.{octets_per_sample}

@@ -1,3 +1,5 @@
 pub mod AudioWriter
+pub mod PcmTap
+pub mod PcmWriter
 pub mod Room
 pub mod Tap

@@ -1,4 +1,4 @@
--- What the ring of a run's audio was sent.
+-- The octets that were sent to the ring of a run's audio.
 use Rattle.std.specs.Prelude.{◌≡◌, ◌⊎◌, ◌<◌, ℕ, List, ◌++◌, length, Option, Some, None, ⊤, true, false}
 use Rattle.rtrb.specs.Ring.{known_free, sent}
 use Rattle.live_audio.specs.declared.tap.AudioTap.{AudioTap}

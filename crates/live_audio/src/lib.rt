@@ -1,4 +1,4 @@
-//! The audio of a live run: a WAV file of the mix, which a thread of its own writes while the run goes on.
+//! The audio of a live run: a WAV file and raw PCM of the mix, which threads of their own write while the run goes on.
 //!
 //! 1. `AudioChannel::new` makes the two ends of a ring, whose room follows from the studio: what its
 //!    streams hold back at their latency, and two seconds more.
@@ -8,13 +8,21 @@
 //! 3. `write_audio`, in another thread, writes the samples to the file as they come, in order, from the
 //!    first block on. Each second of audio it renews the sizes in the header, so that a file that a
 //!    power failure cuts plays to its last second.
-//! 4. The file ends with a whole block, whatever ended it. `AudioResult::state` tells other threads how
-//!    it stands.
+//! 4. The file ends with a whole block, whatever ended it. `AudioResult::state` returns its state to
+//!    other threads.
 //!
-//! Only `AudioChannel::new` allocates.
+//! Raw PCM goes the same way to a `PcmOutput`, by the ends of a `PcmChannel` and `write_pcm`. Its
+//! reader may be slow: a block for which the ring has no room is left out as a whole and counted, and
+//! the blocks behind it go on. `PcmResult::state` returns its state.
+//!
+//! Only `AudioChannel::new` and `PcmChannel::new` allocate.
 #![tactic(auto)]
 
 mod channel;
+mod pcm_channel;
+mod pcm_result;
+mod pcm_tap;
+mod pcm_writer;
 mod renewal;
 mod result;
 mod room;
@@ -23,9 +31,13 @@ mod tap;
 mod writer;
 
 pub use channel::AudioChannel;
+pub use pcm_channel::PcmChannel;
+pub use pcm_result::{PcmResult, PcmState};
+pub use pcm_tap::PcmTap;
+pub use pcm_writer::{PcmStop, PcmWriter, PcmWritten, write_pcm};
 pub use renewal::is_renewal_due;
 pub use result::{AudioResult, AudioState};
 pub use room::ring_octets;
-pub use sink::TappedSink;
+pub use sink::{AudioTaps, TappedSink};
 pub use tap::AudioTap;
 pub use writer::{AudioFile, AudioWriter, write_audio};

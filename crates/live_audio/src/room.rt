@@ -7,6 +7,7 @@ use rtp_stream::StreamSpec;
 use wav_file::WavFormat;
 
 /// The least room, in octets: 1 MiB.
+// Of mono in L16 this is eleven seconds: where the octets are few, a slow device may be waited for longer.
 const LEAST_OCTETS: u64 = 1 << 20;
 
 /// The sampling instants that the ring holds in addition to the streams' latency: two seconds.
@@ -15,7 +16,7 @@ const SPARE_INSTANTS: u64 = 96_000;
 
 /// Returns the number of octets that the ring of a studio's audio holds: of the greatest latency of its streams and two
 /// seconds more, but 1 MiB at least.
-// At its end a run hands over in one burst what its streams held back: their latency.
+// At its end a run mixes in one burst what its streams still hold: their latency.
 pub fn ring_octets(format: WavFormat, streams: &[StreamSpec]) -> usize
     ensures all { (place : ℕ) (stream : Stream) → slice_get streams.now place ≡ Some stream
         → room_for format stream.latency ≤ result }

@@ -48,7 +48,7 @@ impl<'r> AudioTap<'r> {
 
 /// Returns the octets behind a datagram's header.
 // An RTP header has 12 octets (RFC 3550, 5.1): the output has no CSRC list and no extension.
-fn samples_of(datagram: &[u8]) -> &[u8]
+pub(crate) fn samples_of(datagram: &[u8]) -> &[u8]
     ensures { result.now ≡ drop 12 datagram.now }
 {
     if datagram.len() >= 12 {

@@ -26,11 +26,11 @@ use std::time::Duration;
 use wav_file::{LiveWavFile, WavEnd, WavFault, WavFormat, WavWriter};
 
 /// The number of octets that are taken from the ring at once, at most: as many as a payload may have.
-const CHUNK_OCTETS: usize = 1440;
+pub(crate) const CHUNK_OCTETS: usize = 1440;
 
 /// The pause of the writer if the ring is empty, in milliseconds.
 // The ring holds far more than comes in that time, so the run's thread never has to wake the writer.
-const PAUSE_MS: u64 = 10;
+pub(crate) const PAUSE_MS: u64 = 10;
 
 /// The result of writing a run's WAV file.
 #[derive(Clone, Copy, Debug, PartialEq, Eq)]
@@ -221,7 +221,7 @@ pub(crate) fn format_of(output: &OutSpec) -> WavFormat
 }
 
 /// Returns the number of whole blocks of this length in so many octets, or 0 if the length is 0.
-fn blocks_in(octets: usize, block_len: usize) -> usize
+pub(crate) fn blocks_in(octets: usize, block_len: usize) -> usize
     ensures fits { result * block_len ≤ octets }
     ensures none { result ≡ 0 → 0 < block_len → octets < block_len }
 {

@@ -1,4 +1,4 @@
--- What a record's ring was sent.
+-- The blocks that were sent to a record's ring.
 use Rattle.std.specs.Prelude.{◌≡◌, ◌⊎◌, ◌<◌, ℕ, zero, suc, ◌+◌, List, [], ◌∷◌, ◌++◌, length, ℤ, pos, ◌+ℤ◌, Some, None, true, false}
 use Rattle.std.specs.Net.Addr.{ipv4_octets}
 use Rattle.rtrb.specs.Ring.{known_free, sent}

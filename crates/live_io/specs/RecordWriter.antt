@@ -1,4 +1,4 @@
--- What of a record went to its file.
+-- The part of a record that went to its file.
 use Rattle.std.specs.Prelude.{◌≡◌, ◌⊎◌, ◌≤◌, ℕ, List, [], ◌++◌, length, take, Option, Some, true, false}
 use Rattle.std.specs.List.{All}
 use Rattle.pcap_file.specs.WholeBlocks.{AreWhole, BeginsNone, IsBlock, datagram_count, joined}

@@ -14,7 +14,7 @@
 //! 4. A `RecordChannel` has two ends of a ring. The thread of the run passes each datagram to its
 //!    `RecordObserver`, which pushes whole blocks and never waits. `write_record`, in another thread,
 //!    writes them to the file. If the file is too slow and the ring is full, or a write fails, the
-//!    record ends there, with a whole block. `RecordResult::state` tells other threads how it stands.
+//!    record ends there, with a whole block. `RecordResult::state` returns its state to other threads.
 #![tactic(auto)]
 
 mod clock;

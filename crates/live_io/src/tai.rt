@@ -12,6 +12,7 @@ const CLOCK_TAI: i32 = 11;
 const MOST_APART_MICROS: u64 = 100;
 
 /// The greatest number of tries to read both clocks so soon one after the other.
+// A limit, so that a start on a machine that is always busy ends with a fault.
 const MAX_TRIES: u32 = 100;
 
 /// The offset of TAI from the system's time of day.

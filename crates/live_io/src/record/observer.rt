@@ -1,5 +1,5 @@
 //! The observer of a run, which makes a record of the datagrams that the run takes.
-ghost use Rattle.std.specs.Prelude.{◌≡◌, ◌⊎◌, ◌≤◌, ◌<◌, ℕ, [], length, IfSome, None, pos, true};
+ghost use Rattle.std.specs.Prelude.{◌≡◌, ◌⊎◌, ◌≤◌, ◌<◌, ◌+◌, ◌^◌, ℕ, [], length, IfSome, None, pos, true};
 ghost use Rattle.rtrb.specs.Ring.{sent};
 ghost use Rattle.pcap_file.specs.RecordedDatagram.{arrival_view};
 ghost use Rattle.live_io.specs.RecordBlocks.{
@@ -55,7 +55,9 @@ pub struct RecordObserver<'a> {
 
 impl<'r> RecordObserver<'r> {
     /// Returns the number of datagrams that arrived, also those after the record's end.
-    pub fn received(&self) -> u64 {
+    pub fn received(&self) -> u64
+        ensures { result ≡ self.now.received }
+    {
         self.received
     }
 
@@ -69,6 +71,7 @@ impl<'r> RecordObserver<'r> {
         requires fresh { sent ring ≡ [] }
         ensures opens { Opens studio.now result.end }
         ensures open_at { result.open_at ≡ studio.now.open_at }
+        ensures none { result.received ≡ 0 }
     {
         let open_at = studio.open_at();
         let mut end = BlockProducer::new(ring);
@@ -87,6 +90,7 @@ impl<'r> RecordObserver<'r> {
     pub fn arrived(&mut self, time: i64, octets: &[u8], origin: &DatagramOrigin)
         ensures puts { PutsPacket self.old.open_at time origin.now octets.now self.old.end self.new.end }
         ensures ended { self.old.end.ended ≡ true → self.new.end.ended ≡ true }
+        ensures received { self.old.received + 1 < 2 ^ 64 → self.new.received ≡ self.old.received + 1 }
     {
         self.received = self.received.saturating_add(1);
         if self.end.ended {
@@ -108,6 +112,7 @@ impl<'r> RecordObserver<'r> {
     pub fn closed(&mut self, time: i64)
         ensures puts { PutsClose self.old.open_at time self.old.end self.new.end }
         ensures ended { self.old.end.ended ≡ true → self.new.end.ended ≡ true }
+        ensures received { self.new.received ≡ self.old.received }
     {
         match self.nanoseconds(time) {
             Some(nanoseconds) => {

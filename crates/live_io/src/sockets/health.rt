@@ -85,7 +85,7 @@ pub struct SocketHealth {
 }
 
 impl SocketHealth {
-    /// Returns the health of a socket that has not failed, and of which the kernel has told nothing.
+    /// Returns the health of a socket that has not failed, and of which the kernel has said nothing.
     pub fn new() -> SocketHealth {
         SocketHealth {
             faults: AtomicU64::new(0),

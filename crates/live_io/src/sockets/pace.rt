@@ -6,9 +6,11 @@ ghost use Rattle.live_io.specs.ReceivePace.{FlowsAt, last_with, rest_for};
 use rtp_stream::StreamSpec;
 
 /// The shortest rest while packets flow, in sampling instants: 0.2 ms.
+// A tenth of 2 ms. In a shorter rest only one packet of the shortest packet time, 0.125 ms, would come.
 const SHORTEST_REST: u32 = 10;
 
 /// The longest rest while packets flow, in sampling instants: 4 ms.
+// A longer rest saves nothing: at 8 ms the same load cost as much as at 4.
 const LONGEST_REST: u32 = 192;
 
 /// The time without a datagram after which a socket is quiet, in sampling instants: 20 ms.

@@ -2,6 +2,7 @@
 
 use crate::sockets::SocketConfig;
 use crate::sockets::addresses::addresses_of;
+use rtp_stream::Path;
 use std::alloc::{AllocError, Global};
 use std::fmt::{Display, Formatter};
 use std::net::{Ipv4Addr, SocketAddrV4};
@@ -9,16 +10,13 @@ use std::{fmt, io};
 use studio_config::StudioSpec;
 use thiserror::Error;
 
-/// The names of a stream's paths.
-const PATH_NAMES: [&str; 4] = ["a", "b", "c", "d"];
-
 /// The system's error for a place that another socket of the run has.
 pub(crate) const ADDRESS_IN_USE: i32 = libc::EADDRINUSE;
 
 /// A socket that could not be opened: what it is for, its address, and the reason.
 #[derive(Clone, Copy, Debug, PartialEq, Eq, Error)]
 pub enum UnopenedSocket {
-    /// The socket of a path: the stream's number and the path's name, and the address and port.
+    /// The socket of a path: the stream's number and the path's letter, and the address and port.
     #[error("stream {0} path {1} at {2}: {3}")]
     Path(usize, &'static str, SocketAddrV4, SystemReason),
     /// The socket that sends a copy of the mix: the copy's name, and the address that it sends from.
@@ -73,7 +71,8 @@ fn path_at(studio: &StudioSpec, index: usize) -> (usize, &'static str) {
     for (number, stream) in studio.streams().iter().enumerate() {
         let paths = usize::from(stream.paths());
         if left < paths {
-            return (number, PATH_NAMES.get(left).copied().unwrap_or("?"));
+            let path = u8::try_from(left).ok().and_then(Path::new);
+            return (number, path.map_or("?", |path| path.letter()));
         }
         left = left.saturating_sub(paths);
     }

@@ -1,0 +1,51 @@
+//! The two ends of a run's raw PCM.
+ghost use Rattle.std.specs.Prelude.{◌≡◌, ◌≤◌, ℕ, [], Some, slice_get, IfOk};
+ghost use Rattle.rtrb.specs.Ring.{IsPair, known_free};
+ghost use Rattle.rtp_stream.specs.declared.stream_spec.Stream.{Stream};
+ghost use Rattle.wav_file.specs.MixSamples.{output_format};
+ghost use Rattle.live_audio.specs.PcmTap.{HasTapped};
+ghost use Rattle.live_audio.specs.PcmWriter.{IsFreshPcm};
+ghost use Rattle.live_audio.specs.Room.{room_for};
+
+use crate::pcm_result::PcmResult;
+use crate::pcm_tap::PcmTap;
+use crate::pcm_writer::PcmWriter;
+use crate::room::ring_octets;
+use crate::writer::format_of;
+use rtrb::RingBuffer;
+use std::alloc::{AllocError, Global};
+use studio_config::StudioSpec;
+
+/// The two ends of a run's raw PCM, over one ring.
+#[derive(Drop)]
+pub struct PcmChannel<'a> {
+    /// The end that takes the samples of the mix.
+    pub tap: PcmTap<'a>,
+    /// The end that writes them to the output.
+    pub writer: PcmWriter<'a>,
+}
+
+impl<'a> PcmChannel<'a> {
+    /// Returns the two ends of the raw PCM of a run of this studio. Both set their part of `pcm`. Returns `AllocError`
+    /// if an allocation fails.
+    pub fn new(
+        alloc: Global,
+        studio: &StudioSpec,
+        pcm: &'a PcmResult,
+    ) -> Result<PcmChannel<'a>, AllocError>
+        ensures pair { IfOk result (λ channel. IsPair channel.tap.ring channel.writer.ring) }
+        ensures none { IfOk result (λ channel. HasTapped [] channel.tap) }
+        ensures room { IfOk result (λ channel. (place : ℕ) (stream : Stream)
+            → slice_get studio.now.streams place ≡ Some stream
+            → room_for (output_format studio.now.output) stream.latency ≤ known_free channel.tap.ring) }
+        ensures fresh { IfOk result (λ channel. IsFreshPcm studio.now.output channel.writer) }
+    {
+        let output = studio.output();
+        let room = ring_octets(format_of(output), studio.streams());
+        let (producer, consumer) = RingBuffer::new(alloc, room)?;
+        Ok(PcmChannel {
+            tap: PcmTap::new(producer, pcm),
+            writer: PcmWriter::new(consumer, output, pcm),
+        })
+    }
+}

@@ -1,0 +1,77 @@
+//! The end of a ring into which the samples of the mix are put for raw PCM: a block as a whole, or it is left out.
+ghost use Rattle.std.specs.Prelude.{◌≡◌, ◌∷◌, ◌++◌, [], ℕ, List, drop, false, true};
+ghost use Rattle.rtrb.specs.Ring.{sent};
+ghost use Rattle.live_audio.specs.PcmTap.{HasTapped, LeavesOut, Takes};
+
+use crate::pcm_result::PcmResult;
+use crate::tap::samples_of;
+use rtrb::Producer;
+
+/// The end of a ring in the run's thread, into which the samples of each datagram are put. It never waits.
+#[derive(Drop)]
+pub struct PcmTap<'a> {
+    ring: Producer<u8>,
+    /// True once somebody reads the output. Before that each block is left out.
+    is_open: bool,
+    /// The number of blocks that were left out.
+    left_out: u64,
+    /// The result of the output, in which that number is set.
+    pcm: &'a PcmResult,
+}
+
+impl<'r> PcmTap<'r> {
+    /// Returns the end of a ring, into which it has put nothing yet.
+    pub(crate) fn new(ring: Producer<u8>, pcm: &'r PcmResult) -> PcmTap<'r>
+        ensures ring { result.ring ≡ ring }
+        ensures none { sent ring ≡ [] → HasTapped [] result }
+    {
+        PcmTap {
+            ring,
+            is_open: false,
+            left_out: 0,
+            pcm,
+        }
+    }
+
+    /// Puts the samples of a datagram of the mix, which are behind the twelve octets of its header. Leaves the block
+    /// out if the ring has no room for all of them, or nobody reads the output yet.
+    // Before somebody reads, so that a reader that comes late hears what is sent then, and not what was sent before.
+    pub fn put(&mut self, datagram: &[u8])
+        ensures takes { Takes self.old (drop 12 datagram.now) self.new }
+        ensures tapped { (blocks : List (List ℕ)) → HasTapped blocks self.old
+            → HasTapped (blocks ++ drop 12 datagram.now ∷ []) self.new }
+        ensures open { self.old.is_open ≡ true → self.new.is_open ≡ true }
+    {
+        if !self.opens() {
+            self.leave_out();
+            return;
+        }
+        match self.ring.push_entire_slice(samples_of(datagram)) {
+            Ok(()) => {}
+            Err(_full) => self.leave_out(),
+        }
+    }
+
+    /// Returns true once somebody reads the output.
+    fn opens(&mut self) -> bool
+        ensures value { result ≡ self.new.is_open }
+        ensures open { self.old.is_open ≡ true → self.new.is_open ≡ true }
+        ensures ring { self.new.ring ≡ self.old.ring }
+        ensures left_out { self.new.left_out ≡ self.old.left_out }
+    {
+        if !self.is_open {
+            self.is_open = self.pcm.is_open();
+        }
+        self.is_open
+    }
+
+    /// Counts a block that is left out.
+    fn leave_out(&mut self)
+        ensures left_out { LeavesOut self.old self.new }
+        ensures ring { self.new.ring ≡ self.old.ring }
+        ensures open { self.new.is_open ≡ self.old.is_open }
+    {
+        self.left_out = self.left_out.saturating_add(1);
+        self.pcm.set_left_out(self.left_out);
+    }
+}
