@@ -24,9 +24,7 @@ pub enum FileCommand<'a> {
     /// The marks of a trace, and a WAV file of one stream.
     MarksToWav(&'a str, StreamWavArgs<'a>),
     /// The report of a trace, by a configuration.
-    Play(&'a str),
-    /// The report of a trace, and a WAV file of the mix at the second path.
-    PlayToWav(&'a str, &'a str),
+    Play(&'a str, PlayArgs<'a>),
     /// A chart of what the streams of a trace received, by a configuration.
     Chart(&'a str),
     /// The summary of a configuration, in lines for people.
@@ -41,7 +39,7 @@ pub enum FileCommand<'a> {
     Replay(&'a str, ReplayArgs<'a>),
 }
 
-/// The arguments of `marks --wav`: a stream, and the WAV file for its samples.
+/// The words of `marks --wav` and `replay --wav-stream`: a stream, and the WAV file for its samples.
 #[derive(Clone, Copy)]
 pub struct StreamWavArgs<'a> {
     // The option takes two words of one kind, a number and a path, so the command parses the number itself.
@@ -49,6 +47,15 @@ pub struct StreamWavArgs<'a> {
     pub stream: &'a str,
     /// The file's path.
     pub file: &'a str,
+}
+
+/// The arguments of `play`: the files that it reads and writes in addition to the trace and its report.
+#[derive(Clone, Copy)]
+pub struct PlayArgs<'a> {
+    /// The path of the file with changes of gains, if there is one.
+    pub gains: Option<&'a str>,
+    /// The path of the mix's WAV file, if one is asked for.
+    pub wav: Option<&'a str>,
 }
 
 /// The arguments of `streams`.
@@ -74,6 +81,8 @@ pub struct ReplayArgs<'a> {
     pub gap: u64,
     /// The path of the mix's WAV file, if one is asked for.
     pub wav: Option<&'a str>,
+    /// The stream whose own WAV file is asked for, and that file.
+    pub wav_stream: Option<StreamWavArgs<'a>>,
     /// The path of the chart, if one is asked for.
     pub chart: Option<&'a str>,
 }
@@ -118,6 +127,20 @@ pub struct LiveArgs<'a> {
     pub record: Option<&'a str>,
     /// True if the fault of a socket is explained: what it is for, its address, and the system's error.
     pub verbose: bool,
+    /// The path of the file with the token of the page's control of gains, if the page is to have it.
+    pub control: Option<&'a str>,
     /// The path of the mix's WAV file, if one is asked for.
     pub wav: Option<&'a str>,
+    /// The path of the mix's raw PCM, if it is asked for; `-` is standard output.
+    pub pcm: Option<&'a str>,
+}
+
+impl LiveArgs<'_> {
+    /// Returns true if the raw PCM goes to standard output: its path is `-`.
+    pub fn is_pcm_stdout(&self) -> bool {
+        match self.pcm {
+            Some(path) => path == "-",
+            None => false,
+        }
+    }
 }

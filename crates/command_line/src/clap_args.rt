@@ -85,9 +85,9 @@ fn command_parsers<'a>(
 /// Returns the parser of the program with these commands.
 fn program_of<'a>(alloc: Global, commands: Vec<Command<'a>>) -> Result<Command<'a>, AllocError> {
     let about =
-        "Receives studio audio over IP, from a trace or live. Formats: docs/FORMATS.md. Without a word it lists \
-             the marks of the trace on standard input, by the configuration of examples/first. `darbexum help config` \
-             lists the keys of a configuration";
+        "Receives studio audio over IP, live or from a trace. Without a command it lists the marks of the trace on \
+             standard input, by the configuration of examples/first. `darbexum help config` lists the keys of a \
+             configuration. docs/FORMATS.md defines all texts";
     let command = Command::new(alloc, "darbexum")
         .about(about)
         .version("0.3.0")
@@ -99,7 +99,10 @@ fn program_of<'a>(alloc: Global, commands: Vec<Command<'a>>) -> Result<Command<'
 /// Returns the parser of a command with its arguments.
 fn command_parser<'a>(alloc: Global, spec: &CommandSpec) -> Result<Command<'a>, AllocError> {
     let args = arg_list(alloc, spec)?;
-    Command::new(alloc, spec.name).about(spec.about).args(args)
+    Command::new(alloc, spec.name)
+        .about(spec.about)
+        .after_help(spec.example)
+        .args(args)
 }
 
 /// Returns clap's arguments for those of a command.

@@ -22,11 +22,13 @@ const MAX_GAP: i64 = 18_446_744_074;
 /// The greatest port.
 const MAX_PORT: i64 = 65_535;
 
-/// A command: its word, its help and its arguments.
+/// A command: its word, its help, an example and its arguments.
 #[derive(Clone, Copy)]
 pub(crate) struct CommandSpec {
     pub(crate) name: &'static str,
     pub(crate) about: &'static str,
+    /// The last line of the command's help.
+    pub(crate) example: &'static str,
     /// The arguments, in the order of the command's help.
     pub(crate) args: &'static [ArgSpec],
 }
@@ -37,44 +39,56 @@ pub(crate) const COMMANDS: &[CommandSpec] = &[
     CommandSpec {
         name: "marks",
         about: "Lists the marks of the trace on standard input, stream by stream",
+        example: "Example: darbexum marks studio.toml --counts < input.trace",
         args: &[
             CONFIG,
             ArgSpec {
                 name: "counts",
-                help: "Tell the counts of all paths and merges on standard error",
+                help: "Also print the counts of all paths and merges, on standard error",
                 ..FLAG
             },
             ArgSpec {
                 name: "wav",
-                help: "Write the samples of a stream to this WAV file too, lost packets as silence",
-                kind: ArgKind::Option(ArgAction::Set, &["STREAM", "FILE"], ValueParser::String),
                 relation: ArgRelation::Excludes("counts"),
+                ..STREAM
             },
         ],
     },
     CommandSpec {
         name: "play",
-        about: "Plays the trace on standard input to its datagrams and counts",
-        args: &[CONFIG, MIX],
+        about: "Mixes the streams of the trace on standard input, and prints the datagrams of the mix and all counts",
+        example: "Example: darbexum play studio.toml --wav mix.wav < input.trace",
+        args: &[
+            CONFIG,
+            ArgSpec {
+                name: "gains",
+                help: "Change gains by the lines of this file, as 'gain 96 0 1 32768': time, output, input, gain",
+                ..FILE
+            },
+            MIX,
+        ],
     },
     CommandSpec {
         name: "chart",
-        about: "Draws what each path gave to each stream of the trace on standard input, as an SVG",
+        about: "Draws what each path brought to each stream of the trace on standard input, as an SVG",
+        example: "Example: darbexum chart studio.toml < input.trace > chart.svg",
         args: &[CONFIG],
     },
     CommandSpec {
         name: "check",
-        about: "Says what a configuration means",
+        about: "Prints what a configuration means or, if it has a fault, where it is and what is allowed",
+        example: "Example: darbexum check studio.toml",
         args: &[CONFIG],
     },
     CommandSpec {
         name: "streams",
-        about: "Says what RTP audio a capture holds: counts, what fits each flow, and the skew of paths",
+        about: "Lists the RTP audio of a capture: counts, the formats that fit each flow, and the skew between paths",
+        example: "Example: darbexum streams capture.pcapng",
         args: &[
             CAPTURE,
             ArgSpec {
                 name: "all",
-                help: "List the flows too that are not shown to be RTP streams",
+                help: "Also list the flows that are not shown to be RTP streams",
                 ..FLAG
             },
             GAP,
@@ -82,18 +96,19 @@ pub(crate) const COMMANDS: &[CommandSpec] = &[
     },
     CommandSpec {
         name: "import",
-        about: "Writes a capture's RTP datagrams as a trace, for marks and play",
+        about: "Prints the RTP datagrams of a capture as a trace, for marks and play",
+        example: "Example: darbexum import capture.pcapng --config > studio.toml",
         args: &[
             CAPTURE,
             PATH,
             ArgSpec {
                 name: "config",
-                help: "Write the configuration that fits the trace in its place",
+                help: "Print a configuration that fits the trace, instead of the trace",
                 ..FLAG
             },
             ArgSpec {
                 name: "latency",
-                help: "Its latency; without it twice the greatest skew between paths, and 10 ms at least",
+                help: "The latency in that configuration, in milliseconds from 1 to 65536 [default: twice the greatest skew between paths, at least 10]",
                 kind: ArgKind::Option(ArgAction::Set, &["MS"], ValueParser::Signed(1, MAX_LATENCY)),
                 relation: ArgRelation::Free,
             },
@@ -102,23 +117,26 @@ pub(crate) const COMMANDS: &[CommandSpec] = &[
     },
     CommandSpec {
         name: "replay",
-        about: "Plays a capture of any length, as play does the trace that import writes of it",
+        about: "Prints for a capture of any length what play prints for the trace that import makes of it",
+        example: "Example: darbexum replay studio.toml night.pcapng --wav night.wav",
         args: &[
             CONFIG,
             RECORD,
             PATH,
             GAP,
             MIX,
+            STREAM,
             ArgSpec {
                 name: "chart",
-                help: "Draw what each path gave to each stream to this file too, as an SVG",
+                help: "Also draw what each path brought to each stream, as an SVG in this file",
                 ..FILE
             },
         ],
     },
     CommandSpec {
         name: "live",
-        about: "Receives from sockets, and sends the mix to two ports, at the configuration's addresses or 127.0.0.1",
+        about: "Receives the streams of a configuration from UDP sockets, and sends the mix to its two addresses",
+        example: "Example: darbexum live studio.toml --page 8080 --until-eof",
         args: LIVE,
     },
 ];
@@ -128,13 +146,13 @@ const LIVE: &[ArgSpec] = &[
     CONFIG,
     ArgSpec {
         name: "instants",
-        help: "End after so many sampling instants at 48 kHz, 1 to 1099511627776",
+        help: "End the run after N sample periods, 48000 a second, from 1 to 1099511627776 [default: no end]",
         kind: ArgKind::Option(ArgAction::Set, &["N"], ValueParser::Signed(1, MAX_INSTANTS)),
         relation: ArgRelation::Free,
     },
     ArgSpec {
         name: "stats",
-        help: "Tell each stream's counts on standard error so often",
+        help: "Print the counts of each stream on standard error each SECONDS, from 1 to 4294967295 [default: never]",
         kind: ArgKind::Option(
             ArgAction::Set,
             &["SECONDS"],
@@ -144,18 +162,24 @@ const LIVE: &[ArgSpec] = &[
     },
     ArgSpec {
         name: "page",
-        help: "Serve a page of the run at this port of 127.0.0.1; at 0 the system picks one",
+        help: "Serve a page of the run at this port of 127.0.0.1, from 0 to 65535; at 0 the system picks a port [default: no page]",
         kind: ArgKind::Option(ArgAction::Set, &["PORT"], ValueParser::Signed(0, MAX_PORT)),
         relation: ArgRelation::Free,
     },
     ArgSpec {
+        name: "control",
+        help: "Let requests to the page change gains if they have the token in this file, which only its owner may read; needs --page",
+        relation: ArgRelation::Needs("page"),
+        ..FILE
+    },
+    ArgSpec {
         name: "until-eof",
-        help: "End where standard input does",
+        help: "End the run when standard input ends, as by Ctrl-D",
         ..FLAG
     },
     ArgSpec {
         name: "listen-fds",
-        help: "Take the sockets that were handed over, as by sd_listen_fds(3)",
+        help: "Use the sockets that the program inherited, as by sd_listen_fds(3)",
         ..FLAG
     },
     ArgSpec {
@@ -165,34 +189,39 @@ const LIVE: &[ArgSpec] = &[
     },
     ArgSpec {
         name: "verbose",
-        help: "Say of a socket that cannot be opened what it is for, where, and the system's error",
+        help: "If a socket cannot be opened, also print what it is for, its address and the system's error",
         ..FLAG
     },
     ArgSpec {
         name: "one-thread",
-        help: "Run in one thread, in place of a worker for each path and stream",
+        help: "Run in one thread, instead of a worker for each path and stream",
         ..FLAG
     },
     ArgSpec {
         name: "record",
-        help: "Write what was received to this pcapng file, for replay; of a run in one thread",
+        help: "Write everything that arrives to this new pcapng file, for replay; needs --one-thread",
         relation: ArgRelation::Needs("one-thread"),
         ..FILE
     },
     ArgSpec {
         name: "wav",
-        help: "Write the mix to this WAV file while it is sent",
+        help: "Write the mix to this new WAV file while it is sent",
+        ..FILE
+    },
+    ArgSpec {
+        name: "pcm",
+        help: "Write the mix as raw PCM to this FIFO or new file while it is sent; - writes it to standard output, and the report to standard error",
         ..FILE
     },
     ArgSpec {
         name: "clock",
-        help: "Open now by International Atomic Time, as the media clock of ST 2110 counts it",
+        help: "Open the run at the present International Atomic Time, by which the media clock of ST 2110 counts [default: at open_at]",
         kind: ArgKind::Option(ArgAction::Set, &["tai"], ValueParser::Names(&["tai"])),
         relation: ArgRelation::Free,
     },
     ArgSpec {
         name: "tai-offset",
-        help: "How many seconds that time is ahead of the system's, or system where that was told",
+        help: "The seconds by which that time is ahead of the system's, from 0 to 4294967295; system takes the offset that the system knows [default: system]",
         kind: ArgKind::Option(ArgAction::Set, &["SECONDS"], ValueParser::String),
         relation: ArgRelation::Needs("clock"),
     },
@@ -217,7 +246,7 @@ const CAPTURE: ArgSpec = ArgSpec {
 /// The path of a capture, or `-`.
 const RECORD: ArgSpec = ArgSpec {
     name: "FILE",
-    help: "The capture, a pcap or pcapng file, or - for a live run's record on standard input",
+    help: "The capture, a pcap or pcapng file; - reads the record of a live run from standard input",
     kind: ArgKind::Path,
     relation: ArgRelation::Free,
 };
@@ -225,7 +254,7 @@ const RECORD: ArgSpec = ArgSpec {
 /// The addresses of the flows that are taken.
 const PATH: ArgSpec = ArgSpec {
     name: "path",
-    help: "Take the flows to this address alone; may be given again. Without it all that fit are taken",
+    help: "Take only the flows to this IPv4 address and port; may be repeated [default: all flows that fit a stream]",
     kind: ArgKind::Option(ArgAction::Append, &["ADDRESS:PORT"], ValueParser::String),
     relation: ArgRelation::Free,
 };
@@ -233,7 +262,7 @@ const PATH: ArgSpec = ArgSpec {
 /// The longest step forward of a capture's time.
 const GAP: ArgSpec = ArgSpec {
     name: "gap",
-    help: "Allow the capture's time to step forward by so many seconds, 60 without it",
+    help: "Allow the capture's time to step forward by this many seconds, from 1 to 18446744074 [default: 60]",
     kind: ArgKind::Option(
         ArgAction::Set,
         &["SECONDS"],
@@ -245,8 +274,16 @@ const GAP: ArgSpec = ArgSpec {
 /// The path of the mix's WAV file.
 const MIX: ArgSpec = ArgSpec {
     name: "wav",
-    help: "Write the mix to this WAV file too",
+    help: "Also write the mix to this WAV file",
     ..FILE
+};
+
+/// A stream, and the path of the WAV file for its own samples.
+const STREAM: ArgSpec = ArgSpec {
+    name: "wav-stream",
+    help: "Also write the samples of stream STREAM, from 0 to 15, to this WAV file; lost packets are silence",
+    kind: ArgKind::Option(ArgAction::Set, &["STREAM", "FILE"], ValueParser::String),
+    relation: ArgRelation::Free,
 };
 
 /// An option without a value, whose name and help are still to be filled in.

@@ -11,6 +11,6 @@ mod commands;
 mod parse;
 
 pub use args::{
-    CliCommand, FileCommand, ImportArgs, LiveArgs, ReplayArgs, StreamWavArgs, StreamsArgs,
+    CliCommand, FileCommand, ImportArgs, LiveArgs, PlayArgs, ReplayArgs, StreamWavArgs, StreamsArgs,
 };
 pub use parse::parse_args;

@@ -1,6 +1,6 @@
 //! The command of a command line's words.
 use crate::args::{
-    CliCommand, FileCommand, ImportArgs, LiveArgs, ReplayArgs, StreamWavArgs, StreamsArgs,
+    CliCommand, FileCommand, ImportArgs, LiveArgs, PlayArgs, ReplayArgs, StreamWavArgs, StreamsArgs,
 };
 use crate::clap_args::program_parser;
 use clap::error::ErrorKind;
@@ -83,7 +83,7 @@ fn parse_config_command<'a>(
     matches: &ArgMatches<'a>,
 ) -> FileCommand<'a> {
     match name {
-        "play" => parse_play(path, matches),
+        "play" => FileCommand::Play(path, play_args(matches)),
         "chart" => FileCommand::Chart(path),
         "check" => FileCommand::Check(path),
         _ => parse_marks(path, matches),
@@ -95,17 +95,25 @@ fn parse_marks<'a>(path: &'a str, matches: &ArgMatches<'a>) -> FileCommand<'a> {
     if matches.get_flag("counts") {
         return FileCommand::MarksAndCounts(path);
     }
-    match matches.get_strs("wav") {
-        Some([stream, file]) => FileCommand::MarksToWav(path, StreamWavArgs { stream, file }),
-        _ => FileCommand::Marks(path),
+    match stream_wav_in(matches, "wav") {
+        Some(wav) => FileCommand::MarksToWav(path, wav),
+        None => FileCommand::Marks(path),
     }
 }
 
-/// Returns the command that plays a trace.
-fn parse_play<'a>(path: &'a str, matches: &ArgMatches<'a>) -> FileCommand<'a> {
-    match matches.get_str("wav") {
-        Some(file) => FileCommand::PlayToWav(path, file),
-        None => FileCommand::Play(path),
+/// Returns the two words of the option with this name, a stream and its WAV file, if the option was given.
+fn stream_wav_in<'a>(matches: &ArgMatches<'a>, option: &str) -> Option<StreamWavArgs<'a>> {
+    match matches.get_strs(option) {
+        Some([stream, file]) => Some(StreamWavArgs { stream, file }),
+        _ => None,
+    }
+}
+
+/// Returns the arguments of `play`.
+fn play_args<'a>(matches: &ArgMatches<'a>) -> PlayArgs<'a> {
+    PlayArgs {
+        gains: matches.get_str("gains"),
+        wav: matches.get_str("wav"),
     }
 }
 
@@ -129,6 +137,7 @@ fn replay_args<'a>(
         addresses: addresses_in(alloc, matches)?,
         gap: gap_in(matches),
         wav: matches.get_str("wav"),
+        wav_stream: stream_wav_in(matches, "wav-stream"),
         chart: matches.get_str("chart"),
     })
 }
@@ -158,7 +167,9 @@ fn live_args<'a>(matches: &ArgMatches<'a>) -> LiveArgs<'a> {
         tai_offset: matches.get_str("clock").map(|_tai| offset),
         record: matches.get_str("record"),
         verbose: matches.get_flag("verbose"),
+        control: matches.get_str("control"),
         wav: matches.get_str("wav"),
+        pcm: matches.get_str("pcm"),
     }
 }
 

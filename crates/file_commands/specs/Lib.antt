@@ -1,1 +1,2 @@
+pub mod ImportedConfig
 pub mod Warning

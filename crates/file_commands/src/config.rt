@@ -4,6 +4,7 @@ use crate::fault::{CommandFault, ConfigFault};
 use crate::host::Host;
 use std::alloc::Global;
 use studio_config::{SpecError, SpecErrorKind, StudioSpec};
+use studio_run::studio_with_gains;
 use toml::Table;
 
 // Tested here, since `Host::read_all` may return as many octets as a trace may have.
@@ -29,6 +30,24 @@ pub(crate) fn studio_of<H: Host>(
     parse_studio(alloc, octets.as_slice())
 }
 
+/// Returns the studio of the configuration at a path, whose gains change as the file at another path says, if there is
+/// one.
+pub(crate) fn played_studio<H: Host>(
+    host: &H,
+    alloc: Global,
+    config: &str,
+    gains: Option<&str>,
+) -> Result<StudioSpec, CommandFault> {
+    let studio = studio_of(host, alloc, config)?;
+    let Some(path) = gains else {
+        return Ok(studio);
+    };
+    match host.read_all(alloc, path) {
+        Ok(text) => Ok(studio_with_gains(alloc, &studio, text.as_slice())?),
+        Err(fault) => Err(CommandFault::of_gains(fault)),
+    }
+}
+
 /// Returns the studio that a configuration's octets describe. Returns the configuration's first fault, or
 /// `CommandFault::Memory` if an allocation fails.
 pub fn parse_studio(alloc: Global, octets: &[u8]) -> Result<StudioSpec, CommandFault> {
@@ -43,7 +62,14 @@ pub(crate) fn explained_studio(
     path: &str,
     octets: &[u8],
 ) -> Result<StudioSpec, CommandFault> {
-    let text = text_in(octets)?;
+    let text = match text_in(octets) {
+        Ok(text) => text,
+        Err(CommandFault::Config(ConfigFault::NotToml)) => {
+            let explained = format!(in alloc; "{path}: the file is not UTF-8")?;
+            return Err(CommandFault::Explained(ConfigFault::NotToml, explained));
+        }
+        Err(fault) => return Err(fault),
+    };
     let table = match toml::table_from_str(alloc, text) {
         Ok(table) => table,
         Err(error) if error.is_memory() => return Err(CommandFault::Memory),

@@ -62,14 +62,16 @@ fn write_warning<W: Write>(stream: &StreamSpec, output: &mut W) -> io::Result<()
     if !is_window_short(stream) {
         return Ok(());
     }
-    write!(
+    write!(output, "  warning: the window ")?;
+    write_millis(
+        u64::from(stream.window()) * u64::from(stream.frames()),
         output,
-        "  warning: the window spans less than twice the latency "
     )?;
+    write!(output, " spans less than twice the latency ")?;
     write_millis(2 * u64::from(stream.latency()), output)?;
     writeln!(
         output,
-        ", so bursts of the sender may come too early for it"
+        ": packets of a burst may come too early and be lost; raise window"
     )
 }
 

@@ -1,8 +1,7 @@
-//! The explanation of a configuration's fault, which `check` prints below the fault's line: where it is, what stands
-//! there, and what is allowed.
+//! The explanation of a configuration's fault, which `check` prints below the fault's line: where it is, what the
+//! configuration has there, and what is allowed.
 //!
-//! `explanation/allowed.rt` says what each key may be, and `explanation/config_lines.rt` finds the line on which a key
-//! stands.
+//! `explanation/allowed.rt` says what each key may be, and `explanation/config_lines.rt` finds the line of a key.
 use crate::explanation::allowed::{allowed_at, is_known};
 use crate::explanation::config_lines::{key_line, table_line};
 use gain_mix::ScheduleFault;
@@ -20,6 +19,7 @@ const PAYLOADS: &str =
     "packets of at most 1440 octets: channels times frames times 2 (L16) or 3 (L24)";
 
 /// The greatest number of characters that are shown of a text in a configuration.
+// A text may have as many octets as the whole configuration, a mebibyte.
 const MAX_SHOWN: usize = 64;
 
 /// Returns the explanation of a fault of the configuration in the file at `path`, whose text is `text` and whose table
@@ -130,7 +130,7 @@ fn push_name(
     said.push_str(key)
 }
 
-/// Appends what stands at a key.
+/// Appends the value at a key, as a person reads it.
 fn push_value(said: &mut String, alloc: Global, value: Option<&Value>) -> Result<(), AllocError> {
     match value {
         None => said.push_str(" is missing"),

@@ -5,7 +5,9 @@ use pcap_replay::{RecordingFault, ReplayFault};
 use std::alloc::{AllocError, AllocFailed};
 use std::io;
 use studio_config::SpecErrorKind;
-use studio_run::{PlayFault, ReadFault, SpecError, StudioFault, WriteFault};
+use studio_run::{
+    GainsFault, GainsFaultKind, PlayFault, ReadFault, SpecError, StudioFault, WriteFault,
+};
 use thiserror::Error;
 use wav_file::{FileFault, StreamWavFault};
 
@@ -19,16 +21,22 @@ pub enum CommandFault {
     /// The file to write is also read. The file's path was written to `faults`.
     #[error("is an input")]
     OutputIsInput,
-    /// The STREAM of `--wav` is not a number from 0 to 255.
+    /// Two of the files to write are one file, by their options.
+    #[error("usage: {0} and {1} are one file")]
+    SameFile(&'static str, &'static str),
+    /// The STREAM of `marks --wav` or `replay --wav-stream` is not a number from 0 to 255.
     #[error("usage: STREAM is not a number from 0 to 15")]
     StreamNumber,
     /// The configuration was not read, or has a fault.
     #[error("{0}")]
     Config(ConfigFault),
-    /// The configuration has a fault, which `check` explains below the fault's line: where it is, what stands there,
-    /// and what is allowed.
+    /// The configuration has a fault, which `check` explains below the fault's line: where it is, what the
+    /// configuration has there, and what is allowed.
     #[error("{0}\n{1}")]
     Explained(ConfigFault, String),
+    /// A file of gains was not read, or has a fault.
+    #[error("{0}")]
+    Gains(GainsInputFault),
     /// A trace was not run to its end, or its text was not written.
     #[error("{0}")]
     Play(#[from] PlayFault),
@@ -70,6 +78,20 @@ pub enum ConfigFault {
     Studio(SpecError),
 }
 
+/// The fault of a file of gains.
+#[derive(Clone, Copy, Debug, PartialEq, Eq, Error)]
+pub enum GainsInputFault {
+    /// The file could not be read.
+    #[error("device: gains")]
+    Unread,
+    /// The file has more than 67,108,864 octets, as many as a trace may have.
+    #[error("gains: too long")]
+    TooLong,
+    /// The file's first fault, with its line.
+    #[error("{0}")]
+    Line(GainsFault),
+}
+
 /// The fault of a capture.
 #[derive(Clone, Copy, Debug, PartialEq, Eq, Error)]
 pub enum CaptureInputFault {
@@ -108,6 +130,11 @@ pub enum CaptureInputFault {
     /// No trace or no configuration can be made from the capture.
     #[error("capture: {0}")]
     Import(ImportFault),
+    /// The text of the configuration that was made does not read back as the studio that it is for, so it is not
+    /// written.
+    // No capture is known for which this happens. The test is what makes the claim of `readable_text` true.
+    #[error("capture: the configuration does not read back")]
+    NotReadBack,
 }
 
 impl CommandFault {
@@ -116,6 +143,15 @@ impl CommandFault {
         match fault {
             ReadFault::Device => CommandFault::Config(ConfigFault::Unread),
             ReadFault::TooMany => CommandFault::Config(ConfigFault::TooLong),
+            ReadFault::Memory => CommandFault::Memory,
+        }
+    }
+
+    /// Returns the fault of a file of gains that was not read.
+    pub(crate) fn of_gains(fault: ReadFault) -> CommandFault {
+        match fault {
+            ReadFault::Device => CommandFault::Gains(GainsInputFault::Unread),
+            ReadFault::TooMany => CommandFault::Gains(GainsInputFault::TooLong),
             ReadFault::Memory => CommandFault::Memory,
         }
     }
@@ -129,15 +165,16 @@ impl CommandFault {
         }
     }
 
-    /// Returns the exit status of the program: 1 for a fault of a trace, an event or a capture, 2 for one of the
+    /// Returns the exit status of the program: 1 for a fault of a trace, an event, gains or a capture, 2 for one of the
     /// command line, 3 for one of the configuration, 4 if an allocation failed, and 5 if a read or a write failed.
     pub fn status(&self) -> u8 {
         match self {
             CommandFault::Address | CommandFault::StreamNumber | CommandFault::StreamWav(_) => 2,
-            CommandFault::OutputIsInput => 2,
+            CommandFault::OutputIsInput | CommandFault::SameFile(..) => 2,
             CommandFault::Config(ConfigFault::Unread) => 5,
             CommandFault::Capture(CaptureInputFault::Unread) => 5,
-            CommandFault::Capture(_) => 1,
+            CommandFault::Gains(GainsInputFault::Unread) => 5,
+            CommandFault::Capture(_) | CommandFault::Gains(_) => 1,
             CommandFault::Config(_) | CommandFault::Explained(..) => 3,
             CommandFault::Play(fault) => play_status(fault),
             CommandFault::Replay(fault) => replay_status(fault),
@@ -172,6 +209,16 @@ impl From<SpecError> for CommandFault {
         match fault.kind {
             SpecErrorKind::Memory => CommandFault::Memory,
             _ => CommandFault::Config(ConfigFault::Studio(fault)),
+        }
+    }
+}
+
+impl From<GainsFault> for CommandFault {
+    /// Returns `Memory` if an allocation failed, or else the fault of the line.
+    fn from(fault: GainsFault) -> CommandFault {
+        match fault.kind {
+            GainsFaultKind::Memory => CommandFault::Memory,
+            _ => CommandFault::Gains(GainsInputFault::Line(fault)),
         }
     }
 }

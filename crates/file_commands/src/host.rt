@@ -8,7 +8,7 @@ use pcap_file::{RecordFault, RecordFile};
 use std::alloc::Global;
 use std::io::{Read, Write};
 use studio_run::ReadFault;
-use wav_file::{CreateFile, FileFault, LiveWavFault, LiveWavFile, Overwrite};
+use wav_file::{CreateFile, FileFault, LiveWavFault, LiveWavFile, Overwrite, PcmFault, PcmOutput};
 
 /// The host of the commands: the types of its standard streams, and its files by their paths. The program implements it
 /// over the system's files.
@@ -21,7 +21,7 @@ pub trait Host {
     type Stdout: Write;
 
     /// Standard error.
-    type Stderr: Write + Send;
+    type Stderr: Write + Send + Drop;
 
     /// A file that is read: a capture.
     type Source: Read + Drop;
@@ -34,6 +34,9 @@ pub trait Host {
 
     /// The WAV file of a live run's mix.
     type Audio: LiveWavFile + Send + Drop;
+
+    /// The output of a live run's raw PCM.
+    type Pcm: PcmOutput + Send + Drop;
 
     /// Opens the file at a path for reading, from its start. Returns `ReadFault::Memory` if an allocation fails, and
     /// `ReadFault::Device` if the file cannot be opened.
@@ -59,6 +62,17 @@ pub trait Host {
     /// there, which stays as it is, and `NotCreated` if the file cannot be created for another reason.
     fn create_wav(&self, path: &str) -> Result<Self::Audio, LiveWavFault>
         ensures empty { IfOk result (λ file. Holds (Self.Audio.Write.contents file) []) };
+
+    /// Opens the output of a live run's raw PCM: standard output if there is no path, or else the FIFO at the path, or
+    /// a file that is created there. Does not wait for a reader. Returns `Exists` if something is there that is no
+    /// FIFO, which stays as it is, and `NotCreated` if the output cannot be opened.
+    fn create_pcm(&self, path: Option<&str>) -> Result<Self::Pcm, PcmFault>;
+
+    /// Returns true if there is a FIFO at a path, also by links.
+    fn is_fifo(&self, path: &str) -> bool;
+
+    /// Returns standard error once more.
+    fn stderr(&self) -> Self::Stderr;
 
     /// Returns true if two paths lead to one file, also by links.
     fn is_same_file(&self, one: &str, other: &str) -> bool;
@@ -102,6 +116,26 @@ pub(crate) fn refuse_inputs<H: Host>(
         }
     }
     Ok(())
+}
+
+/// Returns true if two paths, at which there may be nothing yet, name one file: in one folder and of one name, or by
+/// links.
+pub fn is_one_file<H: Host>(host: &H, one: &str, other: &str) -> bool {
+    let (folder, name) = parts_of(one);
+    let (other_folder, other_name) = parts_of(other);
+    if name == other_name && (folder == other_folder || host.is_same_file(folder, other_folder)) {
+        return true;
+    }
+    host.is_same_file(one, other)
+}
+
+/// Returns the folder of a path, and the name behind it.
+fn parts_of(path: &str) -> (&str, &str) {
+    match path.rsplit_once('/') {
+        Some(("", name)) => ("/", name),
+        Some((folder, name)) => (folder, name),
+        None => (".", path),
+    }
 }
 
 /// Writes what a file is and its path to `faults`, as the beginning of the line of a fault. If it cannot be written it

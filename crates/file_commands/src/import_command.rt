@@ -2,9 +2,10 @@
 use crate::capture_flows::{addresses_in, check_times};
 use crate::fault::{CaptureInputFault, CommandFault};
 use crate::host::{Host, read_capture};
+use crate::imported_config::readable_text;
 use crate::streams_command::own_fault;
 use command_line::ImportArgs;
-use pcap_flows::{FlowTable, ImportFault, Routes, config_text, routes_of, trace_text};
+use pcap_flows::{FlowTable, ImportFault, Routes, config_for, routes_of, trace_text};
 use std::alloc::Global;
 use std::io::Write;
 use std::net::SocketAddrV4;
@@ -117,8 +118,11 @@ fn write_config<W: Write>(
     args: &ImportArgs<'_>,
     output: &mut W,
 ) -> Result<(), CommandFault> {
-    match config_text(alloc, table, octets, routes, args.latency) {
-        Ok(text) => Ok(write_text(output, text.as_bytes())?),
+    match config_for(alloc, table, octets, routes, args.latency) {
+        Ok(config) => {
+            let text = readable_text(alloc, config)?;
+            Ok(write_text(output, text.as_bytes())?)
+        }
         Err(fault) => Err(fault_of(fault)),
     }
 }

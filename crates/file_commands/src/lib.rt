@@ -18,20 +18,22 @@ mod explanation;
 mod fault;
 mod host;
 mod import_command;
+mod imported_config;
 mod replay_command;
 mod replay_input;
 mod replay_outputs;
+mod stream_output;
 mod streams_command;
 mod trace_commands;
 
 pub use config::{parse_studio, read_config, table_in};
 pub use config_help::run_config_help;
-pub use fault::{CaptureInputFault, CommandFault, ConfigFault, output_result};
-pub use host::Host;
+pub use fault::{CaptureInputFault, CommandFault, ConfigFault, GainsInputFault, output_result};
+pub use host::{Host, is_one_file};
 pub use import_command::run_import;
 pub use replay_command::run_replay;
 pub use streams_command::run_streams;
 pub use trace_commands::{
     run_chart, run_check, run_marks, run_marks_to_wav, run_marks_with_counts, run_play,
-    run_play_to_wav, run_quick_start,
+    run_quick_start,
 };

@@ -1,12 +1,18 @@
-//! The command `replay`: the report of a capture, with a WAV file and a chart in addition to it.
-ghost use Rattle.std.specs.Prelude.{[]};
+//! The command `replay`: the report of a capture, with WAV files and a chart in addition to it.
+ghost use Rattle.std.specs.Prelude.{[], IfOk};
+ghost use Rattle.pcap_replay.specs.StreamObserver.{HasFollowedIf};
+ghost use Rattle.pcap_replay.specs.WavObserver.{HasSoundedIf};
 
 use crate::capture_flows::routes_at;
 use crate::config::studio_of;
 use crate::fault::{CaptureInputFault, CommandFault};
-use crate::host::{Host, STDIN_PATH, open_capture, refuse_inputs};
+use crate::host::{Host, STDIN_PATH, is_one_file, open_capture, refuse_inputs};
 use crate::replay_input::{PeekedInput, opening_in, paths_in, read_front, studio_for};
 use crate::replay_outputs::{ReplayOutputs, create_wav, finish_wav, write_chart};
+use crate::stream_output::{
+    NumberedStream, create_stream_wav, end_stream_wav, numbered_file, stream_output,
+    stream_wav_result,
+};
 use command_line::ReplayArgs;
 use pcap_file::CaptureFault;
 use pcap_flows::Routes;
@@ -16,7 +22,7 @@ use std::alloc::Global;
 use std::io;
 use std::io::{Read, Write};
 use studio_config::StudioSpec;
-use wav_file::Overwrite;
+use wav_file::{Overwrite, StreamWav};
 
 /// The kind of a capture, which is known before it is replayed.
 #[derive(Drop)]
@@ -34,8 +40,8 @@ struct ReplaySource {
     kind: CaptureKind,
 }
 
-/// Writes the report of a capture, by the configuration at a path. Before the fault of a WAV file or a chart its path
-/// is written to `faults`.
+/// Writes the report of a capture, by the configuration at a path, and the files that are asked for. Before the fault
+/// of a WAV file or a chart its path is written to `faults`.
 ///
 /// A capture in a file is opened several times, so that it need not fit in memory: for its start up to the first
 /// packet, which says if it is the record of a live run and of which configuration; for its flows, if it is not a
@@ -50,27 +56,59 @@ pub fn run_replay<H: Host>(
     output: &mut H::Stdout,
     faults: &mut H::Stderr,
 ) -> Result<(), CommandFault> {
+    let file = numbered_file(args.wav_stream)?;
+    refuse_outputs(host, config, &args, faults)?;
+    let studio = studio_of(host, alloc, config)?;
+    let stream = stream_output(file, &studio, faults)?;
+    if args.is_stdin() {
+        return replay_input(host, alloc, studio, &args, stream, input, output, faults);
+    }
+    let source = source_of(host, alloc, studio, &args)?;
+    source.replay(host, alloc, &args, stream, output, faults)
+}
+
+/// Refuses to write a file that is also read, and to write two files at one place.
+fn refuse_outputs<H: Host>(
+    host: &H,
+    config: &str,
+    args: &ReplayArgs<'_>,
+    faults: &mut H::Stderr,
+) -> Result<(), CommandFault> {
     let capture = if args.is_stdin() {
         STDIN_PATH
     } else {
         args.file
     };
+    let stream = args.wav_stream.map(|wav| wav.file);
     refuse_inputs(host, "wav", args.wav, &[config, capture], faults)?;
+    refuse_inputs(host, "wav", stream, &[config, capture], faults)?;
     refuse_inputs(host, "chart", args.chart, &[config, capture], faults)?;
-    let studio = studio_of(host, alloc, config)?;
-    if args.is_stdin() {
-        return replay_input(host, alloc, studio, &args, input, output, faults);
-    }
-    let source = source_of(host, alloc, studio, &args)?;
-    source.replay(host, alloc, &args, output, faults)
+    refuse_one_file(host, ("--wav", args.wav), ("--wav-stream", stream))?;
+    refuse_one_file(host, ("--wav", args.wav), ("--chart", args.chart))?;
+    refuse_one_file(host, ("--wav-stream", stream), ("--chart", args.chart))
 }
 
-/// Writes the report of the record on standard input, and then the WAV file that is asked for.
+/// Refuses the files of two options if both are one file, of which the later would take the place of the earlier.
+fn refuse_one_file<H: Host>(
+    host: &H,
+    one: (&'static str, Option<&str>),
+    other: (&'static str, Option<&str>),
+) -> Result<(), CommandFault> {
+    match (one, other) {
+        ((one, Some(path)), (other, Some(other_path))) if is_one_file(host, path, other_path) => {
+            Err(CommandFault::SameFile(one, other))
+        }
+        _ => Ok(()),
+    }
+}
+
+/// Writes the report of the record on standard input, and the WAV files that are asked for.
 fn replay_input<H: Host>(
     host: &H,
     alloc: Global,
     studio: StudioSpec,
     args: &ReplayArgs<'_>,
+    stream: Option<NumberedStream>,
     input: &mut H::Stdin,
     output: &mut H::Stdout,
     faults: &mut H::Stderr,
@@ -81,12 +119,40 @@ fn replay_input<H: Host>(
     };
     let paths = paths_in(alloc, &mut front.as_slice())?;
     let studio = studio_for(alloc, studio, opening, paths.as_slice())?;
-    let wav = create_wav(host, args.wav, studio.output(), faults)?;
-    let mut outputs = ReplayOutputs::<H::Target, Extent> { wav, streams: None };
+    let mut outputs = create_files::<H, Extent>(host, alloc, &studio, args, stream, None, faults)?;
     let mut record = PeekedInput::new(front.as_slice(), input);
     let played = play_record(alloc, &studio, &mut record, output, &mut outputs);
-    let ReplayOutputs { wav, streams: _ } = outputs;
-    finish_replay(wav, played, args.wav, faults)
+    let ReplayOutputs {
+        wav,
+        stream: file,
+        streams: _,
+    } = outputs;
+    let (played, cut) = without_cut(played);
+    finish_files(wav, file, played, args, faults)?;
+    cut_result(cut)
+}
+
+/// Creates the WAV files that are asked for, and returns them with the trackers of the chart.
+fn create_files<H: Host, O: Drop>(
+    host: &H,
+    alloc: Global,
+    studio: &StudioSpec,
+    args: &ReplayArgs<'_>,
+    stream: Option<NumberedStream>,
+    streams: Option<StudioTracker<O>>,
+    faults: &mut H::Stderr,
+) -> Result<ReplayOutputs<H::Target, O>, CommandFault>
+    ensures { IfOk result (λ files. HasSoundedIf files.wav files.wav [] []
+        × HasFollowedIf files.stream files.stream [] []) }
+{
+    let wav = create_wav(host, args.wav, studio.output(), faults)?;
+    let path = args.wav_stream.map(|wav| wav.file);
+    let stream = create_stream_wav(host, alloc, stream, path, studio, faults)?;
+    Ok(ReplayOutputs {
+        wav,
+        stream,
+        streams,
+    })
 }
 
 /// Writes the report of a record, and reports each event and each datagram to an observer. Returns the fault of the
@@ -103,17 +169,19 @@ fn play_record<R: Read, W: Write, L: ReplayObserver>(
     Ok(replay_record(alloc, studio, input, output, observer)?)
 }
 
-/// Completes the mix's WAV file after a report, and returns the first fault: of the report, of the file, or of a last
-/// block that is cut, behind which the report is whole.
-fn finish_replay<F: Overwrite + Drop, E: Write>(
+/// Completes the WAV files after a report, and returns the first fault: of the report, of the mix's file, or of the
+/// stream's.
+fn finish_files<F: Overwrite + Drop, E: Write>(
     wav: Option<WavObserver<F>>,
-    played: Result<Option<CaptureFault>, CommandFault>,
-    path: Option<&str>,
+    file: Option<StreamWav<F>>,
+    played: Result<(), CommandFault>,
+    args: &ReplayArgs<'_>,
     faults: &mut E,
 ) -> Result<(), CommandFault> {
-    let (played, cut) = without_cut(played);
-    finish_wav(wav, played, path, faults)?;
-    cut_result(cut)
+    let ended = end_stream_wav(file, played.is_ok());
+    finish_wav(wav, played, args.wav, faults)?;
+    let path = args.wav_stream.map(|wav| wav.file);
+    stream_wav_result(ended, path, faults)
 }
 
 /// Returns the result of a report, and the fault of a record's last block behind it, if that is cut.
@@ -163,12 +231,13 @@ fn source_of<H: Host>(
 }
 
 impl ReplaySource {
-    /// Writes the report, and then the WAV file and the chart that are asked for.
+    /// Writes the report, and the WAV files and the chart that are asked for.
     fn replay<H: Host>(
         &self,
         host: &H,
         alloc: Global,
         args: &ReplayArgs<'_>,
+        stream: Option<NumberedStream>,
         output: &mut H::Stdout,
         faults: &mut H::Stderr,
     ) -> Result<(), CommandFault> {
@@ -176,12 +245,15 @@ impl ReplaySource {
             Some(_) => Some(StudioTracker::measure(alloc, &self.studio)?),
             None => None,
         };
-        let wav = create_wav(host, args.wav, self.studio.output(), faults)?;
-        let mut outputs = ReplayOutputs { wav, streams };
+        let mut outputs = create_files(host, alloc, &self.studio, args, stream, streams, faults)?;
         let played = self.play(host, alloc, args.file, output, &mut outputs);
-        let ReplayOutputs { wav, streams } = outputs;
+        let ReplayOutputs {
+            wav,
+            stream: file,
+            streams,
+        } = outputs;
         let (played, cut) = without_cut(played);
-        finish_wav(wav, played, args.wav, faults)?;
+        finish_files(wav, file, played, args, faults)?;
         if let (Some(chart), Some(streams)) = (args.chart, streams) {
             self.draw(host, alloc, args.file, &streams, chart, faults)?;
         }
@@ -229,6 +301,7 @@ impl ReplaySource {
     ) -> Result<(), CommandFault> {
         let mut outputs = ReplayOutputs::<H::Target, _> {
             wav: None,
+            stream: None,
             streams: Some(streams.for_drawing(alloc, &self.studio)?),
         };
         // The first pass measured the span of each stream's media time, which the chart's bins divide, so only this

@@ -1,6 +1,7 @@
 //! The files that `replay` writes in addition to its report.
 ghost use Rattle.std.specs.Prelude.{[], IfOk};
 ghost use Rattle.pcap_replay.specs.WavObserver.{HasSoundedIf};
+ghost use Rattle.pcap_replay.specs.StreamObserver.{HasFollowedIf};
 
 use crate::fault::CommandFault;
 use crate::host::{Host, begin_fault_line};
@@ -10,21 +11,25 @@ use reception_chart::{ReceptionObserver, StudioTracker};
 use rtp_stream::Path;
 use std::io::Write;
 use studio_run::write_text;
-use wav_file::{FileFault, Overwrite};
+use wav_file::{FileFault, Overwrite, StreamWav};
 
-/// The observer of a replay: the mix's WAV file and the trackers of the chart, each if it is asked for.
+/// The observer of a replay: the WAV files of the mix and of a stream and the trackers of the chart, each if it is
+/// asked for.
 #[derive(Drop)]
 pub(crate) struct ReplayOutputs<F: Overwrite, O> {
     pub(crate) wav: Option<WavObserver<F>>,
+    pub(crate) stream: Option<StreamWav<F>>,
     pub(crate) streams: Option<StudioTracker<O>>,
 }
 
 impl<F: Overwrite + Drop, O: ReceptionObserver + Drop> ReplayObserver for ReplayOutputs<F, O> {
-    // Contracts follow the WAV file alone. The chart is outside them.
-    ghost heard = { λ begun now events datagrams. HasSoundedIf begun.wav now.wav events datagrams };
+    // Contracts follow the WAV files alone. The chart is outside them.
+    ghost heard = { λ begun now events datagrams. HasSoundedIf begun.wav now.wav events datagrams
+        × HasFollowedIf begun.stream now.stream events datagrams };
 
     fn arrived(&mut self, stream: usize, path: Path, octets: &[u8]) {
         self.wav.arrived(stream, path, octets);
+        self.stream.arrived(stream, path, octets);
         if let Some(streams) = &mut self.streams {
             streams.arrived(stream, path, octets);
         }
@@ -32,6 +37,7 @@ impl<F: Overwrite + Drop, O: ReceptionObserver + Drop> ReplayObserver for Replay
 
     fn read(&mut self, time: i64) {
         self.wav.read(time);
+        self.stream.read(time);
         if let Some(streams) = &mut self.streams {
             streams.read(time);
         }
@@ -39,6 +45,7 @@ impl<F: Overwrite + Drop, O: ReceptionObserver + Drop> ReplayObserver for Replay
 
     fn closed(&mut self) {
         self.wav.closed();
+        self.stream.closed();
         if let Some(streams) = &mut self.streams {
             streams.closed();
         }
@@ -46,6 +53,7 @@ impl<F: Overwrite + Drop, O: ReceptionObserver + Drop> ReplayObserver for Replay
 
     fn output(&mut self, datagram: &[u8]) {
         self.wav.output(datagram);
+        self.stream.output(datagram);
     }
 }
 
@@ -118,7 +126,12 @@ fn write_to<W: Write>(file: &mut W, chart: &[u8]) -> Result<(), FileFault> {
 }
 
 /// Writes the path of a file to `faults`, and returns the fault that its line goes on with.
-fn file_fault<E: Write>(word: &str, path: &str, fault: FileFault, faults: &mut E) -> CommandFault {
+pub(crate) fn file_fault<E: Write>(
+    word: &str,
+    path: &str,
+    fault: FileFault,
+    faults: &mut E,
+) -> CommandFault {
     begin_fault_line(word, path, faults);
     CommandFault::Wav(fault)
 }

@@ -1,12 +1,13 @@
 //! The commands over a trace on standard input, with or without a WAV file of the mix or of one stream, and `check`.
-use crate::config::{explained_studio, quick_start_studio, read_config, studio_of};
+use crate::config::{explained_studio, played_studio, quick_start_studio, read_config, studio_of};
 use crate::config_summary::write_summary;
 use crate::fault::{CommandFault, output_result};
 use crate::host::{Host, NamedFile, STDIN_PATH, begin_fault_line, refuse_inputs};
-use command_line::StreamWavArgs;
+use command_line::{PlayArgs, StreamWavArgs};
 use reception_chart::chart;
 use std::alloc::Global;
 use std::io::{Read, Write};
+use studio_config::StudioSpec;
 use studio_run::{list_marks, list_marks_and_counts, play};
 use wav_file::{WavRunFault, list_to_wav, play_to_wav};
 
@@ -46,18 +47,6 @@ pub fn run_marks_with_counts<H: Host>(
     Ok(list_marks_and_counts(alloc, &studio, input, output, faults)?)
 }
 
-/// Writes the report of the trace in `input` by the configuration at a path.
-pub fn run_play<H: Host>(
-    host: &H,
-    alloc: Global,
-    path: &str,
-    input: &mut H::Stdin,
-    output: &mut H::Stdout,
-) -> Result<(), CommandFault> {
-    let studio = studio_of(host, alloc, path)?;
-    Ok(play(alloc, &studio, input, output)?)
-}
-
 /// Writes a chart of what the streams of the trace in `input` received, by the configuration at a path, as an SVG.
 pub fn run_chart<H: Host>(
     host: &H,
@@ -82,21 +71,42 @@ pub fn run_check<H: Host>(
     output_result(write_summary(&studio, output))
 }
 
-/// Writes the report of the trace in `input` by the configuration at a path, and the mix to the WAV file at another
-/// path. Before a fault of that file its path is written to `faults`.
-pub fn run_play_to_wav<H: Host>(
+/// Writes the report of the trace in `input` by the configuration at a path, with the changes of gains and the WAV file
+/// of the mix that are asked for. Before a fault that is put at a file its path is written to `faults`.
+pub fn run_play<H: Host>(
     host: &H,
     alloc: Global,
     config: &str,
-    path: &str,
+    args: PlayArgs<'_>,
     input: &mut H::Stdin,
     output: &mut H::Stdout,
     faults: &mut H::Stderr,
 ) -> Result<(), CommandFault> {
-    refuse_inputs(host, "wav", Some(path), &[config, STDIN_PATH], faults)?;
-    let studio = studio_of(host, alloc, config)?;
+    refuse_inputs(host, "wav", args.wav, &[config, STDIN_PATH], faults)?;
+    if let Some(gains) = args.gains {
+        refuse_inputs(host, "wav", args.wav, &[gains], faults)?;
+        // The trace would be read as gains too, and the first of its lines would be at fault.
+        refuse_inputs(host, "gains", Some(gains), &[STDIN_PATH], faults)?;
+    }
+    let studio = played_studio(host, alloc, config, args.gains)?;
+    play_studio(host, alloc, &studio, args.wav, input, output, faults)
+}
+
+/// Writes the report of the trace in `input` by a studio, and the mix to the WAV file at a path, if there is one.
+fn play_studio<H: Host>(
+    host: &H,
+    alloc: Global,
+    studio: &StudioSpec,
+    wav: Option<&str>,
+    input: &mut H::Stdin,
+    output: &mut H::Stdout,
+    faults: &mut H::Stderr,
+) -> Result<(), CommandFault> {
+    let Some(path) = wav else {
+        return Ok(play(alloc, studio, input, output)?);
+    };
     let file = NamedFile { host, path };
-    match play_to_wav(alloc, &studio, input, output, &file) {
+    match play_to_wav(alloc, studio, input, output, &file) {
         Ok(_file) => Ok(()),
         Err(fault) => Err(wav_fault(fault, path, faults)),
     }
@@ -115,9 +125,7 @@ pub fn run_marks_to_wav<H: Host>(
     faults: &mut H::Stderr,
 ) -> Result<(), CommandFault> {
     // The number is tested before the configuration is read: a fault of the command line comes first.
-    let Ok(stream) = args.stream.parse::<u8>() else {
-        return Err(CommandFault::StreamNumber);
-    };
+    let stream = stream_number(args.stream)?;
     let path = args.file;
     refuse_inputs(host, "wav", Some(path), &[config, STDIN_PATH], faults)?;
     let studio = studio_of(host, alloc, config)?;
@@ -125,6 +133,14 @@ pub fn run_marks_to_wav<H: Host>(
     match list_to_wav(alloc, &studio, stream, input, output, &file) {
         Ok(_file) => Ok(()),
         Err(fault) => Err(wav_fault(fault, path, faults)),
+    }
+}
+
+/// Returns the number of a stream's word.
+pub(crate) fn stream_number(word: &str) -> Result<u8, CommandFault> {
+    match word.parse::<u8>() {
+        Ok(number) => Ok(number),
+        Err(_) => Err(CommandFault::StreamNumber),
     }
 }
 

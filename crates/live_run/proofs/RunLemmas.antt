@@ -1,29 +1,34 @@
--- What a live run wrote.
-use Rattle.std.proofs.Common.{◌≡◌, refl, sym, subst, Bool, ℕ, List, Option, Result, Ok, Err}
-use Rattle.std.specs.Prelude.{IfErr, IsErrAnd}
+-- The text that a live run wrote.
+use Rattle.std.proofs.Common.{◌≡◌, refl, sym, subst, Bool, true, false, ℕ, ℤ, List, [], Option, None, Result, Ok, Err}
+use Rattle.std.specs.Prelude.{IfErr, IfOk, IsErrAnd}
 use Rattle.studio_config.specs.Studio.{Studio}
+use Rattle.studio_rings.proofs.RunLemmas.{settled-unchanged as rings_unchanged}
+use Rattle.engine_run.proofs.GainRequestLemmas.{settled-unchanged as engine_unchanged}
+use Rattle.studio_io.specs.declared.report.WorkReport.{WorkReport}
 use Rattle.live_run.specs.RunText.{BreaksOffRun, FailsRun}
-use Rattle.live_run.specs.RunResult.{IsEarly}
+use Rattle.live_run.specs.RunResult.{IsEarly, IsRunOf, IsRunWith, IsSettledIf, IsSettledIn, IsSettledWith}
 use Rattle.live_run.specs.declared.fault.LiveFault.{LiveFault}
-use Rattle.live_run.specs.declared.fault.LiveFault.TheVariants.{Memory, Socket, Page, Thread, RecordExists, Record, WavExists, Wav, Unsettled, Write}
+use Rattle.live_run.specs.declared.fault.LiveFault.TheVariants.{Memory, Socket, Page, Thread, RecordExists, Record, WavExists, Wav, PcmExists, Pcm, Unsettled, Write}
 
-early_writes_nothing : (one : Bool) (studio : Studio) (written : Option (List ℕ)) (fault : LiveFault) → IsEarly fault → FailsRun one studio written written fault
-early_writes_nothing one studio written Memory early = refl
-early_writes_nothing one studio written Socket early = refl
-early_writes_nothing one studio written Page early = refl
-early_writes_nothing one studio written RecordExists early = refl
-early_writes_nothing one studio written Record early = refl
-early_writes_nothing one studio written WavExists early = refl
-early_writes_nothing one studio written Wav early = refl
-early_writes_nothing one studio written Thread early = refl
-early_writes_nothing one studio written Unsettled early = absurd early
-early_writes_nothing one studio written Write early = absurd early
+early_writes_nothing : (one controlled : Bool) (studio : Studio) (written : Option (List ℕ)) (fault : LiveFault) → IsEarly fault → FailsRun one controlled studio written written fault
+early_writes_nothing one controlled studio written Memory early = refl
+early_writes_nothing one controlled studio written Socket early = refl
+early_writes_nothing one controlled studio written Page early = refl
+early_writes_nothing one controlled studio written RecordExists early = refl
+early_writes_nothing one controlled studio written Record early = refl
+early_writes_nothing one controlled studio written WavExists early = refl
+early_writes_nothing one controlled studio written Wav early = refl
+early_writes_nothing one controlled studio written PcmExists early = refl
+early_writes_nothing one controlled studio written Pcm early = refl
+early_writes_nothing one controlled studio written Thread early = refl
+early_writes_nothing one controlled studio written Unsettled early = absurd early
+early_writes_nothing one controlled studio written Write early = absurd early
 
 module _ {T : Type 0} where
   -- with a fault before the report nothing was written
-  pub wrote_nothing : (one : Bool) (studio : Studio) (written : Option (List ℕ)) (r : Result T LiveFault) → IsErrAnd r IsEarly → IfErr r (FailsRun one studio written written)
-  wrote_nothing one studio written (Ok it) early = absurd early
-  wrote_nothing one studio written (Err fault) early = early_writes_nothing one studio written fault early
+  pub wrote_nothing : (one controlled : Bool) (studio : Studio) (written : Option (List ℕ)) (r : Result T LiveFault) → IsErrAnd r IsEarly → IfErr r (FailsRun one controlled studio written written)
+  wrote_nothing one controlled studio written (Ok it) early = absurd early
+  wrote_nothing one controlled studio written (Err fault) early = early_writes_nothing one controlled studio written fault early
 
   -- a fault before the run began is an early one
   pub is_early : (r : Result T LiveFault) → IsErrAnd r IsEarly → IfErr r IsEarly
@@ -31,7 +36,36 @@ module _ {T : Type 0} where
   is_early (Err fault) early = early
 
   -- a write that failed broke off a report
-  pub broke_off : (one : Bool) (studio : Studio) (written written_then : Option (List ℕ)) (r : Result T LiveFault) → IsErrAnd r (λ fault. fault ≡ Write)
-      → BreaksOffRun one studio written written_then → IfErr r (FailsRun one studio written written_then)
-  broke_off one studio written written_then (Ok it) is breaks = absurd is
-  broke_off one studio written written_then (Err fault) is breaks = subst (FailsRun one studio written written_then) (sym is) breaks
+  pub broke_off : (one controlled : Bool) (studio : Studio) (written written_then : Option (List ℕ)) (r : Result T LiveFault) → IsErrAnd r (λ fault. fault ≡ Write)
+      → BreaksOffRun one controlled studio written written_then → IfErr r (FailsRun one controlled studio written written_then)
+  broke_off one controlled studio written written_then (Ok it) is breaks = absurd is
+  broke_off one controlled studio written written_then (Err fault) is breaks = subst (FailsRun one controlled studio written written_then) (sym is) breaks
+
+-- what a run took is what it took since nothing was taken
+from_none : (one : Bool) (studio : Studio) (report : WorkReport) (first last : List (ℤ × List ℤ)) → IsSettledWith one studio report first last → IsSettledIf one true studio report
+from_none false studio report first last (places, answers, clocks, run) = (run.changes, (places, answers, clocks, record { changes = run.changes; taken = refl; run = run.run }))
+from_none true studio report first last (answers, clock, feeds, run) = (run.changes, (answers, clock, feeds, record { changes = run.changes; taken = refl; run = run.run }))
+
+-- a run that took nothing is one of its studio
+without_change : (one : Bool) (studio : Studio) (report : WorkReport) (taken : List (ℤ × List ℤ)) → IsSettledWith one studio report taken taken → IsSettledIn one studio report
+without_change false studio report taken (places, answers, clocks, run) = (places, answers, clocks, rings_unchanged studio places answers clocks report None None taken run)
+without_change true studio report taken (answers, clock, feeds, run) = (answers, clock, feeds, engine_unchanged studio answers clock report None None None None taken run)
+
+module _ {G : Type 0} (taken : G → List (ℤ × List ℤ)) where
+  -- a run whose gains can be changed took some changes
+  pub controlled : (one : Bool) (studio : Studio) (first : List (ℤ × List ℤ)) (r : Result WorkReport LiveFault) → IfOk r (λ report. (after : G) × IsRunWith one studio report first (taken after))
+      → IfOk r (IsRunOf one true studio)
+  controlled one studio first (Ok report) run = record {
+    balance = run.1.balance;
+    settled = λ settled. from_none one studio report first (taken run.0) (run.1.settled settled);
+  }
+  controlled one studio first (Err fault) run = run
+
+  -- and took none if the source takes none
+  pub uncontrolled : (one : Bool) (studio : Studio) → ((after : G) → taken after ≡ []) → (r : Result WorkReport LiveFault) → IfOk r (λ report. (after : G) × IsRunWith one studio report [] (taken after))
+      → IfOk r (IsRunOf one false studio)
+  uncontrolled one studio none (Ok report) run = record {
+    balance = run.1.balance;
+    settled = λ settled. without_change one studio report [] (subst (λ last. IsSettledWith one studio report [] last) (none run.0) (run.1.settled settled));
+  }
+  uncontrolled one studio none (Err fault) run = run

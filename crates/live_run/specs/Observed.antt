@@ -1,4 +1,4 @@
--- What the observer of a run in one thread passes on to the run's record.
+-- The datagrams and the close that the observer of a run in one thread passes on to the run's record.
 use Rattle.std.specs.Prelude.{◌≡◌, ℕ, List, ℤ, Option, Some, None}
 use Rattle.live_io.specs.RecordBlocks.{PutsClose, PutsPacket}
 use Rattle.live_io.specs.declared.record.observer.DatagramOrigin.{DatagramOrigin}

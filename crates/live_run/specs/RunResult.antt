@@ -1,14 +1,14 @@
 -- The report of a live run, and the faults of a run that has none.
-use Rattle.std.specs.Prelude.{◌≡◌, true, false, Bool, ℕ, ℤ, List, None, length}
+use Rattle.std.specs.Prelude.{◌≡◌, true, false, Bool, ℕ, ℤ, List, [], None, length}
 use Rattle.studio_config.specs.Studio.{Studio}
 use Rattle.studio_io.specs.Answers.{Answer}
 use Rattle.studio_io.specs.Balances.{Balances}
-use Rattle.studio_rings.specs.Runs.{IsSettledRun}
+use Rattle.studio_rings.specs.Runs.{IsSettledRun, IsSettledRunWith}
 use Rattle.engine_run.specs.Grouping.{path_total}
-use Rattle.engine_run.specs.Runs.{IsSettledRun as IsSettledAlone}
+use Rattle.engine_run.specs.Runs.{IsSettledRun as IsSettledAlone, IsSettledRunWith as IsSettledAloneWith}
 use Rattle.studio_io.specs.declared.report.WorkReport.{WorkReport}
 use Rattle.live_run.specs.declared.fault.LiveFault.{LiveFault}
-use Rattle.live_run.specs.declared.fault.LiveFault.TheVariants.{Memory, Socket, Page, Thread, RecordExists, Record, WavExists, Wav, Unsettled, Write}
+use Rattle.live_run.specs.declared.fault.LiveFault.TheVariants.{Memory, Socket, Page, Thread, RecordExists, Record, WavExists, Wav, PcmExists, Pcm, Unsettled, Write}
 
 -- there is a feed for each path, which gives these answers
 abbrev pub HasFeeds : Studio → List (List Answer) → Type 0
@@ -19,10 +19,27 @@ abbrev pub IsSettledIn : Bool → Studio → WorkReport → Type 0
 IsSettledIn false studio report = (places : ℕ) × (answers : List (List Answer)) × (clocks : List (List ℤ)) × IsSettledRun studio places answers clocks report None None
 IsSettledIn true studio report = (answers : List (List Answer)) × (clock : List ℤ) × HasFeeds studio answers × IsSettledAlone studio answers clock report None None None None
 
--- the report is of a run of this studio, in one thread or by workers: its datagrams balance, and if it is settled it belongs to all that happened
-pub record IsRunOf (one_thread : Bool) (studio : Studio) (report : WorkReport) : Type 0 where
+-- the same of a run that took exactly these changes of gains, whose source had taken the first ones before it
+abbrev pub IsSettledWith : Bool → Studio → WorkReport → List (ℤ × List ℤ) → List (ℤ × List ℤ) → Type 0
+IsSettledWith false studio report first last =
+    (places : ℕ) × (answers : List (List Answer)) × (clocks : List (List ℤ)) × IsSettledRunWith studio places answers clocks report None None first last
+IsSettledWith true studio report first last =
+    (answers : List (List Answer)) × (clock : List ℤ) × HasFeeds studio answers × IsSettledAloneWith studio answers clock report None None None None first last
+
+-- and of a run whose gains can be changed or not: if not, it is one of the studio without a change
+abbrev pub IsSettledIf : Bool → Bool → Studio → WorkReport → Type 0
+IsSettledIf one_thread false studio report = IsSettledIn one_thread studio report
+IsSettledIf one_thread true studio report = (taken : List (ℤ × List ℤ)) × IsSettledWith one_thread studio report [] taken
+
+-- the report is of a run of this studio, in one thread or by workers, whose gains can be changed or not: its datagrams balance, and if it is settled it belongs to all that happened
+pub record IsRunOf (one_thread controlled : Bool) (studio : Studio) (report : WorkReport) : Type 0 where
   pub balance : Balances report.blocks report.sent_a report.fault_a report.sent_b report.fault_b
-  pub settled : report.settled ≡ true → IsSettledIn one_thread studio report
+  pub settled : report.settled ≡ true → IsSettledIf one_thread controlled studio report
+
+-- the same of a run whose source of gains had taken the first changes before it, and all of them after it
+pub record IsRunWith (one_thread : Bool) (studio : Studio) (report : WorkReport) (first last : List (ℤ × List ℤ)) : Type 0 where
+  pub balance : Balances report.blocks report.sent_a report.fault_a report.sent_b report.fault_b
+  pub settled : report.settled ≡ true → IsSettledWith one_thread studio report first last
 
 -- a fault of a run that has no report
 abbrev pub IsEarly : LiveFault → Type 0
@@ -34,5 +51,7 @@ IsEarly RecordExists = Unit {0}
 IsEarly Record = Unit {0}
 IsEarly WavExists = Unit {0}
 IsEarly Wav = Unit {0}
+IsEarly PcmExists = Unit {0}
+IsEarly Pcm = Unit {0}
 IsEarly Unsettled = ⊥
 IsEarly Write = ⊥

@@ -3,16 +3,17 @@
 use live_io::Sockets;
 use live_status::{PageThread, STDERR, is_ready};
 use rtp_stream::Path;
+use status_page::GainDesk;
 use std::io;
 use std::io::Write;
 use studio_config::StudioSpec;
 
 /// Writes one line with the addresses of the paths, of the mix and of the page, if there is one. The line is left out
 /// if standard error would block. Errors of the write are ignored.
-pub(crate) fn write_address_line<W: Write>(
+pub(crate) fn write_address_line<D: GainDesk, W: Write>(
     studio: &StudioSpec,
     sockets: &Sockets<'_>,
-    page: &Option<PageThread>,
+    page: &Option<PageThread<D>>,
     writer: &mut W,
 ) {
     if is_ready(STDERR, libc::net::POLLOUT) {
@@ -21,10 +22,10 @@ pub(crate) fn write_address_line<W: Write>(
 }
 
 /// Writes the line. Returns the error of the first write that fails.
-fn write_line<W: Write>(
+fn write_line<D: GainDesk, W: Write>(
     studio: &StudioSpec,
     sockets: &Sockets<'_>,
-    page: &Option<PageThread>,
+    page: &Option<PageThread<D>>,
     writer: &mut W,
 ) -> io::Result<()> {
     write!(writer, "live")?;
@@ -69,7 +70,7 @@ fn write_paths<W: Write>(
 }
 
 /// Writes the address of the page.
-fn write_page<W: Write>(page: &PageThread, writer: &mut W) -> io::Result<()> {
+fn write_page<D: GainDesk, W: Write>(page: &PageThread<D>, writer: &mut W) -> io::Result<()> {
     let address = page.address()?;
     write!(writer, " page=http://{address}/")
 }

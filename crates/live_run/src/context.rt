@@ -2,13 +2,13 @@
 
 use crate::shown_health::ShownHealth;
 use crate::supervisor::stop_flags::StopFlags;
-use live_audio::AudioTap;
+use live_audio::AudioTaps;
 use live_io::{RunHealth, RunPeriod};
-use live_status::StatusOutputs;
+use live_status::{RunGains, StatusOutputs};
 
 /// The context of a run, in addition to its studio and its sockets.
 #[derive(Drop)]
-pub(crate) struct RunContext<'a, E> {
+pub(crate) struct RunContext<'a, R, E> {
     /// The start of the run, and its end by the clock.
     pub(crate) period: RunPeriod,
     /// True if the run ends at the end of standard input.
@@ -19,8 +19,10 @@ pub(crate) struct RunContext<'a, E> {
     pub(crate) flags: &'a StopFlags,
     /// The health of the run's sockets.
     pub(crate) health: &'a RunHealth,
-    /// The tap of the mix, if the run has a WAV file.
-    pub(crate) tap: Option<AudioTap<'a>>,
+    /// The taps of the mix: of the WAV file and of the raw PCM, each if the run has one.
+    pub(crate) taps: AudioTaps<'a>,
     /// The health of the run as its status shows it.
     pub(crate) shown: ShownHealth<'a>,
+    /// The source of changes of gains. `None` if the gains change only as the studio says.
+    pub(crate) gains: Option<RunGains<'a, R>>,
 }

@@ -12,7 +12,7 @@ use studio_ends::OpenFault;
 use studio_io::WorkFault;
 use studio_run::WriteFault;
 use thiserror::Error;
-use wav_file::LiveWavFault;
+use wav_file::{LiveWavFault, PcmFault};
 
 /// The error of a live run: it has no report, or the report is not settled or was not written completely.
 #[derive(Clone, Copy, Debug, PartialEq, Eq, Error)]
@@ -26,7 +26,8 @@ pub enum LiveFault {
     /// The port of the page could not be bound.
     #[error("device: socket page")]
     Page,
-    /// A thread could not be started: a worker, the supervisor, the page's, the record's or the WAV file's.
+    /// A thread could not be started: a worker, the supervisor, the page's, the record's, the WAV file's or the raw
+    /// PCM's.
     #[error("device: thread")]
     Thread,
     /// There is a file at the record's path, or something else. It was not touched.
@@ -41,6 +42,12 @@ pub enum LiveFault {
     /// The WAV file could not be created.
     #[error("device: wav")]
     Wav,
+    /// There is something at the path of the raw PCM that is no FIFO. It was not touched.
+    #[error("device: pcm exists")]
+    PcmExists,
+    /// The FIFO of the raw PCM could not be opened, or its file could not be created.
+    #[error("device: pcm")]
+    Pcm,
     /// The report was written, but it is not settled: something was left over.
     #[error("live: not settled")]
     Unsettled,
@@ -105,6 +112,17 @@ impl From<LiveWavFault> for LiveFault {
         match fault {
             LiveWavFault::Exists => LiveFault::WavExists,
             LiveWavFault::NotCreated => LiveFault::Wav,
+        }
+    }
+}
+
+impl From<PcmFault> for LiveFault {
+    ghost from_gives = { λ _ to. IsEarly to };
+
+    fn from(fault: PcmFault) -> LiveFault {
+        match fault {
+            PcmFault::Exists => LiveFault::PcmExists,
+            PcmFault::NotCreated => LiveFault::Pcm,
         }
     }
 }

@@ -1,10 +1,11 @@
 //! The launch of a live run, by workers or in one thread, with its page in another thread.
-ghost use Rattle.std.specs.Prelude.{IfOk, IfErr};
+ghost use Rattle.std.specs.Prelude.{is_some, IfOk, IfErr};
 ghost use Rattle.std.specs.Thread.{IsSync};
 ghost use Rattle.live_run.specs.RunResult.{IsEarly, IsRunOf};
 
 use crate::context::RunContext;
 use crate::fault::LiveFault;
+use crate::gain_control::{GainControl, open_control};
 use crate::inputs::LiveInputs;
 use crate::scoped_thread::with_scoped_thread;
 use crate::shown_health::ShownHealth;
@@ -12,10 +13,14 @@ use crate::single_thread::{OpenRecord, RecordOutput, run_in_one_thread};
 use crate::status::{OpenStatus, open_status};
 use crate::supervisor::stop_flags::StopFlags;
 use crate::workers::run_in_workers;
-use live_audio::{AudioChannel, AudioResult, AudioTap, AudioWriter, write_audio};
+use live_audio::{
+    AudioChannel, AudioResult, AudioTap, AudioTaps, AudioWriter, PcmChannel, PcmResult, PcmTap,
+    PcmWriter, write_audio, write_pcm,
+};
 use live_io::{LiveOptions, RecordChannel, RecordResult, RunPeriod, Sockets, open_sockets};
-use live_status::{Meter, PageThread, StatusInputs};
+use live_status::{GainLink, Meter, PageDesk, PageThread, StatusInputs};
 use pcap_file::{CreateRecord, RecordFile};
+use status_page::Token;
 use std::alloc::Global;
 use std::io::Write;
 use std::net::Net;
@@ -25,14 +30,14 @@ use std::thread::Threads;
 use std::time::Clock;
 use studio_config::StudioSpec;
 use studio_io::WorkReport;
-use wav_file::{CreateLiveWav, LiveWavFile};
+use wav_file::{CreateLiveWav, CreatePcm, LiveWavFile, PcmOutput};
 
 /// The parts of a run that is ready to start, in addition to its studio.
 #[derive(Drop)]
-struct PreparedRun<'a, E, D> {
+struct PreparedRun<'a, R: Wait + Clock, E, D> {
     one_thread: bool,
     sockets: Sockets<'a>,
-    context: RunContext<'a, E>,
+    context: RunContext<'a, R, E>,
     recording: RecordOutput<'a, D>,
 }
 
@@ -43,18 +48,26 @@ struct OpenAudio<'a, A> {
     file: A,
 }
 
+/// An output of raw PCM that was opened: the end of the audio that writes it, and the output.
+#[derive(Drop)]
+struct OpenPcm<'a, D> {
+    writer: PcmWriter<'a>,
+    output: D,
+}
+
 /// The state that the threads of a run share.
 #[derive(Drop)]
 struct SharedState {
     flags: StopFlags,
     meter: Meter,
+    link: GainLink,
 }
 
 /// Opens all that a run needs before its first thread starts, and runs it.
 pub(crate) fn launch_run<
     R: Threads + Wait + Sync + Net + Clock + RandomSource,
     E: Write + Send + Drop,
-    P: CreateRecord + CreateLiveWav,
+    P: CreateRecord + CreateLiveWav + CreatePcm,
 >(
     rt: &R,
     alloc: Global,
@@ -64,17 +77,20 @@ pub(crate) fn launch_run<
     faults: E,
     record: Option<&P>,
     wav: Option<&P>,
+    pcm: Option<&P>,
+    control: Option<Token>,
 ) -> Result<WorkReport, LiveFault>
-    ensures run { IfOk result (IsRunOf options.now.one_thread studio.now) }
+    ensures run { IfOk result (IsRunOf options.now.one_thread (is_some control) studio.now) }
     ensures early { IfErr result IsEarly }
 {
     // Made here and not in `bind_and_run`, whose parts and threads borrow it.
     let state = SharedState {
         flags: StopFlags::new(),
         meter: Meter::new(studio.output().enc(), studio.output().channels()),
+        link: GainLink::new(),
     };
     bind_and_run(
-        rt, alloc, studio, inputs, options, &state, faults, record, wav,
+        rt, alloc, studio, inputs, options, &state, faults, record, wav, pcm, control,
     )
 }
 
@@ -83,7 +99,7 @@ fn bind_and_run<
     'a,
     R: Threads + Wait + Sync + Net + Clock + RandomSource,
     E: Write + Send + Drop,
-    P: CreateRecord + CreateLiveWav,
+    P: CreateRecord + CreateLiveWav + CreatePcm,
 >(
     rt: &'a R,
     alloc: Global,
@@ -94,8 +110,10 @@ fn bind_and_run<
     faults: E,
     record: Option<&P>,
     wav: Option<&P>,
+    pcm: Option<&P>,
+    control: Option<Token>,
 ) -> Result<WorkReport, LiveFault>
-    ensures run { IfOk result (IsRunOf options.now.one_thread studio.now) }
+    ensures run { IfOk result (IsRunOf options.now.one_thread (is_some control) studio.now) }
     ensures early { IfErr result IsEarly }
 {
     let sockets = open_sockets(rt, alloc, studio, inputs.sockets)?;
@@ -103,11 +121,13 @@ fn bind_and_run<
         names: inputs.names,
         meter: &state.meter,
     };
-    let status = open_status(rt, alloc, studio, &sockets, options, shown, faults)?;
+    let GainControl { gains, control } = open_control(rt, alloc, studio, &state.link, control)?;
+    let status = open_status(rt, alloc, studio, &sockets, options, shown, control, faults)?;
     let OpenStatus { serving, showing } = status;
     // Last, so that a start that fails, as one whose sockets are taken, leaves no file behind and touches none.
     let recording = recording_of(alloc, studio, inputs.recorded, record)?;
-    let (tap, audio) = audio_of(alloc, studio, inputs.audio, wav)?;
+    let (wav_tap, audio) = audio_of(alloc, studio, inputs.audio, wav)?;
+    let (pcm_tap, piped) = pcm_of(alloc, studio, inputs.pcm, pcm)?;
     let parts = PreparedRun {
         one_thread: options.one_thread,
         sockets,
@@ -117,21 +137,26 @@ fn bind_and_run<
             status: showing,
             flags: &state.flags,
             health: inputs.sockets.health,
-            tap,
+            taps: AudioTaps {
+                wav: wav_tap,
+                pcm: pcm_tap,
+            },
             shown: ShownHealth {
                 studio,
                 health: inputs.sockets.health,
                 unexpected: inputs.sockets.unexpected,
                 recorded: inputs.recorded,
             },
+            gains,
         },
         recording,
     };
-    let report = match audio {
-        Some(audio) => run_with_audio(rt, alloc, studio, parts, serving, audio)?,
-        None => run_with_status(rt, alloc, studio, parts, serving)?,
+    let report = match piped {
+        Some(piped) => run_with_pcm(rt, alloc, studio, parts, serving, audio, piped)?,
+        None => run_with_files(rt, alloc, studio, parts, serving, audio)?,
     };
     inputs.audio.set_sent(report.blocks);
+    inputs.pcm.set_sent(report.blocks);
     Ok(report)
 }
 
@@ -154,6 +179,90 @@ fn audio_of<'a, P: CreateLiveWav>(
     Ok((Some(tap), Some(OpenAudio { writer, file })))
 }
 
+/// Opens the output of a run's raw PCM, if one is wanted, and returns the end for the run's thread and the end that
+/// writes with the output. Takes its memory before it opens the output.
+fn pcm_of<'a, P: CreatePcm>(
+    alloc: Global,
+    studio: &StudioSpec,
+    pcm: &'a PcmResult,
+    wanted: Option<&P>,
+) -> Result<(Option<PcmTap<'a>>, Option<OpenPcm<'a, P::Pcm>>), LiveFault>
+    ensures early { IfErr result IsEarly }
+{
+    let Some(wanted) = wanted else {
+        return Ok((None, None));
+    };
+    let PcmChannel { tap, writer } = PcmChannel::new(alloc, studio, pcm)?;
+    let output = wanted.create_pcm()?;
+    let (mut writer, mut output) = (writer, output);
+    pcm.begin();
+    // Before the run begins, so that an output that needs no reader, or has one, has the mix from its first block on.
+    let _ = writer.open(&mut output);
+    Ok((Some(tap), Some(OpenPcm { writer, output })))
+}
+
+/// Runs a studio, with the writer of its raw PCM in another thread, which ends with the run.
+fn run_with_pcm<
+    'a,
+    R: Threads + Wait + Sync + Clock,
+    E: Write + Send + Drop,
+    D: RecordFile + Send + Drop,
+    A: LiveWavFile + Send + Drop,
+    B: PcmOutput + Send + Drop,
+>(
+    rt: &'a R,
+    alloc: Global,
+    studio: &'a StudioSpec,
+    parts: PreparedRun<'a, R, E, D>,
+    page: Option<PageThread<PageDesk<'a, R>>>,
+    audio: Option<OpenAudio<'a, A>>,
+    piped: OpenPcm<'a, B>,
+) -> Result<WorkReport, LiveFault>
+    ensures run { IfOk result (IsRunOf parts.entry.one_thread (is_some parts.entry.context.gains) studio.now) }
+    ensures early { IfErr result IsEarly }
+{
+    // The writer ends once the tap, which the run's sink holds, was dropped with it. It sets the result itself.
+    let (_written, ran) = with_scoped_thread(
+        rt,
+        move || {
+            let OpenPcm { writer, output } = piped;
+            let (mut writer, mut output) = (writer, output);
+            write_pcm(rt, &mut writer, &mut output)
+        },
+        move || -> Result<WorkReport, LiveFault>
+            requires sync { IsSync R.row }
+            ensures run { IfOk result
+                (IsRunOf parts.entry.one_thread (is_some parts.entry.context.gains) studio.entry.now) }
+            ensures early { IfErr result IsEarly }
+        { run_with_files(rt, alloc, studio, parts, page, audio) },
+    )?;
+    ran
+}
+
+/// Runs a studio, with the writer of its WAV file in another thread if there is a file.
+fn run_with_files<
+    'a,
+    R: Threads + Wait + Sync + Clock,
+    E: Write + Send + Drop,
+    D: RecordFile + Send + Drop,
+    A: LiveWavFile + Send + Drop,
+>(
+    rt: &'a R,
+    alloc: Global,
+    studio: &'a StudioSpec,
+    parts: PreparedRun<'a, R, E, D>,
+    page: Option<PageThread<PageDesk<'a, R>>>,
+    audio: Option<OpenAudio<'a, A>>,
+) -> Result<WorkReport, LiveFault>
+    ensures run { IfOk result (IsRunOf parts.entry.one_thread (is_some parts.entry.context.gains) studio.now) }
+    ensures early { IfErr result IsEarly }
+{
+    match audio {
+        Some(audio) => run_with_audio(rt, alloc, studio, parts, page, audio),
+        None => run_with_status(rt, alloc, studio, parts, page),
+    }
+}
+
 /// Runs a studio, with the writer of its audio in another thread, which ends with the run.
 fn run_with_audio<
     'a,
@@ -165,11 +274,11 @@ fn run_with_audio<
     rt: &'a R,
     alloc: Global,
     studio: &'a StudioSpec,
-    parts: PreparedRun<'a, E, D>,
-    page: Option<PageThread>,
+    parts: PreparedRun<'a, R, E, D>,
+    page: Option<PageThread<PageDesk<'a, R>>>,
     audio: OpenAudio<'a, A>,
 ) -> Result<WorkReport, LiveFault>
-    ensures run { IfOk result (IsRunOf parts.entry.one_thread studio.now) }
+    ensures run { IfOk result (IsRunOf parts.entry.one_thread (is_some parts.entry.context.gains) studio.now) }
     ensures early { IfErr result IsEarly }
 {
     // The writer ends once the tap, which the run's sink holds, was dropped with it. It sets the result itself.
@@ -182,7 +291,8 @@ fn run_with_audio<
         },
         move || -> Result<WorkReport, LiveFault>
             requires sync { IsSync R.row }
-            ensures run { IfOk result (IsRunOf parts.entry.one_thread studio.entry.now) }
+            ensures run { IfOk result
+                (IsRunOf parts.entry.one_thread (is_some parts.entry.context.gains) studio.entry.now) }
             ensures early { IfErr result IsEarly }
         { run_with_status(rt, alloc, studio, parts, page) },
     )?;
@@ -199,10 +309,10 @@ fn run_with_status<
     rt: &'a R,
     alloc: Global,
     studio: &'a StudioSpec,
-    parts: PreparedRun<'a, E, D>,
-    page: Option<PageThread>,
+    parts: PreparedRun<'a, R, E, D>,
+    page: Option<PageThread<PageDesk<'a, R>>>,
 ) -> Result<WorkReport, LiveFault>
-    ensures run { IfOk result (IsRunOf parts.entry.one_thread studio.now) }
+    ensures run { IfOk result (IsRunOf parts.entry.one_thread (is_some parts.entry.context.gains) studio.now) }
     ensures early { IfErr result IsEarly }
 {
     match page {
@@ -246,10 +356,10 @@ fn run_with_page<
     rt: &'a R,
     alloc: Global,
     studio: &'a StudioSpec,
-    parts: PreparedRun<'a, E, D>,
-    page: PageThread,
+    parts: PreparedRun<'a, R, E, D>,
+    page: PageThread<PageDesk<'a, R>>,
 ) -> Result<WorkReport, LiveFault>
-    ensures run { IfOk result (IsRunOf parts.entry.one_thread studio.now) }
+    ensures run { IfOk result (IsRunOf parts.entry.one_thread (is_some parts.entry.context.gains) studio.now) }
     ensures early { IfErr result IsEarly }
 {
     // The server ends once the run's end of the snapshots' ring was dropped, as it is at the end of `run_prepared`.
@@ -258,7 +368,8 @@ fn run_with_page<
         move || page.serve(rt),
         move || -> Result<WorkReport, LiveFault>
             requires sync { IsSync R.row }
-            ensures run { IfOk result (IsRunOf parts.entry.one_thread studio.entry.now) }
+            ensures run { IfOk result
+                (IsRunOf parts.entry.one_thread (is_some parts.entry.context.gains) studio.entry.now) }
             ensures early { IfErr result IsEarly }
         { run_prepared(rt, alloc, studio, parts) },
     )?;
@@ -275,9 +386,9 @@ fn run_prepared<
     rt: &'a R,
     alloc: Global,
     studio: &'a StudioSpec,
-    parts: PreparedRun<'a, E, D>,
+    parts: PreparedRun<'a, R, E, D>,
 ) -> Result<WorkReport, LiveFault>
-    ensures run { IfOk result (IsRunOf parts.entry.one_thread studio.now) }
+    ensures run { IfOk result (IsRunOf parts.entry.one_thread (is_some parts.entry.context.gains) studio.now) }
     ensures early { IfErr result IsEarly }
 {
     let PreparedRun {

@@ -7,10 +7,10 @@
 //! The modules, in the order of a run:
 //!
 //! - `launch` opens sockets and status, creates the files, and calls one of the two forms with a
-//!   `RunContext`. If a WAV file is asked for, another thread writes it.
+//!   `RunContext`. If a WAV file or raw PCM is asked for, a thread of its own writes it.
 //! - `status` opens the page and the other outputs of the status, and writes the line of addresses
 //!   and, at a terminal, how to end the run with its report. `shown_health` reads what the status
-//!   shows of sockets, sends and the record.
+//!   shows of sockets, sends and the record. `gain_control` opens the control of gains that a page has.
 //! - `workers` is the form with a thread for each path and stream and one for the mix,
 //!   `run_in_workers`.
 //! - `single_thread` is the form with an engine in one thread, `run_in_one_thread`. It waits by
@@ -28,6 +28,7 @@ mod address_line;
 mod context;
 mod end_hint;
 mod fault;
+mod gain_control;
 mod inputs;
 mod launch;
 mod path_watch;
@@ -44,4 +45,4 @@ pub use fault::LiveFault;
 pub use inputs::LiveInputs;
 pub use live_io::LiveOptions;
 pub use run::run_studio_live;
-pub use status_page::StreamName;
+pub use status_page::{StreamName, Token};

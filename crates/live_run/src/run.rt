@@ -1,5 +1,5 @@
 //! A live run, and its report.
-ghost use Rattle.std.specs.Prelude.{true, IfErr, OnOk};
+ghost use Rattle.std.specs.Prelude.{is_some, true, IfErr, OnOk};
 ghost use Rattle.live_run.specs.RunText.{FailsRun, WritesRun};
 
 use crate::fault::LiveFault;
@@ -8,6 +8,7 @@ use crate::launch::launch_run;
 use crate::report::write_report;
 use live_io::LiveOptions;
 use pcap_file::CreateRecord;
+use status_page::Token;
 use std::alloc::Global;
 use std::io::Write;
 use std::net::Net;
@@ -17,7 +18,7 @@ use std::thread::Threads;
 use std::time::Clock;
 use studio_config::StudioSpec;
 use studio_run::TextBuffer;
-use wav_file::CreateLiveWav;
+use wav_file::{CreateLiveWav, CreatePcm};
 
 /// Runs a studio on real sockets until its feeds have ended, and then writes the report to `output`.
 ///
@@ -35,13 +36,17 @@ use wav_file::CreateLiveWav;
 /// creates, if there is one, and sets its result. The files are created once all sockets are bound. If a file is too
 /// slow or a write to it fails, it ends with a whole block, and the run goes on.
 ///
+/// A run in either form also writes the samples of the mix as raw PCM to the output that `pcm` opens, if there is one,
+/// and sets its result. If its reader is slow, whole blocks are left out. If it goes away, the output ends, and the run
+/// goes on. With a token, `control`, requests to the page that have it change the gains while the run goes on.
+///
 /// Returns `LiveFault::Unsettled` if the run was not settled; its report is written all the same. Every other error but
 /// `LiveFault::Write` comes before anything is written to `output`.
 pub fn run_studio_live<
     R: Threads + Wait + Sync + Net + Clock + RandomSource,
     W: Write,
     E: Write + Send + Drop,
-    P: CreateRecord + CreateLiveWav,
+    P: CreateRecord + CreateLiveWav + CreatePcm,
 >(
     rt: &R,
     alloc: Global,
@@ -52,15 +57,19 @@ pub fn run_studio_live<
     faults: E,
     record: Option<&P>,
     wav: Option<&P>,
+    pcm: Option<&P>,
+    control: Option<Token>,
 ) -> Result<(), LiveFault>
-    ensures ok { OnOk result
-        (WritesRun options.now.one_thread studio.now true (W.contents output.old) (W.contents output.new)) }
-    ensures fault { IfErr result
-        (FailsRun options.now.one_thread studio.now (W.contents output.old) (W.contents output.new)) }
+    ensures ok { OnOk result (WritesRun options.now.one_thread (is_some control) studio.now true
+        (W.contents output.old) (W.contents output.new)) }
+    ensures fault { IfErr result (FailsRun options.now.one_thread (is_some control) studio.now
+        (W.contents output.old) (W.contents output.new)) }
 {
     // Allocated before the run, so that no run is left without memory for its report.
     let mut text = TextBuffer::new(alloc)?;
-    let report = launch_run(rt, alloc, studio, inputs, options, faults, record, wav)?;
+    let report = launch_run(
+        rt, alloc, studio, inputs, options, faults, record, wav, pcm, control,
+    )?;
     write_report(&mut text, output, &report)?;
     text.finish(output)?;
     if !report.settled {

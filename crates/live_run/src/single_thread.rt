@@ -1,6 +1,6 @@
 //! A live run in one thread, with a supervisor in another. `engine_io` has the engine's feeds, clock and sink,
 //! `socket_wait` its wait for the sockets, and `observer` its record and status.
-ghost use Rattle.std.specs.Prelude.{true, IfOk, IfErr};
+ghost use Rattle.std.specs.Prelude.{is_some, true, IfOk, IfErr};
 ghost use Rattle.std.specs.Thread.{IsSync};
 ghost use Rattle.live_run.specs.RunResult.{IsEarly, IsRunOf};
 
@@ -58,10 +58,10 @@ pub(crate) fn run_in_one_thread<
     alloc: Global,
     studio: &'a StudioSpec,
     sockets: Sockets<'a>,
-    context: RunContext<'a, E>,
+    context: RunContext<'a, R, E>,
     recording: RecordOutput<'a, D>,
 ) -> Result<WorkReport, LiveFault>
-    ensures run { IfOk result (IsRunOf true studio.now) }
+    ensures run { IfOk result (IsRunOf true (is_some context.entry.gains) studio.now) }
     ensures early { IfErr result IsEarly }
 {
     let mut sockets = sockets;
@@ -71,8 +71,9 @@ pub(crate) fn run_in_one_thread<
         status,
         flags,
         health,
-        tap,
+        taps,
         shown,
+        gains,
     } = context;
     let RecordOutput { record, recorded } = recording;
     // Only a record needs the sources, and keeping them makes each receive slower.
@@ -89,7 +90,9 @@ pub(crate) fn run_in_one_thread<
     let watch = PathWatch::new(studio, health, status.publisher.is_some());
     let (record, writer) = ends_of(record);
     let observer = LiveObserver::new(alloc, studio, record, status, shown)?;
-    let io = prepare_engine_io(rt, alloc, studio, sockets, tap, period, feed_flags, meter)?;
+    let io = prepare_engine_io(
+        rt, alloc, studio, sockets, taps, period, feed_flags, meter, gains,
+    )?;
     let run = SupervisedRun {
         io,
         observer,
@@ -138,7 +141,7 @@ struct SupervisedRun<'a, R: Wait + Clock, E> {
 impl<R: Threads + Wait + Sync + Clock, E: Write + Send + Drop> SupervisedRun<'_, R, E> {
     /// Runs an engine in this thread, and the supervisor in another.
     fn run(self, rt: &R, alloc: Global, studio: &StudioSpec) -> Result<WorkReport, LiveFault>
-        ensures run { IfOk result (IsRunOf true studio.now) }
+        ensures run { IfOk result (IsRunOf true (is_some self.entry.io.gains) studio.now) }
         ensures early { IfErr result IsEarly }
     {
         let SupervisedRun {
@@ -159,7 +162,7 @@ impl<R: Threads + Wait + Sync + Clock, E: Write + Send + Drop> SupervisedRun<'_,
             supervisor,
             flags,
             move || -> Result<WorkReport, LiveFault>
-                ensures run { IfOk result (IsRunOf true studio.entry.now) }
+                ensures run { IfOk result (IsRunOf true (is_some io.entry.gains) studio.entry.now) }
                 ensures early { IfErr result IsEarly }
             { io.run(rt, alloc, studio, observer, recorded) },
         )?
@@ -180,7 +183,7 @@ fn run_recorded<
     writer: RecordWriter<'a>,
     file: D,
 ) -> Result<WorkReport, LiveFault>
-    ensures run { IfOk result (IsRunOf true studio.now) }
+    ensures run { IfOk result (IsRunOf true (is_some run.entry.io.gains) studio.now) }
     ensures early { IfErr result IsEarly }
 {
     // The writer ends once the observer's end of the ring was dropped, as it is at the end of the run.
@@ -193,7 +196,7 @@ fn run_recorded<
         },
         move || -> Result<WorkReport, LiveFault>
             requires sync { IsSync R.row }
-            ensures run { IfOk result (IsRunOf true studio.entry.now) }
+            ensures run { IfOk result (IsRunOf true (is_some run.entry.io.gains) studio.entry.now) }
             ensures early { IfErr result IsEarly }
         { run.run(rt, alloc, studio) },
     )?;

@@ -1,7 +1,7 @@
 //! A live run by workers, with a supervisor in another thread. `rings` opens the rings between the workers, and
 //! `worker_run` has their feeds, clocks and sink. `status_task` publishes the run's status from the statistics in
 //! `latest_stats`, which `stream_status` fills into a snapshot.
-ghost use Rattle.std.specs.Prelude.{◌≡◌, false, length, IfOk, IfErr};
+ghost use Rattle.std.specs.Prelude.{◌≡◌, false, is_some, length, IfOk, IfErr};
 ghost use Rattle.std.specs.Thread.{IsSync};
 ghost use Rattle.studio_rings.specs.StreamResults.{AreOpenedTogether};
 ghost use Rattle.live_run.specs.RunResult.{IsEarly, IsRunOf};
@@ -39,9 +39,9 @@ pub(crate) fn run_in_workers<'a, R: Threads + Wait + Sync + Clock, E: Write + Se
     alloc: Global,
     studio: &'a StudioSpec,
     sockets: Sockets<'a>,
-    context: RunContext<'a, E>,
+    context: RunContext<'a, R, E>,
 ) -> Result<WorkReport, LiveFault>
-    ensures run { IfOk result (IsRunOf false studio.now) }
+    ensures run { IfOk result (IsRunOf false (is_some context.entry.gains) studio.now) }
     ensures early { IfErr result IsEarly }
 {
     let RunContext {
@@ -50,8 +50,9 @@ pub(crate) fn run_in_workers<'a, R: Threads + Wait + Sync + Clock, E: Write + Se
         status,
         flags,
         health,
-        tap,
+        taps,
         shown,
+        gains,
     } = context;
     // Without a status there are no rings for statistics, and the workers send none.
     let is_shown = status.publisher.is_some();
@@ -63,7 +64,7 @@ pub(crate) fn run_in_workers<'a, R: Threads + Wait + Sync + Clock, E: Write + Se
         ready: &[],
         health: health.paths(),
     };
-    let workers = prepare_workers(rt, alloc, ends, sockets, tap, period, feed_flags)?;
+    let workers = prepare_workers(rt, alloc, ends, sockets, taps, period, feed_flags, gains)?;
     let task = worker_status_task(rt, alloc, receivers, period, status.publisher, shown)?;
     let watch = PathWatch::new(studio, health, is_shown);
     let supervisor = Supervisor {
@@ -79,7 +80,7 @@ pub(crate) fn run_in_workers<'a, R: Threads + Wait + Sync + Clock, E: Write + Se
             requires opened { AreOpenedTogether studio.now 256 workers.ends }
             requires feeds { length workers.feeds.items ≡ length workers.ends.paths.items }
             requires clocks { length workers.clocks.items ≡ length workers.ends.streams.items }
-            ensures run { IfOk result (IsRunOf false studio.entry.now) }
+            ensures run { IfOk result (IsRunOf false (is_some workers.entry.gains) studio.entry.now) }
             ensures early { IfErr result IsEarly }
         { workers.run(rt, alloc, studio) },
     )?

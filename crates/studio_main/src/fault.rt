@@ -1,13 +1,24 @@
 //! The faults of the program, with their lines on standard error and their exit statuses.
-use file_commands::CommandFault;
+use file_commands::{CommandFault, ConfigFault};
 use live_io::{InheritedSocketFault, UnopenedSocket};
 use live_run::LiveFault;
 use pcap_file::RecordEnd;
 use std::alloc::{AllocError, AllocFailed};
 use std::io::Write;
-use studio_config::SpecError;
+use studio_config::{SpecError, SpecErrorKind};
 use thiserror::Error;
-use wav_file::WavEnd;
+use wav_file::{PcmEnd, WavEnd};
+
+/// The hint at a fault of a configuration.
+const CONFIG_HINT: &str = "`darbexum check CONFIG` says where this is and what is allowed.";
+
+/// The hint at a socket that cannot be opened.
+const SOCKET_HINT: &str =
+    "With --verbose the next line says which socket this is, and the system's error.";
+
+/// The hint at a file that has no token for the control of gains.
+const CONTROL_HINT: &str =
+    "The file has to be a regular one of 16 to 256 visible ASCII characters, which only its owner may read or write.";
 
 /// The fault that ended the program. Its `Display` is the fault's line.
 #[derive(Debug, Drop, Error)]
@@ -36,12 +47,18 @@ pub(crate) enum ProgramFault {
     /// A live run's report was written, but its record ended before the run, for this reason.
     #[error("device: record {0}")]
     RecordEnded(RecordEnd),
-    /// `--record` and `--wav` are one file.
-    #[error("usage: --record and --wav are one file")]
-    SameFile,
+    /// The file of `--control` cannot be read, others than its owner may read or write it, or it has no token.
+    #[error("device: control")]
+    Control,
+    /// Two of the files of a live run, named by their options, are one file.
+    #[error("usage: {0} are one file")]
+    SameFile(&'static str),
     /// A live run's report was written, but its WAV file ended before the run, for this reason.
     #[error("device: wav {0}")]
     WavEnded(WavEnd),
+    /// A live run's report was written, but its raw PCM ended before the run, for this reason.
+    #[error("device: pcm {0}")]
+    PcmEnded(PcmEnd),
     /// A live run's report was written, but a path ended before the run did, since its socket failed again and again.
     #[error("live: path ended")]
     PathEnded,
@@ -52,13 +69,25 @@ impl ProgramFault {
     /// device failed, and else the status of the command.
     pub(crate) fn status(&self) -> u8 {
         match self {
-            ProgramFault::Usage | ProgramFault::TaiOffset | ProgramFault::SameFile => 2,
+            ProgramFault::Usage | ProgramFault::TaiOffset | ProgramFault::SameFile(_) => 2,
             ProgramFault::Command(fault) => fault.status(),
             ProgramFault::Live(LiveFault::Memory) => 4,
             ProgramFault::Inherited(InheritedSocketFault::Memory) => 4,
             ProgramFault::Live(_) | ProgramFault::Inherited(_) | ProgramFault::Clock => 5,
-            ProgramFault::RecordEnded(_) | ProgramFault::WavEnded(_) => 5,
+            ProgramFault::Control => 5,
+            ProgramFault::RecordEnded(_) | ProgramFault::WavEnded(_) | ProgramFault::PcmEnded(_) =>
+                5,
             ProgramFault::Socket(_) | ProgramFault::PathEnded => 5,
+        }
+    }
+
+    /// Returns a line that says how to learn more of the fault, if a command or an option says more.
+    pub(crate) fn hint(&self) -> Option<&'static str> {
+        match self {
+            ProgramFault::Command(CommandFault::Config(fault)) => config_hint(*fault),
+            ProgramFault::Live(LiveFault::Socket) => Some(SOCKET_HINT),
+            ProgramFault::Control => Some(CONTROL_HINT),
+            _ => None,
         }
     }
 
@@ -66,6 +95,17 @@ impl ProgramFault {
     pub(crate) fn report<E: Write>(&self, faults: &mut E) -> u8 {
         let _ = writeln!(faults, "{self}");
         self.status()
+    }
+}
+
+/// Returns the hint at a fault of a configuration, if `check` says more than the fault's line.
+fn config_hint(fault: ConfigFault) -> Option<&'static str> {
+    match fault {
+        ConfigFault::NotToml => Some(CONFIG_HINT),
+        // The line of a missing key says all, and `check` asks for no ports.
+        ConfigFault::Studio(error) if error.kind == SpecErrorKind::Missing => None,
+        ConfigFault::Studio(_) => Some(CONFIG_HINT),
+        ConfigFault::Unread | ConfigFault::TooLong => None,
     }
 }
 

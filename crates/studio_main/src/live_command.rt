@@ -1,14 +1,15 @@
 //! The command `live`: a live run, from a configuration to its report and the lines after it.
 use crate::fault::ProgramFault;
 use crate::run_files::{RunFiles, files_of};
+use crate::token_file::{TokenFiles, token_of};
 use command_line::LiveArgs;
 use file_commands::{CommandFault, Host, output_result, parse_studio, table_in};
-use live_audio::AudioResult;
+use live_audio::{AudioResult, PcmResult};
 use live_io::{
     InheritedSockets, LivePorts, RecordResult, RunHealth, SocketConfig, TaiOffset, TaiTime,
     UnexpectedSources, tai_now, unopened_socket,
 };
-use live_run::{LiveFault, LiveInputs, StreamName, run_studio_live};
+use live_run::{LiveFault, LiveInputs, StreamName, Token, run_studio_live};
 use rtp_stream::Path;
 use std::alloc::{AllocError, Global};
 use std::io::Write;
@@ -20,9 +21,7 @@ use std::thread::Threads;
 use std::time::{Clock, Duration};
 use studio_config::StudioSpec;
 use toml::Value;
-
-/// The names of a stream's paths in a report.
-const PATH_NAMES: [&str; 4] = ["a", "b", "c", "d"];
+use wav_file::PcmEnd;
 
 /// A studio, and the reading of the system's monotonic clock at its opening time, if that clock could be read.
 #[derive(Drop)]
@@ -33,39 +32,64 @@ struct OpenedStudio {
 
 /// Runs the studio of a configuration's octets over sockets, and writes its report to `output`. If counts are asked for
 /// while it runs, they go to `faults`. Files are the host's. Returns the first fault: of the configuration, of the
-/// offset or the time of `--clock`, of a missing port or an inherited socket, of the run's files, or of the run.
+/// offset or the time of `--clock`, of the token's file, of a missing port or an inherited socket, of the run's files,
+/// or of the run.
 pub(crate) fn run_live<
     R: Threads + Wait + Sync + Net + Clock + RandomSource + Env + AllocGlobal,
-    H: Host,
+    H: Host + TokenFiles,
 >(
     rt: &R,
-    host: &H,
     alloc: Global,
     config: &[u8],
     args: LiveArgs<'_>,
     output: &mut H::Stdout,
     faults: &mut H::Stderr,
+    host: &H,
 ) -> Result<(), ProgramFault> {
     let opened = open_studio(rt, alloc, parse_studio(alloc, config)?, args.tai_offset)?;
+    let token = token_of(alloc, host, args.control)?;
     let loaded = load_inputs(rt, alloc, &opened.studio, config, args.listen_fds)?;
     // The run creates its files once its sockets are bound. A file that is there already is refused before that.
     let files = files_of(host, args)?;
-    run_loaded::<R, H>(rt, alloc, &opened, &loaded, files, args, output, faults)
+    // Two calls, since the report goes to standard error if the samples go to standard output.
+    if args.is_pcm_stdout() {
+        let mut report = host.stderr();
+        return run_loaded(
+            rt,
+            alloc,
+            &opened,
+            &loaded,
+            files,
+            token,
+            args,
+            &mut report,
+            faults,
+        );
+    }
+    run_loaded(
+        rt, alloc, &opened, &loaded, files, token, args, output, faults,
+    )
 }
 
 /// Runs a studio with its inputs, and with the files that are asked for. Writes the report and the lines after it.
-fn run_loaded<R: Threads + Wait + Sync + Net + Clock + RandomSource + Env + AllocGlobal, H: Host>(
+fn run_loaded<
+    R: Threads + Wait + Sync + Net + Clock + RandomSource + Env + AllocGlobal,
+    H: Host,
+    W: Write,
+>(
     rt: &R,
     alloc: Global,
     opened: &OpenedStudio,
     loaded: &LoadedInputs,
     files: RunFiles<'_, '_, H>,
+    token: Option<Token>,
     args: LiveArgs<'_>,
-    output: &mut H::Stdout,
+    output: &mut W,
     faults: &mut H::Stderr,
 ) -> Result<(), ProgramFault> {
     let recorded = RecordResult::new();
     let audio = AudioResult::new();
+    let pcm = PcmResult::new();
     let inputs = LiveInputs {
         sockets: SocketConfig {
             ports: &loaded.ports,
@@ -77,6 +101,7 @@ fn run_loaded<R: Threads + Wait + Sync + Net + Clock + RandomSource + Env + Allo
         names: loaded.names.as_slice(),
         recorded: &recorded,
         audio: &audio,
+        pcm: &pcm,
         began: opened.began,
     };
     let studio = &opened.studio;
@@ -90,6 +115,8 @@ fn run_loaded<R: Threads + Wait + Sync + Net + Clock + RandomSource + Env + Allo
         faults,
         files.record.as_ref(),
         files.wav.as_ref(),
+        files.pcm.as_ref(),
+        token,
     );
     if args.verbose && matches!(ran, Err(LiveFault::Socket)) {
         return Err(explained(alloc, studio, inputs.sockets)?);
@@ -174,6 +201,10 @@ fn finish<W: Write>(
     if let Some(end) = inputs.audio.end() {
         return Err(ProgramFault::WavEnded(end));
     }
+    // A reader that went away is no fault of the run: its line on standard error said so.
+    if let Some(PcmEnd::Write) = inputs.pcm.end() {
+        return Err(ProgramFault::PcmEnded(PcmEnd::Write));
+    }
     if inputs.sockets.health.has_ended_path() {
         return Err(ProgramFault::PathEnded);
     }
@@ -181,8 +212,8 @@ fn finish<W: Write>(
 }
 
 /// Writes the lines after the report: the opening time, if the run opened by International Atomic Time, the datagrams
-/// from unexpected sources, the datagrams of the record, if there is one, and the blocks of the WAV file, if there is
-/// one.
+/// from unexpected sources, the datagrams of the record, the blocks of the WAV file and those of the raw PCM, each if
+/// there is one.
 fn write_after_report<W: Write>(
     studio: &StudioSpec,
     inputs: LiveInputs<'_>,
@@ -199,6 +230,9 @@ fn write_after_report<W: Write>(
     }
     if args.wav.is_some() {
         write_wav_line(inputs.audio, output)?;
+    }
+    if args.pcm.is_some() {
+        write_pcm_line(inputs.pcm, output)?;
     }
     Ok(())
 }
@@ -217,6 +251,13 @@ fn write_record_line<W: Write>(
 fn write_wav_line<W: Write>(audio: &AudioResult, output: &mut W) -> Result<(), ProgramFault> {
     let (written, sent) = (audio.written(), audio.sent());
     output_result(writeln!(output, "wav {written} of {sent}"))?;
+    Ok(())
+}
+
+/// Writes the number of blocks that were written as raw PCM, and of those that were sent.
+fn write_pcm_line<W: Write>(pcm: &PcmResult, output: &mut W) -> Result<(), ProgramFault> {
+    let (written, sent) = (pcm.written(), pcm.sent());
+    output_result(writeln!(output, "pcm {written} of {sent}"))?;
     Ok(())
 }
 
@@ -283,21 +324,14 @@ fn write_unexpected_of<W: Write>(
     count: u64,
     output: &mut W,
 ) -> Result<(), ProgramFault> {
-    let Some(name) = PATH_NAMES.get(usize::from(path)) else {
+    let Some(path) = Path::new(path) else {
         return Ok(());
     };
-    if has_source(studio, stream, path) {
-        output_result(writeln!(output, "strangers {stream} {name} {count}"))?;
+    if studio.networks().source(stream, path).is_some() {
+        let letter = path.letter();
+        output_result(writeln!(output, "unexpected {stream} {letter} {count}"))?;
     }
     Ok(())
-}
-
-/// Returns true if the configuration has a source address for a path.
-fn has_source(studio: &StudioSpec, stream: usize, path: u8) -> bool {
-    match Path::new(path) {
-        Some(path) => studio.networks().source(stream, path).is_some(),
-        None => false,
-    }
 }
 
 // Names are for people: no event, datagram or count depends on them.

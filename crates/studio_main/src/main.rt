@@ -3,21 +3,26 @@
 //! `main` collects the words of the command line. `run` is the whole after that: it parses the words
 //! by `command_line`, runs the command, and returns the exit status. `file_commands` runs a command
 //! over files, and `live_command` the live command, whose files are those of `run_files`. A
-//! `ProgramFault` has the line and the exit status of every fault. `SystemHost` opens files by path.
+//! `ProgramFault` has the line and the exit status of every fault. `SystemHost` opens files by path,
+//! `pcm_output` the output of raw PCM, and `token_file` reads the token for the control of gains.
 //! `std_fds` opens the standard descriptors that are closed, before anything else. `terminal_help`
-//! has the help for a start without words.
+//! has the help for a start by hand: without words, and behind a fault.
 #![tactic(auto)]
 
 mod fault;
 mod live_command;
+mod pcm_output;
 mod program;
 mod run_files;
 mod std_fds;
 mod terminal_help;
+mod token_file;
 
 use crate::fault::ProgramFault;
+use crate::pcm_output::SystemPcm;
 use crate::program::run;
 use crate::std_fds::open_missing_fds;
+use crate::token_file::{TokenFiles, is_private};
 use file_commands::{CommandFault, Host};
 use pcap_file::{RecordEnd, RecordFault, RecordFile};
 use std::alloc::Global;
@@ -28,7 +33,7 @@ use std::process::ExitCode;
 use std::rt::Env;
 use std::{env, fs, io};
 use studio_run::{ReadFault, read_octets};
-use wav_file::{FileFault, LiveWavFault, LiveWavFile, SeekFile, WavEnd};
+use wav_file::{FileFault, LiveWavFault, LiveWavFile, PcmFault, SeekFile, WavEnd};
 
 /// The system as the host of the commands.
 #[derive(Clone, Copy)]
@@ -50,6 +55,8 @@ impl Host for SystemHost<'_> {
     type Record = SystemRecord;
 
     type Audio = SystemAudio;
+
+    type Pcm = SystemPcm;
 
     fn open(&self, path: &str) -> Result<fs::File, ReadFault> {
         match fs::open(self.rt, path) {
@@ -99,11 +106,40 @@ impl Host for SystemHost<'_> {
         }
     }
 
+    fn create_pcm(&self, path: Option<&str>) -> Result<SystemPcm, PcmFault> {
+        SystemPcm::open(self.rt, path)
+    }
+
+    fn is_fifo(&self, path: &str) -> bool {
+        pcm_output::is_fifo(self.rt, path)
+    }
+
+    fn stderr(&self) -> Stderr {
+        self.rt.stderr()
+    }
+
     fn is_same_file(&self, one: &str, other: &str) -> bool {
         match (fs::metadata(self.rt, one), fs::metadata(self.rt, other)) {
             (Ok(one), Ok(other)) => one.dev() == other.dev() && one.ino() == other.ino(),
             _ => false,
         }
+    }
+}
+
+impl TokenFiles for SystemHost<'_> {
+    fn read_private(&self, alloc: Global, path: &str) -> Result<Vec<u8>, ReadFault> {
+        // Before the file is opened, since opening a named pipe waits for its other end.
+        if !fs::metadata(self.rt, path).is_ok_and(|file| is_private(&file)) {
+            return Err(ReadFault::Device);
+        }
+        let Ok(mut file) = fs::open(self.rt, path) else {
+            return Err(ReadFault::Device);
+        };
+        // And of the file that was opened, since another one may be at the path by now.
+        if !file.metadata().is_ok_and(|file| is_private(&file)) {
+            return Err(ReadFault::Device);
+        }
+        read_octets(alloc, &mut file)
     }
 }
 

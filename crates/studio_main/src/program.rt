@@ -1,14 +1,14 @@
 //! The program: from the words of its command line to its exit status, with help, the version and usage faults.
 use crate::fault::ProgramFault;
 use crate::live_command::run_live;
-use crate::terminal_help::write_terminal_help;
+use crate::terminal_help::{write_hint, write_terminal_help};
+use crate::token_file::TokenFiles;
 use clap::Error;
 use clap::error::ErrorKind;
 use command_line::{CliCommand, FileCommand, parse_args};
 use file_commands::{
     CommandFault, Host, read_config, run_chart, run_check, run_config_help, run_import, run_marks,
-    run_marks_to_wav, run_marks_with_counts, run_play, run_play_to_wav, run_quick_start,
-    run_replay, run_streams,
+    run_marks_to_wav, run_marks_with_counts, run_play, run_quick_start, run_replay, run_streams,
 };
 use std::alloc::Global;
 use std::io::Write;
@@ -23,7 +23,7 @@ use std::time::Clock;
 /// `output`, and the line of a fault to `faults`. Files are the host's.
 pub(crate) fn run<
     R: Threads + Wait + Sync + Net + Clock + RandomSource + Env + AllocGlobal,
-    H: Host,
+    H: Host + TokenFiles,
 >(
     rt: &R,
     alloc: Global,
@@ -39,8 +39,15 @@ pub(crate) fn run<
     };
     match dispatch(rt, alloc, command, input, output, faults, host) {
         Ok(()) => 0,
-        Err(fault) => fault.report(faults),
+        Err(fault) => report_fault(&fault, faults),
     }
+}
+
+/// Writes the line of a fault and, at a terminal, how to learn more of it. Returns the exit status.
+fn report_fault<E: Write>(fault: &ProgramFault, faults: &mut E) -> u8 {
+    let status = fault.report(faults);
+    write_hint(fault.hint(), faults);
+    status
 }
 
 /// Writes help or the version to `output`, or a usage fault to `faults`, and returns the exit status.
@@ -60,7 +67,10 @@ fn report_usage<W: Write, E: Write>(error: &Error, output: &mut W, faults: &mut 
 }
 
 /// Runs the command that the words ask for.
-fn dispatch<R: Threads + Wait + Sync + Net + Clock + RandomSource + Env + AllocGlobal, H: Host>(
+fn dispatch<
+    R: Threads + Wait + Sync + Net + Clock + RandomSource + Env + AllocGlobal,
+    H: Host + TokenFiles,
+>(
     rt: &R,
     alloc: Global,
     command: CliCommand<'_>,
@@ -72,7 +82,7 @@ fn dispatch<R: Threads + Wait + Sync + Net + Clock + RandomSource + Env + AllocG
     match command {
         CliCommand::Live(path, args) => {
             let config = read_config(host, alloc, path)?;
-            run_live(rt, host, alloc, config.as_slice(), args, output, faults)
+            run_live(rt, alloc, config.as_slice(), args, output, faults, host)
         }
         CliCommand::File(command) => {
             Ok(run_file_command(host, alloc, command, input, output, faults)?)
@@ -101,9 +111,8 @@ fn run_file_command<H: Host>(
         FileCommand::MarksToWav(path, args) => {
             run_marks_to_wav(host, alloc, path, args, input, output, faults)
         }
-        FileCommand::Play(path) => run_play(host, alloc, path, input, output),
-        FileCommand::PlayToWav(path, file) => {
-            run_play_to_wav(host, alloc, path, file, input, output, faults)
+        FileCommand::Play(path, args) => {
+            run_play(host, alloc, path, args, input, output, faults)
         }
         FileCommand::Chart(path) => run_chart(host, alloc, path, input, output),
         FileCommand::Check(path) => run_check(host, alloc, path, output),

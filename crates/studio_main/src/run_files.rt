@@ -1,10 +1,10 @@
 //! The files of a live run: the paths at which it creates them, and the faults of these paths.
 use crate::fault::ProgramFault;
 use command_line::LiveArgs;
-use file_commands::Host;
+use file_commands::{Host, is_one_file};
 use live_run::LiveFault;
 use pcap_file::{CreateRecord, RecordFault};
-use wav_file::{CreateLiveWav, LiveWavFault};
+use wav_file::{CreateLiveWav, CreatePcm, LiveWavFault, PcmFault};
 
 /// A path of the host's files, at which a run creates a file.
 #[derive(Clone, Copy)]
@@ -18,6 +18,7 @@ pub(crate) struct RunPath<'h, 'p, H> {
 pub(crate) struct RunFiles<'h, 'p, H> {
     pub(crate) record: Option<RunPath<'h, 'p, H>>,
     pub(crate) wav: Option<RunPath<'h, 'p, H>>,
+    pub(crate) pcm: Option<RunPath<'h, 'p, H>>,
 }
 
 impl<H: Host> CreateRecord for RunPath<'_, '_, H> {
@@ -36,22 +37,61 @@ impl<H: Host> CreateLiveWav for RunPath<'_, '_, H> {
     }
 }
 
-/// Returns the paths of the files that are asked for. Returns a fault if something is at one of them, or both are one
-/// file.
+impl<H: Host> CreatePcm for RunPath<'_, '_, H> {
+    type Pcm = H::Pcm;
+
+    fn create_pcm(&self) -> Result<H::Pcm, PcmFault> {
+        self.host.create_pcm(file_of(self.path))
+    }
+}
+
+/// Returns the path of raw PCM, or `None` if it is `-`, which is standard output.
+fn file_of(path: &str) -> Option<&str> {
+    if path == "-" { None } else { Some(path) }
+}
+
+/// Returns the paths of the files that are asked for. Returns a fault if something is at one of them, other than a FIFO
+/// for raw PCM, or two of them are one file.
 pub(crate) fn files_of<'h, 'p, H: Host>(
     host: &'h H,
     args: LiveArgs<'p>,
 ) -> Result<RunFiles<'h, 'p, H>, ProgramFault> {
-    // Before anything is created: the second file would find the first, which would stay there and be empty.
-    if let (Some(record), Some(wav)) = (args.record, args.wav) {
-        if is_one_place(host, record, wav) {
-            return Err(ProgramFault::SameFile);
-        }
-    }
+    let pcm = args.pcm.and_then(file_of);
+    refuse_one_place(host, args.record, args.wav, "--record and --wav")?;
+    refuse_one_place(host, args.record, pcm, "--record and --pcm")?;
+    refuse_one_place(host, args.wav, pcm, "--wav and --pcm")?;
+    refuse_pcm(host, pcm)?;
     Ok(RunFiles {
         record: place_of(host, args.record, LiveFault::RecordExists)?,
         wav: place_of(host, args.wav, LiveFault::WavExists)?,
+        pcm: args.pcm.map(|path| RunPath { host, path }),
     })
+}
+
+/// Refuses two files that are one, which `words` names by their options.
+// Before anything is created: the second file would find the first, which would stay there and be empty.
+fn refuse_one_place<H: Host>(
+    host: &H,
+    one: Option<&str>,
+    other: Option<&str>,
+    words: &'static str,
+) -> Result<(), ProgramFault> {
+    match (one, other) {
+        (Some(one), Some(other)) if is_one_file(host, one, other) => {
+            Err(ProgramFault::SameFile(words))
+        }
+        _ => Ok(()),
+    }
+}
+
+/// Refuses a path of raw PCM at which something is that is no FIFO.
+fn refuse_pcm<H: Host>(host: &H, path: Option<&str>) -> Result<(), ProgramFault> {
+    match path {
+        Some(path) if host.has(path) && !host.is_fifo(path) => {
+            Err(ProgramFault::Live(LiveFault::PcmExists))
+        }
+        _ => Ok(()),
+    }
 }
 
 /// Returns the path of a file that is asked for. Returns this fault if something is there.
@@ -64,21 +104,5 @@ fn place_of<'h, 'p, H: Host>(
         Some(path) if host.has(path) => Err(ProgramFault::Live(exists)),
         Some(path) => Ok(Some(RunPath { host, path })),
         None => Ok(None),
-    }
-}
-
-/// Returns true if two paths, at which there may be nothing yet, name one file: in one folder and of one name.
-fn is_one_place<H: Host>(host: &H, one: &str, other: &str) -> bool {
-    let (folder, name) = parts_of(one);
-    let (other_folder, other_name) = parts_of(other);
-    name == other_name && (folder == other_folder || host.is_same_file(folder, other_folder))
-}
-
-/// Returns the folder of a path, and the name behind it.
-fn parts_of(path: &str) -> (&str, &str) {
-    match path.rsplit_once('/') {
-        Some(("", name)) => ("/", name),
-        Some((folder, name)) => (folder, name),
-        None => (".", path),
     }
 }

@@ -1,4 +1,4 @@
-//! The help for whoever starts the program by hand without words.
+//! The help for whoever starts the program by hand: without words, and behind a fault.
 use clap::Error;
 use command_line::parse_args;
 use std::alloc::{AllocError, Global};
@@ -6,6 +6,9 @@ use std::io::Write;
 
 /// The descriptor of standard input.
 const STDIN: i32 = 0;
+
+/// The descriptor of standard error.
+const STDERR: i32 = 2;
 
 /// The line behind the help.
 const READS: &str =
@@ -25,6 +28,17 @@ pub(crate) fn write_terminal_help<E: Write>(
         let _ = faults.write_all(READS.as_bytes());
     }
     Ok(())
+}
+
+/// Writes the hint at a fault to `faults`, if there is one and standard error is a terminal. Errors of the write are
+/// ignored.
+// A script reads the line of the fault alone.
+pub(crate) fn write_hint<E: Write>(hint: Option<&str>, faults: &mut E) {
+    if let Some(hint) = hint {
+        if libc::isatty(STDERR) == 1 {
+            let _ = writeln!(faults, "{hint}");
+        }
+    }
 }
 
 /// Returns the program's help, as the command line gives it for `--help`.

@@ -94,7 +94,7 @@ fn allowed_in_stream(key: Key) -> Option<&'static str> {
         Key::Channels => Some("1 to 64"),
         Key::Clock => Some("\"media\", \"arrival\" and \"follow\""),
         Key::Latency => Some(
-            "1 to 4294967295 sampling instants that, with two packets, are at most what the window spans",
+            "1 to (window - 2) * frames sample periods, so that the window holds the latency and two packets",
         ),
         Key::Window => Some("8, 16, 32 and so on, doubled up to 16384 packets"),
         Key::Paths => Some("1 to 4"),

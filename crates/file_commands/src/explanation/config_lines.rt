@@ -50,8 +50,8 @@ impl Section {
     }
 }
 
-/// Returns the number of the line, from 1, on which a key of the table at a place stands. If it stands on none, returns
-/// the line of the table's header.
+/// Returns the number of the line, from 1, on which a key of the table at a place is. If it is on none, returns the
+/// line of the table's header.
 pub(crate) fn key_line(text: &str, place: ConfigTable, key: &str) -> Option<usize> {
     let mut section = Section::top();
     let mut number = 0usize;
@@ -67,7 +67,7 @@ pub(crate) fn key_line(text: &str, place: ConfigTable, key: &str) -> Option<usiz
     table_line(text, place)
 }
 
-/// Returns the number of the line, from 1, on which the header of the table at a place stands.
+/// Returns the number of the line, from 1, on which the header of the table at a place is.
 pub(crate) fn table_line(text: &str, place: ConfigTable) -> Option<usize> {
     let mut section = Section::top();
     let mut number = 0usize;

@@ -1,5 +1,5 @@
 //! The observer of a run in one thread: its record and its status, if these are wanted.
-ghost use Rattle.std.specs.Prelude.{◌≡◌, [], ◌∷◌, None};
+ghost use Rattle.std.specs.Prelude.{◌≡◌, [], ◌∷◌, None, IfOk};
 ghost use Rattle.engine_run.specs.Observers.{Came, Closed, Hears};
 ghost use Rattle.live_run.specs.Observed.{RecordsClose, RecordsPacket};
 
@@ -31,7 +31,9 @@ impl<'v, E: Write + Drop> LiveObserver<'v, E> {
         record: Option<RecordObserver<'v>>,
         outputs: StatusOutputs<'v, E>,
         health: ShownHealth<'v>,
-    ) -> Result<LiveObserver<'v, E>, AllocError> {
+    ) -> Result<LiveObserver<'v, E>, AllocError>
+        ensures kept { IfOk result (λ observer. observer.«record» ≡ «record».entry) }
+    {
         let StatusOutputs { publisher, meter } = outputs;
         let status = match publisher {
             Some(publisher) => Some(EngineStatus::new(

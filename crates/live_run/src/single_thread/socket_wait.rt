@@ -21,6 +21,7 @@ const MILLISECOND: u64 = 48;
 
 /// The greatest age of a clock reading by which the datagrams that end a wait for them are judged, in sampling
 /// instants.
+// By the arrival clock the first packet of a stream has the time of the reading, so an old one would put it too early.
 const MAX_AGE: i64 = 48;
 
 /// The number of nanoseconds in three sampling instants.
@@ -30,6 +31,10 @@ const THREE_INSTANTS: u64 = 62_500;
 /// The least wait for a datagram in milliseconds, if none comes.
 // The blocks of silence that become due meanwhile are then sent in bursts, which saves wake-ups.
 const QUIET_WAIT: i32 = 4;
+
+/// The longest wait for a datagram in milliseconds, if gains can be changed while the run goes on.
+// A run asks for changes between two waits, so a change waits at most so long in the thread that serves the page.
+const CONTROLLED_WAIT: i32 = 10;
 
 /// The descriptor that makes `poll` pass over its place.
 const LEFT_OUT: i32 = -1;
@@ -74,10 +79,13 @@ pub(crate) struct SocketWait<'a, R: Wait + Clock> {
     parker: Parker,
     /// The clock by which the age of a reading is measured.
     clock: SystemClock<'a, R>,
+    /// The longest wait for a datagram, in milliseconds.
+    longest: i32,
 }
 
 impl<'a, R: Wait + Clock> SocketWait<'a, R> {
-    /// Returns a wait for the sockets of a studio. Returns `AllocError` if an allocation fails.
+    /// Returns a wait for the sockets of a studio, whose waits are short if its gains can be changed. Returns
+    /// `AllocError` if an allocation fails.
     pub(crate) fn new(
         rt: &'a R,
         alloc: Global,
@@ -85,6 +93,7 @@ impl<'a, R: Wait + Clock> SocketWait<'a, R> {
         receivers: &[Receiver<'_>],
         flags: FeedFlags<'a>,
         clock: SystemClock<'a, R>,
+        is_controlled: bool,
     ) -> Result<SocketWait<'a, R>, AllocError> {
         let mut descriptors = Vec::with_capacity(alloc, receivers.len())?;
         let mut sockets = Vec::with_capacity(alloc, receivers.len())?;
@@ -106,6 +115,11 @@ impl<'a, R: Wait + Clock> SocketWait<'a, R> {
             pace: ReceivePace::new(common_rest(studio.streams())),
             parker: Parker::new(),
             clock,
+            longest: if is_controlled {
+                CONTROLLED_WAIT
+            } else {
+                i32::MAX
+            },
         })
     }
 
@@ -124,10 +138,11 @@ impl<'a, R: Wait + Clock> SocketWait<'a, R> {
     }
 
     /// Waits until a socket has a datagram, but for at most so many sampling instants in whole milliseconds, or
-    /// `QUIET_WAIT` if that is more. Then sets the flags of the sockets that have a datagram.
+    /// `QUIET_WAIT` if that is more, and never longer than the longest wait. Then sets the flags of the sockets that
+    /// have a datagram.
     fn wait(&mut self, instants: u64) {
         let whole = i32::try_from(instants / MILLISECOND).unwrap_or(i32::MAX);
-        self.poll(whole.max(QUIET_WAIT));
+        self.poll(whole.max(QUIET_WAIT).min(self.longest));
     }
 
     /// Leaves the sockets out that failed, and puts those in that did not.

@@ -1,12 +1,9 @@
-use Rattle.std.proofs.Common.{rules, ◌∙◌}
-use Rattle.std.proofs.lemmas.List.{length-map}
+use Rattle.std.proofs.Common.{◌≡◌, [], None, true, refl}
+use Rattle.studio_io.specs.declared.gain_source.NoGains.{NoGains}
+use Rattle.live_run.proofs.RunLemmas.{uncontrolled}
 use Rattle.live_run.proofs.single_thread.engine_io.SingleThreadRun.run.Goals as goal
 
-pub returns : goal.returns
-returns g c = record {
-  run = record {
-    balance = c.in_ok-report.ensures.balance;
-    settled = λ settled. (_, _, length-map _ _ ∙ c.in_ok-report.ensures.feeds settled, c.in_ok-report.ensures.settled settled);
-  };
-  early = search rules;
-}
+pub returns-in-None-clause-run : goal.returns-in-None-clause-run
+returns-in-None-clause-run g c =
+    let is : c.args.self.gains ≡ None = c.in-None.is in
+    rw is (uncontrolled (λ (after : NoGains). []) true c.args.studio.now (λ after. refl) c.run-in-None.result c.run-in-None.ensures.run)

@@ -1,14 +1,9 @@
-use Rattle.std.proofs.Common.{rules}
+use Rattle.std.proofs.Common.{◌≡◌, [], None, false, refl}
+use Rattle.studio_io.specs.declared.gain_source.NoGains.{NoGains}
+use Rattle.live_run.proofs.RunLemmas.{uncontrolled}
 use Rattle.live_run.proofs.workers.worker_run.WorkerRun.run.Goals as goal
 
-pub run_workers-requires-clause-opened : goal.run_workers-requires-clause-opened
-run_workers-requires-clause-opened g c κs within = (c.args.studio.now, 256, c.open_at-open_at.ensures.sound, c.requires.opened)
-
-pub returns : goal.returns
-returns g c = record {
-  run = record {
-    balance = c.in_ok-report.ensures.balance;
-    settled = λ settled. (256, _, _, c.in_ok-report.ensures.settled settled c.args.studio.now 256 c.requires.opened);
-  };
-  early = search rules;
-}
+pub returns-in-None-clause-run : goal.returns-in-None-clause-run
+returns-in-None-clause-run g c =
+    let is : c.args.self.gains ≡ None = c.in-None.is in
+    rw is (uncontrolled (λ (after : NoGains). []) false c.args.studio.now (λ after. refl) c.run_with_gains-in-None.result c.run_with_gains-in-None.ensures.run)

@@ -1,0 +1,53 @@
+//! The file with the token of the page's control of gains.
+ghost use Rattle.std.specs.Prelude.{◌≡◌, ◌%◌, ◌≤◌, ◌↔◌, IsTrue};
+ghost use Rattle.std.specs.Fs.{IsFile, file_type, metadata_len, metadata_mode};
+
+use crate::fault::ProgramFault;
+use file_commands::CommandFault;
+use live_run::Token;
+use std::alloc::Global;
+use std::fs::Metadata;
+use std::os::unix::fs::MetadataExt;
+use studio_run::ReadFault;
+
+/// The greatest number of octets of a token's file: 256 of the token, and a line feed.
+const MAX_OCTETS: u64 = 257;
+
+/// The host's files that hold a token.
+pub(crate) trait TokenFiles {
+    /// Returns the octets of the private file at a path. Returns `ReadFault::Memory` if an allocation fails, and
+    /// another fault if the file cannot be read or is not private (`is_private`).
+    fn read_private(&self, alloc: Global, path: &str) -> Result<Vec<u8>, ReadFault>;
+}
+
+/// Returns the token in the file at this path, if there is a path. Returns `ProgramFault::Control` if the file cannot
+/// be read or is not private, or if it has no token.
+pub(crate) fn token_of<H: TokenFiles>(
+    alloc: Global,
+    host: &H,
+    path: Option<&str>,
+) -> Result<Option<Token>, ProgramFault> {
+    let Some(path) = path else {
+        return Ok(None);
+    };
+    let octets = match host.read_private(alloc, path) {
+        Ok(octets) => octets,
+        Err(ReadFault::Memory) => return Err(ProgramFault::Command(CommandFault::Memory)),
+        Err(_) => return Err(ProgramFault::Control),
+    };
+    match Token::from_bytes(octets.as_slice()) {
+        Some(token) => Ok(Some(token)),
+        None => Err(ProgramFault::Control),
+    }
+}
+
+/// Returns true if a file is private, and may hold a token: a regular file of at most 257 octets, which only its owner
+/// may read, write or execute.
+// A token that others can read lets them change gains, and one that others can write lets them choose it.
+pub(crate) fn is_private(file: &Metadata) -> bool
+    ensures owner { IsTrue result → metadata_mode file.now % 64 ≡ 0 }
+    ensures regular { IsTrue result → IsFile (file_type file.now) }
+    ensures short { IsTrue result → metadata_len file.now ≤ 257 }
+{
+    file.is_file() && file.mode() % 0o100 == 0 && file.len() <= MAX_OCTETS
+}
