@@ -1,4 +1,4 @@
--- Which code a call returns.
+-- The code that a call returns.
 use Rattle.std.proofs.Common.{◌≡◌, ◌<◌, ◌≤◌, nat_lt, ℕ, zero, suc, ℤ, List, [], ◌∷◌, pos, true, false, length, Option, Some, None, if◌then◌else◌, option_map, slice_get, ap, sym, ◌∙◌, arith}
 use Rattle.std.proofs.lemmas.Bool.Decides.{nat_tests}
 use Rattle.mix_packets.specs.OutSpec.{datagram_length}

@@ -1,4 +1,4 @@
--- What a handle owns, taken apart and put together. Assumes `Logic`.
+-- The memory that a handle owns, taken apart and put together. Assumes `Logic`.
 use Rattle.std.proofs.Common.{◌≡◌, ℕ, List, [], ◌∷◌, ◌++◌, refl, subst}
 use seplogic.Ra.Ura.{Ura}
 use mir.Raw.{raw as bare}

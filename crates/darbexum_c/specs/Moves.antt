@@ -1,4 +1,4 @@
--- What a call does to the engine of a handle.
+-- The change that a call makes to the engine of a handle.
 use Rattle.std.specs.Prelude.{Option, None, Some}
 use Rattle.studio_engine.specs.Engine.{EngineState}
 

@@ -1,4 +1,4 @@
--- What the structs of C say.
+-- The contents of the structs of C.
 use Rattle.std.specs.Prelude.{ℕ}
 use Rattle.rtp_wire.specs.Sample.{octets_per_sample}
 use Rattle.rtp_stream.specs.CountsFacts.{Tally}

@@ -106,9 +106,9 @@ pub extern "C" fn darbexum_turn(
     answer
 }
 
-/// Changes the gains: from `at` on, in sampling instants of the media clock, these are in force, in place of all that
-/// was to change from then on. They are in units of 1/65,536, row by row, a row for each output channel. No datagram
-/// that was returned changes. Returns 0, or a code.
+/// Changes the gains: from `at` on, in sampling instants of the media clock, these are in force. They replace every
+/// change that was planned from then on. They are in units of 1/65,536, row by row, a row for each output channel. No
+/// datagram that was returned changes. Returns 0, or a code.
 #[unsafe(no_mangle)]
 pub extern "C" fn darbexum_change_gains(
     alloc: Global,

@@ -13,7 +13,7 @@ use std::alloc::Global;
 
 /// Makes the engine of a configuration, and frees one that the handle had. Returns 0, or a code.
 ///
-/// `told` is given the text of the fault, or an empty text. After a fault the handle keeps what it had.
+/// The text of the fault, or an empty text, is written to `told`. After a fault the handle keeps what it had.
 #[unsafe(no_mangle)]
 pub extern "C" fn darbexum_open(
     alloc: Global,

@@ -1,4 +1,4 @@
--- What an engine gave and a sink was handed, datagram by datagram.
+-- The datagrams that an engine gave and a sink was passed, one by one.
 use Rattle.std.proofs.Common.{◌≡◌, ◌⊎◌, inl, inr, ◌≤◌, ℕ, List, [], ◌∷◌, ◌++◌, length, take, ℤ, Option, Some, None, sym, ap, subst, ◌∙◌, append_assoc, append-nil}
 use Rattle.path_merge.specs.Clock.{clock_fault_of}
 use Rattle.studio_config.specs.Studio.{Studio}

@@ -1,4 +1,4 @@
--- What an engine's caller sent.
+-- The datagrams that an engine's caller sent.
 use Rattle.std.specs.Prelude.{◌≡◌, ℕ, false, List, ◌++◌, length, Option}
 use Rattle.studio_config.specs.Studio.{Studio}
 use Rattle.studio_mix.specs.Ready.{is_ready}

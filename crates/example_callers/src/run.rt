@@ -42,8 +42,8 @@ impl<T: Drop> From<AllocFailed<T>> for RunFault {
 /// Runs a studio's workers over these datagrams: a list for each path, stream by stream and path by path.
 /// The clock of each stream gives these readings.
 ///
-/// If the report is settled, and the sink's contents are known at the end, then the sink was handed the
-/// datagrams of exactly the ready blocks. The contents of a `MemorySink` are known if it is whole.
+/// If the report is settled, and the sink's contents are known at the end, then the sink was passed the datagrams of
+/// exactly the ready blocks. The contents of a `MemorySink` are known if it is whole.
 pub fn run_in_threads<R: Threads + Wait + Sync, K: Sink>(
     rt: &R,
     alloc: Global,

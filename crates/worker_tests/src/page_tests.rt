@@ -1,4 +1,6 @@
 //! Requests and their answers, and both texts of a snapshot.
+mod controls;
+mod desk;
 mod requests;
 mod sample;
 mod sockets;

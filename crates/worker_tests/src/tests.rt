@@ -1,6 +1,7 @@
 //! The tests: of rings, of workers and of one thread.
 mod alone;
 mod fakes;
+mod gain_moves;
 mod holding;
 mod memory;
 mod rings;

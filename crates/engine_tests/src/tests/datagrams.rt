@@ -74,20 +74,53 @@ fn output_faults(rt: HostRuntime) {
 }
 
 /// A start and an offset, and the first timestamp.
-const OFFSETS: [(i64, u32, u32); 5] = [
-    (0, 4_294_967_295, 4_294_967_295),
-    (1, 4_294_967_295, 0),
-    (LATEST, 0, 0),
-    (LATEST - 1, 3, 2),
-    (4_294_967_296 * 5 + 1000, 10, 1010),
+#[derive(Clone, Copy)]
+struct Offset {
+    shows: &'static str,
+    start: i64,
+    offset: u32,
+    ts: u32,
+}
+
+const OFFSETS: [Offset; 5] = [
+    Offset {
+        shows: "the offset alone",
+        start: 0,
+        offset: 4_294_967_295,
+        ts: 4_294_967_295,
+    },
+    Offset {
+        shows: "the sum is modulo 2^32",
+        start: 1,
+        offset: 4_294_967_295,
+        ts: 0,
+    },
+    Offset {
+        shows: "the latest start is a multiple of 2^32",
+        start: LATEST,
+        offset: 0,
+        ts: 0,
+    },
+    Offset {
+        shows: "one before it, and an offset of 3",
+        start: LATEST - 1,
+        offset: 3,
+        ts: 2,
+    },
+    Offset {
+        shows: "a start of five cycles and 1,000",
+        start: 4_294_967_296 * 5 + 1000,
+        offset: 10,
+        ts: 1010,
+    },
 ];
 
 /// The first timestamp is the start plus the offset, modulo 2^32, up to the latest start.
 #[test]
 fn the_offset_is_ahead_of_the_start(rt: HostRuntime) {
-    for (start, offset, want) in &OFFSETS {
-        let ts = first_timestamp(&rt, *start, *offset);
-        assert!(rt; ts == *want, "start {start}, offset {offset}");
+    for row in &OFFSETS {
+        let ts = first_timestamp(&rt, row.start, row.offset);
+        assert!(rt; ts == row.ts, "{}", row.shows);
     }
 }
 

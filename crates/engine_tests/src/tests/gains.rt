@@ -1,10 +1,10 @@
-//! The tests of gains by worked examples: rounding, saturation and its count, and changes of gains and their faults.
+//! The tests of gains by worked examples: rounding, saturation and its count, matrices, and schedules of changes.
 ghost use Rattle.std.specs.Prelude.{IsTrue, All};
 ghost use Rattle.gain_mix.specs.Mix.{Is24Bits};
 
 use gain_mix::{
-    ChangeFault, LiveSchedule, Matrix, MatrixFault, Schedule, ScheduleFault, mix_block,
-    mix_counted, mix_frame, mix_span,
+    LiveSchedule, Matrix, MatrixFault, Schedule, ScheduleFault, mix_block, mix_counted, mix_frame,
+    mix_span,
 };
 use std::alloc::Global;
 use std::process::Abort;
@@ -254,36 +254,77 @@ fn schedule_fault(
 }
 
 /// Two changes, each a time with its matrix' outputs and inputs, and the schedule's fault.
-type Pair = ([(i64, usize, usize); 2], Option<ScheduleFault>);
+#[derive(Clone, Copy)]
+struct Pair {
+    shows: &'static str,
+    changes: [(i64, usize, usize); 2],
+    fault: Option<ScheduleFault>,
+}
 
 /// The latest time that a change may have, 2^60.
-const LAST: i64 = 1 << 60;
+pub(super) const LAST: i64 = 1 << 60;
 
 const PAIRS: [Pair; 9] = [
-    ([(0, 2, 3), (LAST, 2, 3)], None),
-    ([(3, 2, 3), (4, 2, 3)], None),
-    ([(3, 2, 3), (3, 2, 3)], Some(ScheduleFault::Order)),
-    ([(4, 2, 3), (3, 2, 3)], Some(ScheduleFault::Order)),
-    ([(-1, 2, 3), (3, 2, 3)], Some(ScheduleFault::Time)),
-    ([(3, 2, 3), (LAST + 1, 2, 3)], Some(ScheduleFault::Time)),
-    ([(LAST + 1, 2, 3), (3, 2, 3)], Some(ScheduleFault::Time)),
-    ([(-1, 2, 3), (3, 1, 3)], Some(ScheduleFault::Shape)),
-    ([(3, 2, 2), (3, 2, 3)], Some(ScheduleFault::Shape)),
+    Pair {
+        shows: "the earliest and the latest time",
+        changes: [(0, 2, 3), (LAST, 2, 3)],
+        fault: None,
+    },
+    Pair {
+        shows: "two changes may follow one another at once",
+        changes: [(3, 2, 3), (4, 2, 3)],
+        fault: None,
+    },
+    Pair {
+        shows: "two changes at the same time are refused",
+        changes: [(3, 2, 3), (3, 2, 3)],
+        fault: Some(ScheduleFault::Order),
+    },
+    Pair {
+        shows: "a change before the one before it is refused",
+        changes: [(4, 2, 3), (3, 2, 3)],
+        fault: Some(ScheduleFault::Order),
+    },
+    Pair {
+        shows: "a time is not negative",
+        changes: [(-1, 2, 3), (3, 2, 3)],
+        fault: Some(ScheduleFault::Time),
+    },
+    Pair {
+        shows: "a time is at most 2^60",
+        changes: [(3, 2, 3), (LAST + 1, 2, 3)],
+        fault: Some(ScheduleFault::Time),
+    },
+    Pair {
+        shows: "a time out of range comes before the order",
+        changes: [(LAST + 1, 2, 3), (3, 2, 3)],
+        fault: Some(ScheduleFault::Time),
+    },
+    Pair {
+        shows: "another number of outputs comes before a time out of range",
+        changes: [(-1, 2, 3), (3, 1, 3)],
+        fault: Some(ScheduleFault::Shape),
+    },
+    Pair {
+        shows: "another number of inputs comes before the order",
+        changes: [(3, 2, 2), (3, 2, 3)],
+        fault: Some(ScheduleFault::Shape),
+    },
 ];
 
 /// Each limit of a schedule's shapes and times is tried from both sides. Of several faults `Shape` comes before `Time`,
 /// and `Time` before `Order`.
 #[test]
 fn schedule_faults(rt: HostRuntime) {
-    for (changes, want) in &PAIRS {
-        let fault = schedule_fault(&rt, rt.alloc(), changes);
-        assert!(rt; fault == *want, "{changes:?}");
+    for pair in &PAIRS {
+        let fault = schedule_fault(&rt, rt.alloc(), &pair.changes);
+        assert!(rt; fault == pair.fault, "{}", pair.shows);
     }
     assert!(rt; schedule_fault(&rt, rt.alloc(), &[]) == None, "no change");
 }
 
 /// Returns a schedule of gain 1, from 100 on 2, and from 103 on -1.
-fn two_changes(rt: &impl Abort, alloc: Global) -> Schedule {
+pub(super) fn two_changes(rt: &impl Abort, alloc: Global) -> Schedule {
     let mut later = Vec::new(alloc);
     push_change(rt, &mut later, 100, (1, 1), 131_072);
     push_change(rt, &mut later, 103, (1, 1), -65_536);
@@ -324,7 +365,7 @@ fn gains_change_within_a_span(rt: HostRuntime) {
 }
 
 /// Returns a schedule in use from 0 on.
-fn live_of(rt: &impl Abort, alloc: Global, schedule: &Schedule) -> LiveSchedule {
+pub(super) fn live_of(rt: &impl Abort, alloc: Global, schedule: &Schedule) -> LiveSchedule {
     LiveSchedule::new(alloc, schedule, 0).expect(rt, "a schedule in use")
 }
 
@@ -337,149 +378,6 @@ fn changes_gains(rt: &impl Abort, schedule: &LiveSchedule) {
     assert!(rt; schedule.ins() == 1 && schedule.outs() == 1);
     mix_span(schedule, 98, &ins, &mut outs, 6, 16);
     assert!(rt; outs == [1, 2, 6, 8, 10, -6]);
-}
-
-/// A change of gains that is handed in while a schedule is in use from a time on, and what comes of it.
-struct Move {
-    from: i64,
-    at: i64,
-    gain: i32,
-    answer: Result<(), ChangeFault>,
-    /// Times, and the gain that is in force at each of them afterwards.
-    gains: [(i64, i32); 5],
-    shows: &'static str,
-}
-
-/// The gains if nothing was changed.
-const UNMOVED: [(i64, i32); 5] = [
-    (99, 65_536),
-    (100, 131_072),
-    (101, 131_072),
-    (102, 131_072),
-    (103, -65_536),
-];
-
-const MOVES: [Move; 8] = [
-    Move {
-        from: 99,
-        at: 98,
-        gain: 1,
-        answer: Err(ChangeFault::Time),
-        gains: UNMOVED,
-        shows: "a time before the next block is refused",
-    },
-    Move {
-        from: 0,
-        at: LAST + 1,
-        gain: 1,
-        answer: Err(ChangeFault::Time),
-        gains: UNMOVED,
-        shows: "a time past 2^60 is refused",
-    },
-    Move {
-        from: 0,
-        at: 99,
-        gain: 1_048_577,
-        answer: Err(ChangeFault::Range),
-        gains: UNMOVED,
-        shows: "a gain out of range is refused",
-    },
-    Move {
-        from: 99,
-        at: 99,
-        gain: 7,
-        answer: Ok(()),
-        gains: [(99, 7), (100, 7), (101, 7), (102, 7), (103, 7)],
-        shows: "a change for now replaces all that was planned",
-    },
-    Move {
-        from: 0,
-        at: 101,
-        gain: 7,
-        answer: Ok(()),
-        gains: [(99, 65_536), (100, 131_072), (101, 7), (102, 7), (103, 7)],
-        shows: "a planned change replaces those at and after its time",
-    },
-    Move {
-        from: 0,
-        at: 103,
-        gain: 7,
-        answer: Ok(()),
-        gains: [
-            (99, 65_536),
-            (100, 131_072),
-            (101, 131_072),
-            (102, 131_072),
-            (103, 7),
-        ],
-        shows: "of two changes at one time the second is in force",
-    },
-    Move {
-        from: 0,
-        at: 104,
-        gain: 7,
-        answer: Ok(()),
-        gains: UNMOVED,
-        shows: "a change after the others leaves them",
-    },
-    Move {
-        from: 101,
-        at: 101,
-        gain: 7,
-        answer: Ok(()),
-        gains: [(99, 7), (100, 7), (101, 7), (102, 7), (103, 7)],
-        shows: "what is past is let go, so the gains at earlier times are not kept",
-    },
-];
-
-/// Each change is in force from its own time on, in place of what was planned, and a refused one changes nothing.
-#[test]
-fn gains_move_while_a_schedule_is_in_use(rt: HostRuntime) {
-    for row in &MOVES {
-        let mut live = live_of(&rt, rt.alloc(), &two_changes(&rt, rt.alloc()));
-        moves(&rt, row, &mut live);
-    }
-}
-
-/// Tests one row of that table.
-fn moves(rt: &impl Abort, row: &Move, live: &mut LiveSchedule) {
-    assert!(rt;
-        live.change(row.from, row.at, &[row.gain]) == row.answer,
-        "{}",
-        row.shows
-    );
-    for (t, gain) in &row.gains {
-        assert!(rt;
-            live.at(*t).gains() == [*gain].as_slice(),
-            "{}, at {t}",
-            row.shows
-        );
-    }
-}
-
-/// The 65th change is refused while 64 before it are to come. One that replaces them is taken, and so is one after a
-/// change has come.
-#[test]
-fn sixty_four_changes_may_be_planned(rt: HostRuntime) {
-    let mut live = live_of(&rt, rt.alloc(), &two_changes(&rt, rt.alloc()));
-    assert!(&rt; live.change(0, 1, &[1, 1]) == Err(ChangeFault::Shape));
-    for t in 1..65 {
-        assert!(&rt; live.change(0, t, &[1]) == Ok(()), "{t}");
-    }
-    assert!(&rt; live.change(0, 65, &[1]) == Err(ChangeFault::TooMany));
-    assert!(&rt;
-        live.change(0, 64, &[2]) == Ok(()),
-        "at the time of the last"
-    );
-    assert!(&rt; live.change(0, 65, &[1]) == Err(ChangeFault::TooMany));
-    live.pass(0);
-    assert!(&rt;
-        live.change(0, 65, &[1]) == Err(ChangeFault::TooMany),
-        "none has come"
-    );
-    live.pass(1);
-    assert!(&rt; live.change(1, 65, &[1]) == Ok(()), "one has come");
-    assert!(&rt; live.change(1, 10, &[1]) == Ok(()), "in place of 56");
 }
 
 // Samples of 24 bits are from -8,388,608 to 8,388,607: twice 4,194,304 is past them, and minus twice that just is not.

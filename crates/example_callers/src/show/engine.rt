@@ -1,4 +1,4 @@
-//! An engine that is handed datagrams, turned by the clock and closed.
+//! An engine that is passed datagrams, turned by the clock and closed.
 
 use super::datagram_text::print_kept;
 use crate::engine::{send_due, send_rest};

@@ -9,7 +9,7 @@ use pcap_file::{
 };
 use std::net::Ipv4Addr;
 
-/// The record's datagram: three octets, on the second interface.
+/// Returns the record's datagram: three octets, on the second interface.
 fn arrival() -> RecordedDatagram<'static>
     ensures { length result.octets.now ≡ 3 }
 {
@@ -154,7 +154,7 @@ fn times_are_rounded_up(rt: HostRuntime) {
     }
 }
 
-/// The record's datagram as a reader finds it.
+/// Returns the record's datagram as a reader finds it.
 fn packet() -> Packet<'static> {
     Packet {
         time: Some(4_295_020_834),

@@ -1,6 +1,6 @@
 //! The octets of a record, written by hand by the text of the pcapng format and RFC 791.
 
-/// A record of these blocks:
+/// Returns a record of these blocks:
 ///
 /// - the section header of a studio that was opened at 1000, octets 0 to 59;
 /// - the interfaces of the first path of stream 0, to 99, and of the second path of stream 12, to 139;
@@ -22,7 +22,7 @@ pub(crate) fn record() -> [u8; 228] {
     ]
 }
 
-/// A section header whose comment gives the latest opening time, 2^63 - 1.
+/// Returns a section header whose comment gives the latest opening time, 2^63 - 1.
 pub(crate) fn latest_header() -> [u8; 76] {
     [
         0x0a, 0x0d, 0x0d, 0x0a, 0x4c, 0, 0, 0, 0x4d, 0x3c, 0x2b, 0x1a, 1, 0, 0, 0, 0xff, 0xff,

@@ -132,19 +132,46 @@ fn restarts_after_a_cycle<W: Window>(rt: &impl Abort, bench: &mut Bench<W>) {
     bench.has_counts(rt, counts, "");
 }
 
-/// An opening time, steps, and the place of the first clock reading that is out of order.
-type Readings = (i64, &'static str, Option<usize>);
+/// An opening time, steps, and the place of the first clock reading that is out of order, if there is one.
+#[derive(Clone, Copy)]
+struct Readings {
+    shows: &'static str,
+    open_at: i64,
+    steps: &'static str,
+    place: Option<usize>,
+}
 
 const READINGS: [Readings; 5] = [
-    (0, "tick 6, a 1 0, tick 5, tick 4", Some(2)),
-    (10, "tick 9", Some(0)),
-    (
-        0,
-        "tick 1152921504606846976, tick 1152921504606846977",
-        Some(1),
-    ),
-    (0, "close, close, tick 6", Some(2)),
-    (0, "tick 6, tick 6, close, close", None),
+    Readings {
+        shows: "a reading goes back, and arrivals count as places",
+        open_at: 0,
+        steps: "tick 6, a 1 0, tick 5, tick 4",
+        place: Some(2),
+    },
+    Readings {
+        shows: "a first reading is before the opening",
+        open_at: 10,
+        steps: "tick 9",
+        place: Some(0),
+    },
+    Readings {
+        shows: "a reading is past 2^60",
+        open_at: 0,
+        steps: "tick 1152921504606846976, tick 1152921504606846977",
+        place: Some(1),
+    },
+    Readings {
+        shows: "a reading follows a close",
+        open_at: 0,
+        steps: "close, close, tick 6",
+        place: Some(2),
+    },
+    Readings {
+        shows: "a repeated reading and a repeated close are in order",
+        open_at: 0,
+        steps: "tick 6, tick 6, close, close",
+        place: None,
+    },
 ];
 
 /// Returns the place of the first clock reading that is out of order in a run over these events, if there is one.
@@ -163,9 +190,9 @@ fn place_of_fault(alloc: Global, spec: StreamSpec, open_at: i64, events: &[Event
 /// follows a close.
 #[test]
 fn a_run_names_the_first_reading_out_of_order(rt: HostRuntime) {
-    for (open_at, steps, want) in &READINGS {
-        let place = place_in(&rt, rt.alloc(), *open_at, *steps);
-        assert!(rt; place == *want, "{steps}");
+    for row in &READINGS {
+        let place = place_in(&rt, rt.alloc(), row.open_at, row.steps);
+        assert!(rt; place == row.place, "{}", row.shows);
     }
 }
 

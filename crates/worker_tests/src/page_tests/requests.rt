@@ -142,7 +142,7 @@ fn has_kept_parts(rt: &impl Abort, sent: &[u8]) {
     assert!(rt; rest.ends_with(HTML.as_bytes()));
 }
 
-/// A request that begins so, of 9,000 octets.
+/// Returns a request that begins so, of 9,000 octets.
 fn long_request(rt: &impl Abort, alloc: Global, front: &str) -> Vec<u8> {
     let mut request = Vec::from_slice(alloc, front.as_bytes()).expect(rt, "there is memory");
     request.resize(9_000, b'x').expect(rt, "there is memory");

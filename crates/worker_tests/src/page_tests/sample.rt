@@ -10,7 +10,7 @@ use status_page::{
 /// A name with all that has to be escaped.
 pub(super) const NAME: &str = "L\"\\\n<b>";
 
-/// Two datagrams that were no packets.
+/// Returns the counts of two datagrams that were no packets.
 fn path_counts() -> PathCounts {
     let mut counts = PathCounts::new();
     counts.add_full();
@@ -18,7 +18,7 @@ fn path_counts() -> PathCounts {
     counts
 }
 
-/// A path whose packets came 12 to 36 sampling instants before their deadlines, and which was given up since.
+/// Returns a path whose packets came 12 to 36 sampling instants before their deadlines, and which was given up since.
 fn heard_path() -> PathState {
     PathState {
         datagrams: 2,
@@ -50,7 +50,7 @@ fn heard_path() -> PathState {
     }
 }
 
-/// A lost slot.
+/// Returns the counts of a lost slot.
 fn counts() -> Counts {
     let mut counts = Counts::new();
     counts.add_slot(false);

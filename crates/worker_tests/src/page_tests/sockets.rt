@@ -22,7 +22,7 @@ enum Fate {
     Waits,
 }
 
-/// The outcome of a client.
+/// Returns the outcome of a client.
 fn fate_of(client: &mut TcpStream) -> Fate {
     let mut room = [0; 200];
     match client.read(&mut room) {
@@ -33,13 +33,13 @@ fn fate_of(client: &mut TcpStream) -> Fate {
     }
 }
 
-/// The client sends a request.
+/// Sends a request from a client.
 fn ask(rt: &impl Abort, client: &mut TcpStream) {
     assert!(rt; client.write_all(REQUEST).is_ok());
     assert!(rt; client.set_nonblocking(true).is_ok());
 }
 
-/// The numbers of clients that were answered, and that were removed.
+/// Returns the numbers of clients that were answered, and that were removed.
 fn fates_of(clients: &mut [TcpStream]) -> (u32, u32) {
     let (mut answered, mut let_go) = (0u32, 0u32);
     for client in clients.iter_mut() {

@@ -3,14 +3,14 @@
 use super::fakes::{FailingSink, FaultyFeed, NoRest};
 use super::timed::{TimedClock, TimedFeed, TimedSink, WholeRest};
 use super::workers::{
-    FAILURES, Failing, gave_both, has_failed, list_of, one_stream, only, sends, two_packets,
+    FAILURES, Failure, gave_both, has_failed, list_of, one_stream, only, sends, two_packets,
 };
 use engine_run::{IdleWait, NoObserver, run_engine};
 use std::alloc::Global;
 use std::process::Abort;
 use std::sync::Wait;
 use std::sync::atomic::AtomicI64;
-use studio_io::{MemoryClock, MemoryFeed, MemorySink};
+use studio_io::{MemoryClock, MemoryFeed, MemorySink, NoGains};
 use studio_rings::{Clock, Feed, Sink, WorkReport};
 
 /// Runs one stream on two paths.
@@ -24,8 +24,10 @@ fn run_one<R: Wait + Abort, F: Feed, C: Clock, K: Sink, P: IdleWait>(
 ) -> (WorkReport, K) {
     let studio = one_stream(alloc).expect(rt, "a studio");
     let feeds = list_of(rt, alloc, feeds);
-    let done = run_engine(rt, alloc, &studio, feeds, clock, sink, NoObserver, rest);
-    let Ok((report, sink, _)) = done else {
+    let done = run_engine(
+        rt, alloc, &studio, feeds, clock, sink, NoObserver, rest, NoGains,
+    );
+    let Ok((report, sink, _, _)) = done else {
         panic!(rt; "there is memory")
     };
     (report, sink)
@@ -49,11 +51,11 @@ fn run_failing<R: Wait + Abort>(
     rt: &R,
     alloc: Global,
     readings: &[i64],
-    first: Failing,
-    second: Failing,
+    failure: &Failure,
 ) -> WorkReport {
     let packets = two_packets(rt, alloc);
-    let feeds = [first, second].map(|(first, later)| FaultyFeed::new(first, later, &packets));
+    let feeds = [failure.first, failure.second];
+    let feeds = feeds.map(|(first, later)| FaultyFeed::new(first, later, &packets));
     let sink = MemorySink::new(alloc);
     let (report, sink) = run_one(rt, alloc, feeds, MemoryClock::new(readings), sink, NoRest);
     gave_both(rt, sink.kept());
@@ -63,21 +65,31 @@ fn run_failing<R: Wait + Abort>(
 /// A feed that fails is asked again, and ends, as in a run by workers.
 #[test]
 fn one_thread_ends_a_feed_after_1000_faults(rt: HostRuntime) {
-    for (first, second, arrivals, faults) in &FAILURES {
-        let report = run_failing(&rt, rt.alloc(), &[0], *first, *second);
-        has_failed(&rt, &report, *arrivals, *faults);
+    for failure in &FAILURES {
+        let report = run_failing(&rt, rt.alloc(), &[0], failure);
+        has_failed(&rt, &report, failure);
     }
 }
+
+/// The faults of a run by a clock that goes back, and its counts.
+const A_CLOCK_BACK: Failure = Failure {
+    shows: "the clock goes back, and is read again after each fault",
+    first: (2, 1),
+    second: (2, 1),
+    arrivals: [4, 2, 2],
+    faults: [4, 4],
+};
 
 /// It goes by the greatest answer so far, and from the opening time on: after each fault the clock is read again.
 #[test]
 fn one_thread_by_a_clock_that_goes_back(rt: HostRuntime) {
     let readings = [-5, 11, 5, i64::MIN, 11, 0];
-    let report = run_failing(&rt, rt.alloc(), &readings, (2, 1), (2, 1));
-    has_failed(&rt, &report, [4, 2, 2], [4, 4]);
+    let report = run_failing(&rt, rt.alloc(), &readings, &A_CLOCK_BACK);
+    has_failed(&rt, &report, &A_CLOCK_BACK);
 }
 
-/// Both packets on the first path, of a run that rests as long as it may until a time: when its datagrams went out.
+/// Returns the times at which a run sent its datagrams. It rests as long as it may, until a time, and both packets come
+/// on the first path.
 fn times_until<R: Wait + Abort>(rt: &R, alloc: Global, until: i64) -> Vec<i64> {
     let packets = two_packets(rt, alloc);
     let time = AtomicI64::new(0);

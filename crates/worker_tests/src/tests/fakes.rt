@@ -8,7 +8,7 @@ use studio_engine::Engine;
 use studio_io::MemoryFeed;
 use studio_rings::{Feed, FeedAnswer, SendAnswer, Sink};
 
-/// Fails so often before its first answer, and so often before each later one.
+/// A feed that fails so often before its first result, and so often before each later one.
 #[derive(Drop)]
 pub(super) struct FaultyFeed<'a> {
     feed: MemoryFeed<'a>,
@@ -39,7 +39,7 @@ impl<'a> Feed for FaultyFeed<'a> {
     }
 }
 
-/// Keeps what it is handed, and contracts know it. Address B takes so many datagrams, and then fails.
+/// A sink that keeps its datagrams, which contracts know. Address B takes so many datagrams, and then fails.
 #[derive(Drop)]
 pub(super) struct FailingSink<'a, R: Abort> {
     rt: &'a R,
@@ -58,7 +58,7 @@ impl<'a, R: Abort> FailingSink<'a, R> {
         }
     }
 
-    /// All datagrams, in order.
+    /// Returns all datagrams, in order.
     pub(super) fn handed(&self) -> &[Vec<u8>] {
         self.handed.as_slice()
     }

@@ -57,7 +57,7 @@ impl<'a, R: Wait> Feed for MeetingFeed<'a, R> {
     }
 }
 
-/// Both packets arrived twice, and were got once.
+/// Tests that both packets arrived twice, and were got once.
 fn got_two(rt: &impl Abort, report: &WorkReport) {
     let counts = only(rt, report);
     assert!(rt; counts.arrived == 4 && counts.got == 2);
@@ -275,7 +275,7 @@ fn run_late<R: Threads + Wait + Abort + Sync>(
     report
 }
 
-/// The counts of packets of which the first of each feed was taken, and the others refused at full rings.
+/// Tests the counts of packets of which the first of each feed was taken, and the others refused at full rings.
 fn are_refused(rt: &impl Abort, report: &WorkReport) {
     let counts = only(rt, report);
     assert!(rt; counts.arrived == 2 && counts.taken == 1);
@@ -287,7 +287,7 @@ fn are_refused(rt: &impl Abort, report: &WorkReport) {
     }
 }
 
-/// Three packets.
+/// Returns three packets.
 fn three_packets(rt: &impl Abort, alloc: Global) -> [Vec<u8>; 3] {
     [FIRST, SECOND, SECOND].map(|packet| list_of(rt, alloc, packet))
 }

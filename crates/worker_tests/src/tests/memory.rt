@@ -11,10 +11,10 @@ use std::process::Abort;
 use std::sync::Wait;
 use std::thread::Threads;
 use studio_config::StudioSpec;
-use studio_io::{MemoryClock, MemoryFeed, MemorySink};
+use studio_io::{MemoryClock, MemoryFeed, MemorySink, NoGains};
 use studio_rings::{WorkFault, WorkReport};
 
-/// A studio of one stream, though one allocation may be refused.
+/// Returns a studio of one stream, though one allocation may be refused.
 fn one_stream_at_last(rt: &impl Abort, alloc: Global) -> StudioSpec {
     let studio = one_stream(alloc).or_else(|| one_stream(alloc));
     studio.expect(rt, "with memory again")
@@ -79,8 +79,10 @@ fn is_run_alone<R: Wait + Abort>(
         return false;
     };
     let (clock, sink) = (MemoryClock::new(&[0]), MemorySink::new(alloc));
-    match run_engine(rt, alloc, studio, feeds, clock, sink, NoObserver, NoRest) {
-        Ok((report, sink, _)) => {
+    match run_engine(
+        rt, alloc, studio, feeds, clock, sink, NoObserver, NoRest, NoGains,
+    ) {
+        Ok((report, sink, _, _)) => {
             kept_or_reported(rt, &report, &sink);
             true
         }

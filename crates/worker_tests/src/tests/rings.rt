@@ -19,8 +19,8 @@ use studio_ends::*;
 
 pub(super) const MEDIA: StreamClock = StreamClock::Media { offset: 0 };
 
-/// One stream of L24 on two paths, in packets of six sampling instants, twelve later, by a clock, over a window of so
-/// many numbers; its output is alike.
+/// Returns a studio of one stream of L24 on two paths, in packets of six sampling instants, twelve later, by a clock,
+/// over a window of so many numbers. Its output is alike.
 pub(super) fn studio_of(
     rt: &impl Abort,
     alloc: Global,
@@ -30,7 +30,7 @@ pub(super) fn studio_of(
     studio_in(alloc, clock, width).expect(rt, "there is memory")
 }
 
-/// Its stream.
+/// Returns the stream of that studio.
 fn stream_in(clock: StreamClock, width: u16) -> Result<StreamSpec, SpecFault> {
     StreamSpec::new(Enc::L24, 1, 6, 96, None, clock, 12, width, 2)
 }
@@ -41,7 +41,7 @@ fn studio_in(alloc: Global, clock: StreamClock, width: u16) -> Option<StudioSpec
     sum_of(alloc, &[spec], 6)
 }
 
-/// The ends of a studio, over rings of so many places.
+/// Returns the ends of a studio, over rings of so many places.
 pub(super) fn open_ends(
     rt: &impl Abort,
     alloc: Global,
@@ -56,7 +56,7 @@ pub(super) fn open_ends(
     }
 }
 
-/// The last of a list.
+/// Removes the last of a list, and returns it.
 pub(super) fn last_of<T: Drop>(rt: &impl Abort, list: &mut Vec<T>) -> T
     ensures { list.old.items ≡ list.new.items ++ result ∷ [] }
 {
@@ -95,7 +95,8 @@ fn one_stream(rt: &impl Abort, alloc: Global, clock: StreamClock, ring_len: usiz
     }
 }
 
-/// A turn's outcome: packets of the first two paths, marks, the time it reached, and the reason why it stopped.
+/// Makes a turn, and returns its outcome: packets of the first two paths, marks, the time it reached, and the reason
+/// why it stopped.
 #[tactic(auto, using(crate::proofs::OneStreamLemmas::turned_same))]
 fn turn(rt: &impl Abort, stream: &mut StreamEnd, now: i64) -> (u32, u32, u32, i64, StopReason)
     ensures { HasSameRings stream.old stream.new }
@@ -109,7 +110,7 @@ fn turn(rt: &impl Abort, stream: &mut StreamEnd, now: i64) -> (u32, u32, u32, i6
     }
 }
 
-/// A turn of the mixer.
+/// Makes a turn of the mixer.
 fn mixed(mix: &mut MixEnd, out: &mut [u8; 1452]) -> MixNote
     ensures { AllTakeSome mix.old.sides.items mix.new.sides.items }
 {
@@ -117,7 +118,7 @@ fn mixed(mix: &mut MixEnd, out: &mut [u8; 1452]) -> MixNote
     mix.turn(out)
 }
 
-/// A turn of the mixer, which takes this many marks and gives a datagram with these samples.
+/// Tests a turn of the mixer, which takes this many marks and gives a datagram with these samples.
 fn mixes(rt: &impl Abort, mix: &mut MixEnd, taken: u32, samples: &[u8])
     ensures { AllTakeSome mix.old.sides.items mix.new.sides.items }
 {
@@ -216,7 +217,7 @@ fn still_open(stream: &mut StreamEnd) -> Option<[bool; 4]>
     }
 }
 
-/// The monitor has these counts next, or none.
+/// Tests that the monitor has these counts next, or none.
 fn shows(rt: &impl Abort, monitor: &mut MonitorEnd, expected: Option<(u64, u64)>) {
     let Some(counts) = monitor.next() else {
         assert!(rt; expected.is_none(), "there are counts");
@@ -268,7 +269,7 @@ fn counts_reach_the_monitor(rt: HostRuntime) {
     play(&rt, &mut ends, &SHOWN);
 }
 
-/// A turn of the mixer that gives this datagram.
+/// Tests a turn of the mixer that gives this datagram.
 fn gives(rt: &impl Abort, mix: &mut MixEnd, datagram: &[u8]) {
     let mut out = [0u8; 1452];
     let note = mixed(mix, &mut out);
@@ -276,7 +277,7 @@ fn gives(rt: &impl Abort, mix: &mut MixEnd, datagram: &[u8]) {
     assert!(rt; out.starts_with(datagram), "the datagram of the block");
 }
 
-/// A turn of the mixer that takes this many marks and gives none.
+/// Tests a turn of the mixer that takes this many marks and gives none.
 fn gives_none(rt: &impl Abort, mix: &mut MixEnd, taken: u32)
     ensures { AllTakeSome mix.old.sides.items mix.new.sides.items }
 {
@@ -318,12 +319,12 @@ fn offer_thousands(rt: &impl Abort, alloc: Global, path: &mut PathEnd) {
     }
 }
 
-/// A stream takes what has come, and hands on its marks up to 96.
+/// Makes two turns of a stream, which takes the packets that have come and passes on its marks up to 96.
 fn gives_marks(rt: &impl Abort, stream: &mut StreamEnd) {
     assert!(rt; stream.turn(0).is_ok() && stream.turn(96).is_ok());
 }
 
-/// One stream gives its marks, of which the mixer takes so many and gives no datagram, and then the other stream.
+/// Lets one stream give its marks, of which the mixer takes so many and gives no datagram, and then the other stream.
 fn give_in_turn(
     rt: &impl Abort,
     early: &mut StreamEnd,
@@ -336,8 +337,8 @@ fn give_in_turn(
     gives_marks(rt, late);
 }
 
-/// The first stream has eight packets, the second one none, and they give their marks in this order. Up to 96 the first
-/// one has fifteen slots, of which the first block wants eight, and the second one is silent up to 48.
+/// Tests two streams that give their marks in this order: the first one has eight packets, the second one none. Up to
+/// 96 the first one has fifteen slots, of which the first block wants eight, and the second one is silent up to 48.
 fn mixes_in_order(rt: &impl Abort, alloc: Global, last_first: bool) {
     let TwoStreams {
         mut of_first,

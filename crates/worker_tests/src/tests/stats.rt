@@ -129,7 +129,7 @@ fn gives_result(ends: &mut Ends, stats: &mut StatsReceivers, step: Step) -> bool
     }
 }
 
-/// The ends and receivers of that stream.
+/// Returns the ends and receivers of that stream.
 fn open_both(rt: &impl Abort, alloc: Global) -> (Ends, StatsReceivers) {
     let studio = studio_of(rt, alloc, MEDIA, 8);
     match open_with_stats(alloc, &studio, 4) {

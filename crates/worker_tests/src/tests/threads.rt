@@ -13,7 +13,7 @@ use studio_ends::{MixEnd, Offer, PathCounts, PathEnd, StreamEnd};
 /// The packets that each path sends.
 const PACKETS: u8 = 100;
 
-/// The packet of a number: six samples that say it.
+/// Returns the packet of a number: six samples that say it.
 fn packet(number: u8) -> [u8; 30] {
     let [high, low] = (u16::from(number) * 6).to_be_bytes();
     let mut octets = FIRST;
@@ -92,7 +92,7 @@ fn mix_all(rt: &(impl Wait + Abort), mut mix: MixEnd, blocks: u8) {
     }
 }
 
-/// The four threads, over rings of so many places. The last packet's deadline is not reached.
+/// Runs the four threads, over rings of so many places. The last packet's deadline is not reached.
 fn by_threads(rt: &(impl Threads + Wait + Abort + Sync), alloc: Global, places: usize) {
     let studio = studio_of(rt, alloc, MEDIA, 128);
     let mut ends = open_ends(rt, alloc, &studio, places);

@@ -56,7 +56,7 @@ impl Feed for TimedFeed<'_, '_> {
     }
 }
 
-/// Keeps when it was handed its datagrams.
+/// A sink that keeps the times at which it was passed its datagrams.
 #[derive(Drop)]
 pub(super) struct TimedSink<'a> {
     pub(super) time: &'a AtomicI64,

@@ -15,14 +15,20 @@ use studio_ends::{Ends, OpenFault, open};
 use studio_io::{MemoryClock, MemoryFeed, MemorySink};
 use studio_rings::{Clock, Feed, Sink, WorkFault, WorkReport, run_workers};
 
-/// One stream on two paths, in packets of six sampling instants; its output is alike. None where memory was refused.
+/// Returns a studio of one stream on two paths, in packets of six sampling instants, whose output is alike. None if an
+/// allocation fails.
 pub(super) fn one_stream(alloc: Global) -> Option<StudioSpec> {
     let spec = stream(6, 12, 2).ok()?;
     sum_of(alloc, &[spec], 6)
 }
 
 /// Opens the rings of a studio. None if an allocation fails, which is the only fault of rings of these lengths.
-fn try_open(rt: &impl Abort, alloc: Global, studio: &StudioSpec, places: usize) -> Option<Ends>
+pub(super) fn try_open(
+    rt: &impl Abort,
+    alloc: Global,
+    studio: &StudioSpec,
+    places: usize,
+) -> Option<Ends>
     ensures opened { IfSome result (AreOpened studio.now places) }
 {
     match open(alloc, studio, places) {
@@ -86,7 +92,7 @@ pub(super) fn run_one<R: Threads + Wait + Abort + Sync, F: Feed + Send, C: Clock
     run(rt, alloc, &studio, places, feeds, clocks, sink)
 }
 
-/// These in a list.
+/// Returns a list of these.
 pub(super) fn list_of<T: Drop, const N: usize>(
     rt: &impl Abort,
     alloc: Global,
@@ -98,14 +104,14 @@ pub(super) fn list_of<T: Drop, const N: usize>(
     list
 }
 
-/// The counts of the only stream.
+/// Returns the counts of the only stream, of a settled run.
 pub(super) fn only(rt: &impl Abort, report: &WorkReport) -> Counts {
     assert!(rt; report.settled, "all rings are finished and drained");
     assert!(rt; report.streams.len() == 1);
     report.streams[0].merge
 }
 
-/// Blocks, and how many of them were sent and failed at each address.
+/// Returns the number of blocks, and how many of them were sent and failed at each address.
 pub(super) fn sends(report: &WorkReport) -> (u64, [u64; 2], [u64; 2]) {
     let sent = [report.sent_a, report.sent_b];
     let faults = [report.fault_a, report.fault_b];
@@ -124,7 +130,7 @@ const OUTPUT: [[u8; 30]; 2] = [
     ],
 ];
 
-/// These are both datagrams.
+/// Tests that these are both datagrams.
 pub(super) fn gave_both(rt: &impl Abort, kept: &[Vec<u8>]) {
     assert!(rt; kept.len() == 2);
     let [first, second] = &OUTPUT;
@@ -132,7 +138,7 @@ pub(super) fn gave_both(rt: &impl Abort, kept: &[Vec<u8>]) {
     assert!(rt; kept[1].as_slice() == second.as_slice(), "the second");
 }
 
-/// Both packets.
+/// Returns both packets.
 pub(super) fn two_packets(rt: &impl Abort, alloc: Global) -> [Vec<u8>; 2] {
     [list_of(rt, alloc, FIRST), list_of(rt, alloc, SECOND)]
 }
@@ -165,13 +171,13 @@ fn runs_alike<R: Threads + Wait + Abort + Sync>(
     gave_both(rt, sink.kept());
 }
 
-/// Both packets were taken once, doubled once, and sent to both addresses.
+/// Tests that both packets were taken once, doubled once, and sent to both addresses.
 fn is_alike(rt: &impl Abort, report: &WorkReport) {
     are_got(rt, report);
     assert!(rt; sends(report) == (2, [2, 2], [0, 0]));
 }
 
-/// Both packets were taken once and doubled once, and no feed failed.
+/// Tests that both packets were taken once and doubled once, and no feed failed.
 fn are_got(rt: &impl Abort, report: &WorkReport) {
     let counts = only(rt, report);
     assert!(rt; counts.arrived == 4 && counts.taken == 2 && counts.double == 2);
@@ -269,7 +275,7 @@ fn got_all(rt: &impl Abort, report: &WorkReport) {
     assert!(rt; sends(report) == (2, [2, 2], [0, 0]));
 }
 
-/// The datagrams are the sums, and then the ones alone.
+/// Tests that the datagrams are the sums, and then the ones alone.
 fn are_the_sums(rt: &impl Abort, alloc: Global, kept: &[Vec<u8>]) {
     assert!(rt; kept.len() == 2);
     assert!(rt; kept[0] == sums(alloc).expect(rt, "there is memory"));
@@ -323,40 +329,67 @@ fn run_failing<R: Threads + Wait + Abort + Sync>(
     report
 }
 
-/// A run's faults and its expected counts: how both feeds fail; arrived, taken and double; and each feed's faults.
-pub(super) type Failure = (Failing, Failing, [u64; 3], [u64; 2]);
+/// A run whose feeds fail, and its counts.
+#[derive(Clone, Copy)]
+pub(super) struct Failure {
+    pub(super) shows: &'static str,
+    pub(super) first: Failing,
+    pub(super) second: Failing,
+    /// The packets that arrived, that were taken, and that were doubles.
+    pub(super) arrivals: [u64; 3],
+    /// The faults of each feed.
+    pub(super) faults: [u64; 2],
+}
 
 pub(super) const FAILURES: [Failure; 4] = [
-    ((999, 0), (0, 0), [4, 2, 2], [999, 0]),
-    ((1_000, 0), (0, 0), [2, 2, 0], [1_000, 0]),
-    ((0, 0), (1_000, 0), [2, 2, 0], [0, 1_000]),
-    ((1, 1), (999, 1), [4, 2, 2], [3, 1_001]),
+    Failure {
+        shows: "999 faults in a row end no feed",
+        first: (999, 0),
+        second: (0, 0),
+        arrivals: [4, 2, 2],
+        faults: [999, 0],
+    },
+    Failure {
+        shows: "1,000 faults in a row end the first feed",
+        first: (1_000, 0),
+        second: (0, 0),
+        arrivals: [2, 2, 0],
+        faults: [1_000, 0],
+    },
+    Failure {
+        shows: "1,000 faults in a row end the second feed",
+        first: (0, 0),
+        second: (1_000, 0),
+        arrivals: [2, 2, 0],
+        faults: [0, 1_000],
+    },
+    Failure {
+        shows: "after a datagram faults are counted from 0 again",
+        first: (1, 1),
+        second: (999, 1),
+        arrivals: [4, 2, 2],
+        faults: [3, 1_001],
+    },
 ];
 
-/// Both packets were got, so much arrived, was taken and double, and so often each feed failed.
-pub(super) fn has_failed(
-    rt: &impl Abort,
-    report: &WorkReport,
-    arrivals: [u64; 3],
-    faults: [u64; 2],
-) {
+/// Tests that both packets were got, and the run's counts.
+pub(super) fn has_failed(rt: &impl Abort, report: &WorkReport, failure: &Failure) {
+    let shows = failure.shows;
     let counts = only(rt, report);
-    assert!(rt; counts.got == 2 && report.blocks == 2);
+    assert!(rt; counts.got == 2 && report.blocks == 2, "{shows}");
+    let arrivals = [counts.arrived, counts.taken, counts.double];
+    assert!(rt; arrivals == failure.arrivals, "{shows}: {arrivals:?}");
     assert!(rt;
-        [counts.arrived, counts.taken, counts.double] == arrivals,
-        "arrivals: {arrivals:?}"
-    );
-    assert!(rt;
-        report.feed_faults.as_slice() == faults.as_slice(),
-        "faults: {faults:?}"
+        report.feed_faults.as_slice() == failure.faults.as_slice(),
+        "{shows}"
     );
 }
 
 /// A feed that fails is asked again, up to 999 times in a row; after 1,000 its path has ended.
 #[test]
 fn a_feed_ends_after_1000_faults(rt: HostRuntime) {
-    for (first, second, arrivals, faults) in &FAILURES {
-        let report = run_failing(&rt, rt.alloc(), *first, *second);
-        has_failed(&rt, &report, *arrivals, *faults);
+    for failure in &FAILURES {
+        let report = run_failing(&rt, rt.alloc(), failure.first, failure.second);
+        has_failed(&rt, &report, failure);
     }
 }

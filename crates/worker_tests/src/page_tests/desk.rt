@@ -1,0 +1,91 @@
+//! A desk of two output channels and two inputs, in memory. The next block begins at 480.
+use gain_mix::ChangeFault;
+use status_page::{DeskAnswer, GainDesk, GainShape};
+use studio_io::{GainAction, GainAnswer, GainRequest};
+
+/// The start of the next block.
+const NEXT: i64 = 480;
+
+/// A time before which there are too many changes.
+const FULL: i64 = 4_800;
+
+/// A desk that keeps one matrix.
+#[derive(Drop)]
+pub(super) struct MemoryDesk {
+    shape: GainShape,
+    gains: [i32; 4],
+    /// True once the run has ended.
+    pub(super) has_ended: bool,
+}
+
+impl MemoryDesk {
+    /// Returns a desk with the gains 1 to 4.
+    pub(super) fn new(shape: GainShape) -> MemoryDesk {
+        MemoryDesk {
+            shape,
+            gains: [1, 2, 3, 4],
+            has_ended: false,
+        }
+    }
+
+    /// Returns the answer to a request with these gains.
+    fn answer(&mut self, request: GainRequest, gains: &[i32]) -> GainAnswer {
+        let at = request.time(NEXT);
+        if !request.action.is_change() {
+            return GainAnswer::Shown(at.max(NEXT));
+        }
+        if at < NEXT {
+            return GainAnswer::Refused(ChangeFault::Time);
+        }
+        if at >= FULL {
+            return GainAnswer::Refused(ChangeFault::TooMany);
+        }
+        if self.set(request.action, gains) {
+            GainAnswer::Taken(at)
+        } else {
+            GainAnswer::Refused(ChangeFault::Shape)
+        }
+    }
+
+    /// Sets the gains that are asked for, and returns true if they are of the matrix.
+    fn set(&mut self, action: GainAction, gains: &[i32]) -> bool {
+        match action {
+            GainAction::SetAll if gains.len() == 4 => {
+                self.gains = [gains[0], gains[1], gains[2], gains[3]];
+                true
+            }
+            GainAction::SetOne {
+                output,
+                input,
+                gain,
+            } if output < 2 && input < 2 => {
+                self.gains[2 * output + input] = gain;
+                true
+            }
+            _ => false,
+        }
+    }
+}
+
+impl GainDesk for MemoryDesk {
+    // Nothing is claimed of this desk: its tests look at what the page answers.
+    ghost asks = { λ old request sent outcome shown new. Unit {0} };
+
+    fn shape(&self) -> GainShape {
+        self.shape
+    }
+
+    fn ask(&mut self, request: GainRequest, gains: &mut [i32]) -> DeskAnswer {
+        if self.has_ended {
+            return DeskAnswer::NoAnswer;
+        }
+        let answer = self.answer(request, gains);
+        if gains.len() == 4 {
+            gains.copy_from_slice(&self.gains);
+        }
+        DeskAnswer::Answered {
+            answer,
+            next_block_start: NEXT,
+        }
+    }
+}
