@@ -7,7 +7,7 @@ from collections import Counter, defaultdict, namedtuple
 
 FRAMES, LATENCY, WINDOW, TYPE, OCTETS = 6, 12, 8, 96, 18
 PROBATION = 8
-# a sender is astray if so many of its last ones are
+# a sender is astray if so many of the last arrivals on a path are behind or beyond
 ASTRAY, LAST = 8, 64
 LATEST = 2**60
 
@@ -142,7 +142,7 @@ def stands(stream, anchor, time, stood, path, packet):
 
 
 def is_slip(stood):
-    """Whether the last arrival, astray itself, is one of many on its path."""
+    """Whether the sender is astray with the last arrival: it is behind or beyond, and so are many on its path."""
     last = stood[-1]
     many = sum(one.behind or one.beyond for one in last_of_path(stood, last.path)) >= ASTRAY
     return (last.behind or last.beyond) and many

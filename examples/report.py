@@ -1,5 +1,5 @@
 #!/usr/bin/env python3
-"""examples/report.py FOLDER: prints an example's report as the program has to print it.
+"""examples/report.py FOLDER [FILE]: prints an example's report, report.txt or another file, as the program has to print it.
 
 The scripts of examples/, tests/ and gate/ import it: it has the one list of the counts in the line of a merge. A stored report may
 lack a count that is 0, so a further count changes only the reports in which it isn't 0.
@@ -36,11 +36,11 @@ def whole(line):
     return merge_line(line.split()[1], counts, paths) if counts.keys() <= set(count_words(paths)) else line
 
 
-def stored(folder):
+def stored(folder, name="report.txt"):
     """The report of an example."""
-    with open(os.path.join(folder, "report.txt")) as file:
+    with open(os.path.join(folder, name)) as file:
         return "".join(whole(line) + "\n" for line in file.read().splitlines())
 
 
 if __name__ == "__main__":
-    print(stored(sys.argv[1]), end="")
+    print(stored(*sys.argv[1:]), end="")
