@@ -2,7 +2,8 @@
 """check.py FOLDER: tests the element darbexummix, whose plugin is in FOLDER, against what a sender sent on 127.0.0.1.
 
 One path loses a fifth of its packets, and nothing is missing; then both do, and only what both lost is silence. Two elements stand
-in one pipeline. It prints what came out, and fails where it differs.
+in one pipeline. Gains move while the mix runs, by the program move, which is in FOLDER too (move.c). It prints what came out, and
+fails where it differs.
 """
 import os
 import re
@@ -11,6 +12,7 @@ import socket
 import subprocess
 import sys
 import tempfile
+import threading
 import time
 from pathlib import Path
 
@@ -19,6 +21,8 @@ PACKETS = int(os.environ.get("PACKETS", "1500"))
 FRAME = 6
 # A second, in sampling instants: a machine that is held up for a part of it makes no packet late.
 LATENCY = 48_000
+# The value of each sample where gains move: a quarter of it is a whole number.
+LEVEL = 1 << 20
 CONFIG = f"""open_at = 0
 [[stream]]
 encoding = "L24"
@@ -177,8 +181,90 @@ def two_elements(room):
     expect("frames of the second element", (same, silent) == (frames, 0), (frames, same, silent))
 
 
+class LevelSender(threading.Thread):
+    """Sends packets of 1 ms to a port until it is stopped: each sample has the value LEVEL on the left, and -LEVEL on the right."""
+
+    def __init__(self, port):
+        super().__init__(daemon=True)
+        self.port, self.is_stopped = port, threading.Event()
+
+    def run(self):
+        frame = LEVEL.to_bytes(3, "big", signed=True) + (-LEVEL).to_bytes(3, "big", signed=True)
+        begin, number = time.monotonic(), 0
+        with socket.socket(socket.AF_INET, socket.SOCK_DGRAM) as sender:
+            while not self.is_stopped.wait(max(0, begin + number / 1000 - time.monotonic())):
+                head = bytes([0x80, 96]) + (number % 65536).to_bytes(2, "big") + (48 * number).to_bytes(4, "big") + bytes(4)
+                sender.sendto(head + frame * 48, ("127.0.0.1", self.port))
+                number += 1
+
+
+def frames_of(path):
+    """The samples of a mix in a file, left and right: a frame's place in the file is its media time."""
+    octets = path.read_bytes() if path.exists() else b""
+    value = lambda at: int.from_bytes(octets[at : at + 3], "big", signed=True)
+    return [(value(at), value(at + 3)) for at in range(0, len(octets) - FRAME + 1, FRAME)]
+
+
+def wait_for_sound(path, begin):
+    """Waits until the mix has sound from a media time on."""
+    ends = time.monotonic() + 20
+    while not any(left for left, _ in frames_of(path)[begin + 480 :]):
+        expect(f"sound from {begin} on", time.monotonic() < ends, len(frames_of(path)))
+        time.sleep(0.05)
+
+
+def moved_gains(room):
+    """Gains change at the next block, and at a time within a block: exactly there, and both channels by their own gain. Changes that
+    can't be are refused by their codes, and change nothing; nor does a flush of the path."""
+    (port,) = free_ports(1)
+    config, mix = Path(room) / "studio.toml", Path(room) / "mix.raw"
+    config.write_text(CONFIG.replace(f"latency = {LATENCY}", "latency = 9600"))
+    pipeline = f"darbexummix name=mix location={config} udpsrc name=in port={port} address=127.0.0.1 ! mix.sink_0_0 mix.src ! rtpL24depay ! filesink buffer-mode=unbuffered location={mix}"
+    child = subprocess.Popen([f"{FOLDER}/move", pipeline], stdin=subprocess.PIPE, stdout=subprocess.PIPE, stderr=subprocess.PIPE, text=True, env=ENVIRONMENT)
+
+    def asked(*words):
+        child.stdin.write(f"{' '.join(map(str, words))}\n")
+        child.stdin.flush()
+        return int(child.stdout.readline())
+
+    sender = LevelSender(port)
+    sender.start()
+    try:
+        wait_for_sound(mix, 0)
+        # DARBEXUM_BAD_SHAPE, DARBEXUM_BAD_GAIN and DARBEXUM_BAD_TIME.
+        codes = asked(-1, 65536), asked(-1, 1_048_577, 0, 0, 0), asked(0, 0, 0, 0, 0)
+        expect("changes that are refused", codes == (-14, -15, -16), codes)
+        # A path that is flushed loses packets, and the mix goes on in the same time.
+        expect("a flush", asked("flush in") == 1, "no")
+        wait_for_sound(mix, len(frames_of(mix)) + 9600)
+        first = asked(-1, 16384, 0, 0, 16384)
+        expect("the next block", first > 0 and first % 48 == 0, first)
+        second = first + 9607
+        found = asked(second, 65536, 0, 0, 32768)
+        expect("a time within a block", found == second, found)
+        wait_for_sound(mix, second)
+        _, faults = child.communicate(timeout=30)
+    finally:
+        sender.is_stopped.set()
+        sender.join()
+        if child.poll() is None:
+            child.kill()
+            child.wait()
+    expect("the end", (child.returncode, faults) == (0, ""), (child.returncode, faults))
+    frames = frames_of(mix)
+    for begin, end, level in (
+        (0, first, (LEVEL, -LEVEL)),
+        (first, second, (LEVEL // 4, -LEVEL // 4)),
+        (second, len(frames), (LEVEL, -LEVEL // 2)),
+    ):
+        # A packet that came late on a busy machine is silent.
+        found = {frame for frame in frames[begin:end] if frame != (0, 0)}
+        expect(f"the samples from {begin} to {end}", found == {level}, found)
+    print(f"check.py: gains change at {first} and {second}, and nowhere else in {len(frames)} frames")
+
+
 def main():
-    for part in (inspect, refused, one_path, both_paths, two_elements):
+    for part in (inspect, refused, one_path, both_paths, two_elements, moved_gains):
         with tempfile.TemporaryDirectory(prefix="darbexum-gstreamer-") as room:
             part(room)
 
