@@ -68,10 +68,12 @@ test:
 	tests/loopback $(program)
 	tests/sockets $(program)
 	tests/page $(program)
+	tests/faders
+	tests/control $(program)
 	tests/networks $(program)
 	tests/senders $(program)
 	tests/library $(program) live
-	@echo "gate: pages, proofs, edits, tests, examples, faults, statuses, blocks, WAV files, charts, captures, SDP files, package, library, engine, memory, live runs, pages, networks and senders passed"
+	@echo "gate: pages, proofs, edits, tests, examples, faults, statuses, blocks, WAV files, charts, captures, SDP files, package, library, engine, memory, live runs, pages, faders, control, networks and senders passed"
 
 %.ran:
 	$* $(program)

@@ -100,6 +100,28 @@ def missing_keys():
         yield "docs/CONFIGURATION.md has another file than examples/every-key/studio.toml"
 
 
+def defaults():
+    """The defaults that `help config` prints, by key. A key of which the source has no text is required."""
+    names = dict(re.findall(r'Key::(\w+) => "(\w+)"', (SOURCES / "studio_config/src/config/keys.rt").read_text()))
+    text = (SOURCES / "file_commands/src/config_help.rt").read_text()
+    for arm, default in re.findall(r'((?:Key::\w+\s*\|?\s*)+)=> "([^"]+)"', text):
+        yield from ((names[name], default) for name in re.findall(r"Key::(\w+)", arm))
+
+
+def wrong_defaults():
+    """Keys whose default in CONFIGURATION is not that of `help config`. Words after a semicolon explain it."""
+    known = dict(defaults())
+    for table in page("docs/CONFIGURATION.md").split("\n| Key |")[1:]:
+        head, _, *rows = [[cell.strip() for cell in row.strip("|").split("|")] for row in table.partition("\n\n")[0].splitlines()]
+        column = head.index("Default") + 1 if "Default" in head else None
+        for row in rows if column else []:
+            written = row[column].replace("`", "").partition(";")[0]
+            for key in re.findall(r"`(\w+)`", row[0]):
+                # A source (SSRC) has a default in a stream's table alone.
+                if written != known.get(key, "") and (key, written) != ("ssrc", "any"):
+                    yield f"docs/CONFIGURATION.md has the default '{written}' of {key}, and help config '{known.get(key, 'required')}'"
+
+
 def error_lines():
     """What each fault's line begins with."""
     for name in ERRORS:
@@ -221,6 +243,7 @@ def differences():
     yield from broken_links()
     yield from wrong_words()
     yield from missing_keys()
+    yield from wrong_defaults()
     yield from missing_faults()
     yield from lacks("docs/FORMATS.md", command_words(), "the word")
     yield from lacks("docs/OPERATING.md", metrics(), "the metric")

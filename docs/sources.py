@@ -1,4 +1,5 @@
 """What the sources say of themselves: crates, tests, edits, public calls and lemma files, each with its sentence."""
+import ast
 import re
 from functools import cache
 from pathlib import Path
@@ -139,6 +140,11 @@ def code_files(crate):
     return sorted((ROOT / "crates" / crate / "src").rglob("*.rt"))
 
 
+def logic_files(crate):
+    """The files of a crate's definitions and lemmas."""
+    return [file for folder in ("specs", "proofs") for file in sorted((ROOT / "crates" / crate / folder).glob("*.antt"))]
+
+
 def code_of(crate):
     """The text of each file of a crate's code."""
     return [file.read_text() for file in code_files(crate)]
@@ -237,12 +243,12 @@ CASE_PLACES = {
     "Streams": [f"{RECEPTION}/tests/{name}.rt" for name in ("numbers", "streams")],
     "Reception": [f"{RECEPTION}/tests/{name}.rt" for name in ("merges", "boundaries", "windows", "runs")],
     "Lanes": [f"{RECEPTION}/tests/lanes.rt"],
-    "Gains": [f"{STUDIO}/tests/gains.rt"],
+    "Gains": [f"{STUDIO}/tests/{name}.rt" for name in ("gains", "moving_gains")],
     "Outputs and blocks": [f"{STUDIO}/tests/{name}.rt" for name in ("datagrams", "mixer", "lists")],
     "Traces": [
         *(f"examples/{name}" for name in ("first", "wrapped", "lost", "arrival-clock", "two-streams", "unlike-packets", "every-key")),
-        *(f"examples/{name}" for name in ("silent-stream", "long-latency", "gain-change", "restart", "four-paths")),
-        *(f"examples/follow-{name}" for name in ("late", "early", "paths", "early-path", "pause", "stall", "flood")),
+        *(f"examples/{name}" for name in ("silent-stream", "long-latency", "gain-change", "moving-gains", "restart", "four-paths")),
+        *(f"examples/follow-{name}" for name in ("late", "seven", "early", "paths", "early-path", "pause", "stall", "restart", "flood")),
         "examples/capture",
         "examples/blocks",
         f"{STUDIO}/tests/players.rt",
@@ -252,12 +258,15 @@ CASE_PLACES = {
     "Rings": [f"{WORKERS}/tests/{name}.rt" for name in ("rings", "stats", "threads")],
     "Workers": [f"{WORKERS}/tests/{name}.rt" for name in ("workers", "holding", "memory")],
     "One thread": [f"{WORKERS}/tests/alone.rt"],
+    "Gains that move during a run": [f"{WORKERS}/tests/gain_moves.rt"],
     "Records and statistics": [f"{RECEPTION}/{name}.rt" for name in ("record_tests/octets", "record_tests/marks", "tally_tests", "drift_tests")],
     "Sockets and the clock": [f"{RECEPTION}/socket_tests.rt"],
-    "The page": [f"{WORKERS}/page_tests/{name}.rt" for name in ("texts", "requests", "sockets")],
-    "Captures and live runs": ["tests/captures", "tests/loopback", "tests/networks", "tests/page", "tests/senders"],
+    "The page": [f"{WORKERS}/page_tests/{name}.rt" for name in ("texts", "requests", "controls", "sockets")],
+    "Captures and live runs": ["tests/captures", "tests/control", "tests/loopback", "tests/networks", "tests/page", "tests/faders", "tests/senders"],
 }
 ROW = re.compile(r'\bshows:\s*"((?:[^"\\]|\\.)*)"', re.DOTALL)
+# The greatest length of a row of a script as it is listed.
+ROW_WIDTH = 160
 TEST = re.compile(r"#\[test\]\s*fn (\w+)")
 
 
@@ -270,8 +279,35 @@ def cases_at(place):
         _, sentence = (path / "README.md").read_text().splitlines()[:2]
         yield Case(place, path.name, sentence, [])
     else:
-        said = path.read_text().split('"""')[1]
-        yield Case(place, path.name, FIRST_SENTENCE.match(" ".join(said.partition(": ")[2].split()))[1], [])
+        text = path.read_text()
+        said = text.split('"""')[1]
+        yield Case(place, path.name, FIRST_SENTENCE.match(" ".join(said.partition(": ")[2].split()))[1], rows_of_script(text))
+
+
+def rows_of_script(text):
+    """The rows of a script: its tables, which are lists of tuples, each behind its comment, and the names of the cases that it runs."""
+    lines, tree, rows = text.splitlines(), ast.parse(text), []
+    for node in tree.body:
+        if isinstance(node, ast.Assign) and isinstance(node.value, ast.List):
+            parts = [part.value.elts if isinstance(part, ast.Starred) else [part] for part in node.value.elts]
+            entries = [entry for part in parts for entry in part if isinstance(entry, ast.Tuple)]
+            above = next(place for place in range(node.lineno - 2, -1, -1) if not lines[place].startswith("# "))
+            if entries:
+                rows.append((node.lineno, " ".join(line.removeprefix("# ") for line in lines[above + 1 : node.lineno - 1])))
+                rows += [(node.lineno, "  " + shortened(", ".join(map(ast.unparse, entry.elts)))) for entry in entries]
+    calls = {"Case", *(it.name for it in tree.body if isinstance(it, ast.FunctionDef) and it.args.args and it.args.args[0].arg == "name")}
+    for node in ast.walk(tree):
+        if isinstance(node, ast.Call) and isinstance(node.func, ast.Name) and node.func.id in calls and node.args:
+            name = node.args[0].value if isinstance(node.args[0], ast.Constant) else ""
+            # A name of one word is that of a file or a command.
+            if isinstance(name, str) and " " in name:
+                rows.append((node.lineno, name))
+    return list(dict.fromkeys(row for _, row in sorted(rows, key=lambda row: row[0])))
+
+
+def shortened(row):
+    """A row, of which the end is left out if it is long."""
+    return row if len(row) <= ROW_WIDTH else f"{row[: ROW_WIDTH - 3]} .."
 
 
 def cases_in(place, text):

@@ -1,0 +1,127 @@
+"""The table of docs/FORMATS.md that joins the names of each number in the report, in the lines of --stats, in /state and in /metrics.
+Keys, kinds and descriptions are those of the crate status_page, and the words of lines those of the crates that write the lines."""
+import re
+
+from sources import ROOT
+
+SOURCES = ROOT / "crates"
+FIELDS = SOURCES / "status_page/src/fields"
+METRICS = SOURCES / "status_page/src/page/metrics.rt"
+COUNTS = SOURCES / "rtp_stream/src/count_field.rt"
+# The files that write the lines of the report, and of --stats.
+REPORT = "studio_run/src/lines/counts.rt", "live_status/src/lines/report.rt", "studio_main/src/live_command.rt"
+STATS = "live_status/src/lines/running.rt", "live_status/src/lines/drift.rt"
+HEAD = "| In the report | In `--stats` | In `/state` | In `/metrics` | Meaning |\n|---|---|---|---|---|"
+
+# The words in lines of the numbers that are no counts of a merge: the first word of the line, and the word before the number. A line
+# with one number has no further word.
+IN_REPORT = {
+    "path_datagrams": "path offered",
+    "path_packets": "path sent",
+    "path_bad": "path bad",
+    "path_wrong_type": "path type",
+    "path_wrong_length": "path length",
+    "path_full": "path full",
+    "path_first": "merge from_a",
+    "path_unexpected": "unexpected",
+    "path_socket_faults": "feed faults",
+    "sends_failed": "sink fault_a",
+    "record_datagrams": "record",
+}
+IN_STATS = {
+    "stream_seconds_left": "left seconds",
+    "path_first": "stream from_a",
+    "path_drift_ppm": "drift ppm",
+    "path_astray": "drift astray",
+    "path_repeating": "drift repeating",
+    "path_unexpected": "socket unexpected",
+    "path_socket_faults": "socket faults",
+    "path_socket_ended": "socket ended",
+    "path_socket_dropped": "socket dropped",
+    "sends_failed": "run failed_a",
+    "record_state": "run record",
+    "record_datagrams": "run recorded",
+}
+# The numbers that no list of fields has, with their names in /state and the constant that describes them.
+FURTHER = {
+    "stream_state": ("state", "STATE_HELP", True),
+    "sends_failed": ("failed_sends", "FAILED_HELP", False),
+    "record_state": ("record.state", "RECORD_HELP", True),
+    "record_datagrams": ("record.datagrams", "RECORDED_HELP", False),
+}
+# Words of the report that are in nothing else.
+REPORT_ALONE = {"sink blocks": "Datagrams of the mix.", "sink sent_a": "Datagrams of the mix that were sent to the address of this copy."}
+# Words before numbers that are no counts.
+NO_COUNTS = {"time"}
+
+
+def read(path):
+    return (SOURCES / path).read_text()
+
+
+def texts(source, after, before="\n    }\n"):
+    """The texts of a function's arms, by variant."""
+    body = source.partition(after)[2].partition(before)[0]
+    return dict(re.findall(r'Field::(\w+) =>\s+"([^"]+)"', body))
+
+
+def gauges(source):
+    """The variants whose kind is a gauge."""
+    body = source.partition("fn kind(")[2].partition("\n    }\n")[0]
+    arms = re.findall(r"((?:\w+Field::\w+(?:\(_\))?\s*\|?\s*)+)=>\s*\{?\s*MetricKind::Gauge", body)
+    return {name for arm in arms for name in re.findall(r"Field::(\w+)", arm)}
+
+
+def row(report, stats, state, metric, meaning):
+    cells = *(f"`{name}`" if name else "–" for name in (report, stats, state, metric)), meaning
+    return f"| {' | '.join(cells)} |"
+
+
+def rows_of_counts():
+    """The counts of a merge, which have one word in both lines."""
+    source = COUNTS.read_text()
+    words, key, help_of = texts(source, "pub fn word("), texts(source, "pub fn key("), texts(source, "pub fn help(")
+    for name in re.findall(r"CountField::(\w+)", source.partition("pub const COUNT_FIELDS")[2].partition("];")[0]):
+        word = words.get(name, key[name])
+        yield row(f"merge {word}", f"stream {word}", key[name], f"darbexum_stream_{key[name]}_total", help_of[name])
+
+
+def rows_of_fields():
+    """The other numbers of a stream, of a path, of an output channel, and of the run."""
+    for group in ("stream", "path", "output"):
+        source = (FIELDS / f"{group}.rt").read_text()
+        help_of, gauge = texts(source, "fn help("), gauges(source)
+        for name, key in texts(source, "fn key(").items():
+            metric = f"darbexum_{group}_{key}{'' if name in gauge else '_total'}"
+            yield row(IN_REPORT.get(f"{group}_{key}"), IN_STATS.get(f"{group}_{key}"), key, metric, help_of[name])
+    source = METRICS.read_text()
+    for name, (state, constant, is_gauge) in FURTHER.items():
+        meaning = re.search(rf'const {constant}: &str =\s+"([^"]+)"', source)[1]
+        yield row(IN_REPORT.get(name), IN_STATS.get(name), state, f"darbexum_{name}{'' if is_gauge else '_total'}", meaning)
+
+
+def table():
+    """The lines of the table."""
+    alone = (row(words, None, None, None, meaning) for words, meaning in REPORT_ALONE.items())
+    return [HEAD, *rows_of_counts(), *rows_of_fields(), *alone]
+
+
+def words_of(files, pattern):
+    return {word for file in files for word in re.findall(pattern, read(file))} - NO_COUNTS
+
+
+def differences():
+    """Whether FORMATS has another table, and words of lines that the table lacks, or has too many."""
+    if "\n".join(table()) not in (ROOT / "docs" / "FORMATS.md").read_text():
+        yield "docs/FORMATS.md lacks the output of docs/list names"
+    counted = set(texts(COUNTS.read_text(), "pub fn key(").values()) | {"source"}
+    # The second copy of the mix, and the other paths, have names of the same form.
+    alike = lambda words: {word.replace("_b", "_a") for word in words}
+    last = lambda names: {name.split()[-1] for name in names}
+    report = words_of(REPORT, r'push_count\(text, "(\w+)"') | set(re.findall(r'writeln!\(output, "(\w+) \{', read(REPORT[-1]))) - {"open_at", "pcm", "wav"}
+    for found, named, kind in (
+        (report | {"from_a"}, {*IN_REPORT.values(), *REPORT_ALONE}, "the report"),
+        (words_of(STATS, r'push\(" (\w+)="\)') | {"from_a"}, IN_STATS.values(), "--stats"),
+    ):
+        yield from (f"docs/names.py lacks the word {word} of {kind}" for word in sorted(alike(found) - last(named) - counted))
+        yield from (f"docs/names.py has the word {word}, which {kind} doesn't have" for word in sorted(last(named) - alike(found) - counted))
