@@ -62,6 +62,7 @@ try:
 	@gate/try
 
 test:
+	@mkdir -p bin && date +%s > bin/gate-begun
 	docs/check
 	gate/progress rt ci $(ANEW)
 	$(MAKE) -j4 --no-print-directory $(addsuffix .ran,$(scripts))
@@ -73,7 +74,8 @@ test:
 	tests/networks $(program)
 	tests/senders $(program)
 	tests/library $(program) live
-	@echo "gate: pages, proofs, edits, tests, examples, faults, statuses, blocks, WAV files, charts, captures, SDP files, package, library, engine, memory, live runs, pages, faders, control, networks and senders passed"
+	@cat bin/gate-time
+	@echo "gate: pages, proofs, edits, tests, examples, faults, statuses, blocks, WAV files, charts, captures, SDP files, package, library, engine, memory, live runs, pages, faders, control, networks and senders passed in $$(( ($$(date +%s) - $$(cat bin/gate-begun)) / 60 )) minutes"
 
 %.ran:
 	$* $(program)
