@@ -125,7 +125,8 @@ pub struct LiveArgs<'a> {
     pub tai_offset: Option<&'a str>,
     /// The path of the run's record, if one is asked for.
     pub record: Option<&'a str>,
-    /// True if the fault of a socket is explained: what it is for, its address, and the system's error.
+    /// True if the fault of a device is explained: what the socket is for and its address, or the path of the file, and
+    /// the system's error.
     pub verbose: bool,
     /// The path of the file with the token of the page's control of gains, if the page is to have it.
     pub control: Option<&'a str>,

@@ -189,7 +189,7 @@ const LIVE: &[ArgSpec] = &[
     },
     ArgSpec {
         name: "verbose",
-        help: "If a socket cannot be opened, also print what it is for, its address and the system's error",
+        help: "If a socket or a file cannot be opened, also print its address or path, and the system's error",
         ..FLAG
     },
     ArgSpec {

@@ -1,6 +1,7 @@
 //! The faults of the program, with their lines on standard error and their exit statuses.
+use crate::explanation::Explanation;
 use file_commands::{CommandFault, ConfigFault};
-use live_io::{InheritedSocketFault, UnopenedSocket};
+use live_io::InheritedSocketFault;
 use live_run::LiveFault;
 use pcap_file::RecordEnd;
 use std::alloc::{AllocError, AllocFailed};
@@ -12,9 +13,9 @@ use wav_file::{PcmEnd, WavEnd};
 /// The hint at a fault of a configuration.
 const CONFIG_HINT: &str = "`darbexum check CONFIG` says where this is and what is allowed.";
 
-/// The hint at a socket that cannot be opened.
-const SOCKET_HINT: &str =
-    "With --verbose the next line says which socket this is, and the system's error.";
+/// The hint at a device of a live run that cannot be opened.
+const DEVICE_HINT: &str =
+    "With --verbose the next line says which socket or file this is, and the system's error.";
 
 /// The hint at a file that has no token for the control of gains.
 const CONTROL_HINT: &str =
@@ -32,15 +33,18 @@ pub(crate) enum ProgramFault {
     /// A clock could not be read, or the system does not know how far International Atomic Time is ahead.
     #[error("device: clock")]
     Clock,
+    /// The same, and this explains why.
+    #[error("device: clock\n{0}")]
+    ClockExplained(Explanation),
     /// A command, or the configuration of a live run, ended with a fault.
     #[error("{0}")]
     Command(#[from] CommandFault),
     /// A live run ended early.
     #[error("{0}")]
     Live(#[from] LiveFault),
-    /// A socket of a live run could not be opened, and the fault is to be explained.
-    #[error("device: socket\n{0}")]
-    Socket(UnopenedSocket),
+    /// A live run ended early, and this explains why.
+    #[error("{0}\n{1}")]
+    LiveExplained(LiveFault, Explanation),
     /// Sockets that the program inherited are refused, or an allocation for them failed.
     #[error("{0}")]
     Inherited(#[from] InheritedSocketFault),
@@ -50,6 +54,9 @@ pub(crate) enum ProgramFault {
     /// The file of `--control` cannot be read, others than its owner may read or write it, or it has no token.
     #[error("device: control")]
     Control,
+    /// The same, and this explains why.
+    #[error("device: control\n{0}")]
+    ControlExplained(Explanation),
     /// Two of the files of a live run, named by their options, are one file.
     #[error("usage: {0} are one file")]
     SameFile(&'static str),
@@ -73,11 +80,12 @@ impl ProgramFault {
             ProgramFault::Command(fault) => fault.status(),
             ProgramFault::Live(LiveFault::Memory) => 4,
             ProgramFault::Inherited(InheritedSocketFault::Memory) => 4,
-            ProgramFault::Live(_) | ProgramFault::Inherited(_) | ProgramFault::Clock => 5,
-            ProgramFault::Control => 5,
+            ProgramFault::Live(_) | ProgramFault::LiveExplained(_, _) => 5,
+            ProgramFault::Control | ProgramFault::ControlExplained(_) => 5,
+            ProgramFault::Clock | ProgramFault::ClockExplained(_) => 5,
+            ProgramFault::Inherited(_) | ProgramFault::PathEnded => 5,
             ProgramFault::RecordEnded(_) | ProgramFault::WavEnded(_) | ProgramFault::PcmEnded(_) =>
                 5,
-            ProgramFault::Socket(_) | ProgramFault::PathEnded => 5,
         }
     }
 
@@ -85,7 +93,13 @@ impl ProgramFault {
     pub(crate) fn hint(&self) -> Option<&'static str> {
         match self {
             ProgramFault::Command(CommandFault::Config(fault)) => config_hint(*fault),
-            ProgramFault::Live(LiveFault::Socket) => Some(SOCKET_HINT),
+            ProgramFault::Live(
+                LiveFault::Socket
+                | LiveFault::Page
+                | LiveFault::Record
+                | LiveFault::Wav
+                | LiveFault::Pcm,
+            ) => Some(DEVICE_HINT),
             ProgramFault::Control => Some(CONTROL_HINT),
             _ => None,
         }

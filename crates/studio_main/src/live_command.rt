@@ -1,4 +1,5 @@
 //! The command `live`: a live run, from a configuration to its report and the lines after it.
+use crate::explanation::{Explanation, SystemErrors, explained};
 use crate::fault::ProgramFault;
 use crate::run_files::{RunFiles, files_of};
 use crate::token_file::{TokenFiles, token_of};
@@ -33,8 +34,27 @@ struct OpenedStudio {
 /// Runs the studio of a configuration's octets over sockets, and writes its report to `output`. If counts are asked for
 /// while it runs, they go to `faults`. Files are the host's. Returns the first fault: of the configuration, of the
 /// offset or the time of `--clock`, of the token's file, of a missing port or an inherited socket, of the run's files,
-/// or of the run.
+/// or of the run. With `--verbose` that of a device is explained.
 pub(crate) fn run_live<
+    R: Threads + Wait + Sync + Net + Clock + RandomSource + Env + AllocGlobal,
+    H: Host + TokenFiles + SystemErrors,
+>(
+    rt: &R,
+    alloc: Global,
+    config: &[u8],
+    args: LiveArgs<'_>,
+    output: &mut H::Stdout,
+    faults: &mut H::Stderr,
+    host: &H,
+) -> Result<(), ProgramFault> {
+    match load_and_run(rt, alloc, config, args, output, faults, host) {
+        Err(fault) if args.verbose => Err(explained(rt, alloc, host, args, fault)?),
+        ran => ran,
+    }
+}
+
+/// Runs the studio of a configuration's octets as `run_live` does. Only the fault of a socket is explained.
+fn load_and_run<
     R: Threads + Wait + Sync + Net + Clock + RandomSource + Env + AllocGlobal,
     H: Host + TokenFiles,
 >(
@@ -119,20 +139,22 @@ fn run_loaded<
         token,
     );
     if args.verbose && matches!(ran, Err(LiveFault::Socket)) {
-        return Err(explained(alloc, studio, inputs.sockets)?);
+        return Err(socket_fault(alloc, studio, inputs.sockets)?);
     }
     finish(ran, studio, inputs, args, output)
 }
 
 /// Returns the fault of a run whose sockets could not all be opened, explained if the socket is known. Returns
 /// `AllocError` if an allocation fails.
-fn explained(
+fn socket_fault(
     alloc: Global,
     studio: &StudioSpec,
     sockets: SocketConfig<'_>,
 ) -> Result<ProgramFault, AllocError> {
     Ok(match unopened_socket(alloc, studio, sockets)? {
-        Some(unopened) => ProgramFault::Socket(unopened),
+        Some(unopened) => {
+            ProgramFault::LiveExplained(LiveFault::Socket, Explanation::Socket(unopened))
+        }
         None => ProgramFault::Live(LiveFault::Socket),
     })
 }

@@ -3,12 +3,14 @@
 //! `main` collects the words of the command line. `run` is the whole after that: it parses the words
 //! by `command_line`, runs the command, and returns the exit status. `file_commands` runs a command
 //! over files, and `live_command` the live command, whose files are those of `run_files`. A
-//! `ProgramFault` has the line and the exit status of every fault. `SystemHost` opens files by path,
-//! `pcm_output` the output of raw PCM, and `token_file` reads the token for the control of gains.
-//! `std_fds` opens the standard descriptors that are closed, before anything else. `terminal_help`
-//! has the help for a start by hand: without words, and behind a fault.
+//! `ProgramFault` has the line and the exit status of every fault, and `explanation` what `--verbose`
+//! adds to it. `SystemHost` opens files by path, `pcm_output` the output of raw PCM, and `token_file`
+//! reads the token for the control of gains. `std_fds` opens the standard descriptors that are closed,
+//! before anything else. `terminal_help` has the help for a start by hand: without words, and behind a
+//! fault.
 #![tactic(auto)]
 
+mod explanation;
 mod fault;
 mod live_command;
 mod pcm_output;
@@ -18,11 +20,12 @@ mod std_fds;
 mod terminal_help;
 mod token_file;
 
+use crate::explanation::SystemErrors;
 use crate::fault::ProgramFault;
 use crate::pcm_output::SystemPcm;
 use crate::program::run;
 use crate::std_fds::open_missing_fds;
-use crate::token_file::{TokenFiles, is_private};
+use crate::token_file::{TokenFiles, open_private};
 use file_commands::{CommandFault, Host};
 use pcap_file::{RecordEnd, RecordFault, RecordFile};
 use std::alloc::Global;
@@ -31,6 +34,7 @@ use std::io::{ErrorKind, Seek, SeekFrom, Stderr, Stdin, Stdout, Write};
 use std::os::unix::fs::MetadataExt;
 use std::process::ExitCode;
 use std::rt::Env;
+use std::sync::atomic::{AtomicI32, Ordering};
 use std::{env, fs, io};
 use studio_run::{ReadFault, read_octets};
 use wav_file::{FileFault, LiveWavFault, LiveWavFile, PcmFault, SeekFile, WavEnd};
@@ -39,6 +43,25 @@ use wav_file::{FileFault, LiveWavFault, LiveWavFile, PcmFault, SeekFile, WavEnd}
 #[derive(Clone, Copy)]
 struct SystemHost<'a> {
     rt: &'a HostRuntime,
+    /// The system's number of the error of the last file of a live run that could not be created, opened or read; 0 if
+    /// there was none.
+    // An atomic, since the host is shared.
+    error: &'a AtomicI32,
+}
+
+impl SystemHost<'_> {
+    /// Keeps the number of an error, and returns its kind.
+    fn note(&self, error: &io::Error) -> ErrorKind {
+        self.error
+            .store(error.raw_os_error().unwrap_or(0), Ordering::SeqCst);
+        error.kind()
+    }
+}
+
+impl SystemErrors for SystemHost<'_> {
+    fn last_error(&self) -> i32 {
+        self.error.load(Ordering::SeqCst)
+    }
 }
 
 impl Host for SystemHost<'_> {
@@ -90,8 +113,10 @@ impl Host for SystemHost<'_> {
                 file,
                 faults: self.rt.stderr(),
             }),
-            Err(fault) if fault.kind() == ErrorKind::AlreadyExists => Err(RecordFault::Exists),
-            Err(_) => Err(RecordFault::NotCreated),
+            Err(error) => match self.note(&error) {
+                ErrorKind::AlreadyExists => Err(RecordFault::Exists),
+                _ => Err(RecordFault::NotCreated),
+            },
         }
     }
 
@@ -101,13 +126,21 @@ impl Host for SystemHost<'_> {
                 file,
                 faults: self.rt.stderr(),
             }),
-            Err(fault) if fault.kind() == ErrorKind::AlreadyExists => Err(LiveWavFault::Exists),
-            Err(_) => Err(LiveWavFault::NotCreated),
+            Err(error) => match self.note(&error) {
+                ErrorKind::AlreadyExists => Err(LiveWavFault::Exists),
+                _ => Err(LiveWavFault::NotCreated),
+            },
         }
     }
 
     fn create_pcm(&self, path: Option<&str>) -> Result<SystemPcm, PcmFault> {
-        SystemPcm::open(self.rt, path)
+        match SystemPcm::open(self.rt, path) {
+            Ok(output) => Ok(output),
+            Err(error) => match self.note(&error) {
+                ErrorKind::AlreadyExists => Err(PcmFault::Exists),
+                _ => Err(PcmFault::NotCreated),
+            },
+        }
     }
 
     fn is_fifo(&self, path: &str) -> bool {
@@ -128,18 +161,14 @@ impl Host for SystemHost<'_> {
 
 impl TokenFiles for SystemHost<'_> {
     fn read_private(&self, alloc: Global, path: &str) -> Result<Vec<u8>, ReadFault> {
-        // Before the file is opened, since opening a named pipe waits for its other end.
-        if !fs::metadata(self.rt, path).is_ok_and(|file| is_private(&file)) {
-            return Err(ReadFault::Device);
+        match open_private(self.rt, path) {
+            Ok(Some(mut file)) => read_octets(alloc, &mut file),
+            Ok(None) => Err(ReadFault::Device),
+            Err(error) => {
+                self.note(&error);
+                Err(ReadFault::Device)
+            }
         }
-        let Ok(mut file) = fs::open(self.rt, path) else {
-            return Err(ReadFault::Device);
-        };
-        // And of the file that was opened, since another one may be at the path by now.
-        if !file.metadata().is_ok_and(|file| is_private(&file)) {
-            return Err(ReadFault::Device);
-        }
-        read_octets(alloc, &mut file)
     }
 }
 
@@ -233,7 +262,10 @@ fn main(rt: HostRuntime) -> ExitCode {
             &mut rt.stdin(),
             &mut rt.stdout(),
             &mut faults,
-            &SystemHost { rt: &rt },
+            &SystemHost {
+                rt: &rt,
+                error: &AtomicI32::new(0),
+            },
         ),
         Err(fault) => fault.report(&mut faults),
     };

@@ -7,7 +7,7 @@ use std::io::{ErrorKind, Stderr, Write};
 use std::os::fd::AsRawFd;
 use std::os::unix::fs::FileTypeExt;
 use std::{fs, io};
-use wav_file::{PcmEnd, PcmFault, PcmOutput, PcmRoom};
+use wav_file::{PcmEnd, PcmOutput, PcmRoom};
 
 /// The descriptor of standard output.
 const STDOUT: i32 = 1;
@@ -27,9 +27,10 @@ pub(crate) struct SystemPcm {
 }
 
 impl SystemPcm {
-    /// Returns the output of a path, or standard output if there is no path. Returns `Exists` if something is at the
-    /// path that is no FIFO, and `NotCreated` if the output cannot be opened.
-    pub(crate) fn open(rt: &HostRuntime, path: Option<&str>) -> Result<SystemPcm, PcmFault> {
+    /// Returns the output of a path, or standard output if there is no path. Returns an error of the kind
+    /// `AlreadyExists` if something is at the path that is no FIFO, and the system's error if the output cannot be
+    /// opened.
+    pub(crate) fn open(rt: &HostRuntime, path: Option<&str>) -> io::Result<SystemPcm> {
         let faults = rt.stderr();
         let Some(path) = path else {
             return Ok(SystemPcm {
@@ -42,7 +43,7 @@ impl SystemPcm {
         let file = if is_unread {
             open_fifo(rt, path)?
         } else {
-            create_file(rt, path)?
+            fs::File::create_new(rt, path)?
         };
         Ok(SystemPcm {
             file: Some(file),
@@ -114,34 +115,23 @@ pub(crate) fn is_fifo(rt: &HostRuntime, path: &str) -> bool {
     }
 }
 
-/// Opens a FIFO for writing without waiting for a reader.
+/// Opens a FIFO for writing without waiting for a reader. Returns an error of the kind `AlreadyExists` if something
+/// else is there by now.
 // For reading and writing first, which never waits. Then it has a reader, so that it can be opened for writing alone.
-fn open_fifo(rt: &HostRuntime, path: &str) -> Result<fs::File, PcmFault> {
+fn open_fifo(rt: &HostRuntime, path: &str) -> io::Result<fs::File> {
     let _both = open_existing(rt, path, true)?;
     let file = open_existing(rt, path, false)?;
     // Asked again, since the path may have become another one in the meantime.
-    match file.metadata() {
-        Ok(found) if found.file_type().is_fifo() => Ok(file),
-        _ => Err(PcmFault::Exists),
+    if !file.metadata()?.file_type().is_fifo() {
+        return Err(io::Error::from(ErrorKind::AlreadyExists));
     }
+    Ok(file)
 }
 
 /// Opens what is at a path for writing, and for reading too if `reads`.
-fn open_existing(rt: &HostRuntime, path: &str, reads: bool) -> Result<fs::File, PcmFault> {
+fn open_existing(rt: &HostRuntime, path: &str, reads: bool) -> io::Result<fs::File> {
     let mut options = OpenOptions::new();
     options.read(reads);
     options.write(true);
-    match options.open(rt, path) {
-        Ok(file) => Ok(file),
-        Err(_) => Err(PcmFault::NotCreated),
-    }
-}
-
-/// Creates an empty file at a path at which nothing is.
-fn create_file(rt: &HostRuntime, path: &str) -> Result<fs::File, PcmFault> {
-    match fs::File::create_new(rt, path) {
-        Ok(file) => Ok(file),
-        Err(fault) if fault.kind() == ErrorKind::AlreadyExists => Err(PcmFault::Exists),
-        Err(_) => Err(PcmFault::NotCreated),
-    }
+    options.open(rt, path)
 }

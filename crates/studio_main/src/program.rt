@@ -1,4 +1,5 @@
 //! The program: from the words of its command line to its exit status, with help, the version and usage faults.
+use crate::explanation::SystemErrors;
 use crate::fault::ProgramFault;
 use crate::live_command::run_live;
 use crate::terminal_help::{write_hint, write_terminal_help};
@@ -23,7 +24,7 @@ use std::time::Clock;
 /// `output`, and the line of a fault to `faults`. Files are the host's.
 pub(crate) fn run<
     R: Threads + Wait + Sync + Net + Clock + RandomSource + Env + AllocGlobal,
-    H: Host + TokenFiles,
+    H: Host + TokenFiles + SystemErrors,
 >(
     rt: &R,
     alloc: Global,
@@ -69,7 +70,7 @@ fn report_usage<W: Write, E: Write>(error: &Error, output: &mut W, faults: &mut 
 /// Runs the command that the words ask for.
 fn dispatch<
     R: Threads + Wait + Sync + Net + Clock + RandomSource + Env + AllocGlobal,
-    H: Host + TokenFiles,
+    H: Host + TokenFiles + SystemErrors,
 >(
     rt: &R,
     alloc: Global,

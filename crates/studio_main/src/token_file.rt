@@ -8,6 +8,7 @@ use live_run::Token;
 use std::alloc::Global;
 use std::fs::Metadata;
 use std::os::unix::fs::MetadataExt;
+use std::{fs, io};
 use studio_run::ReadFault;
 
 /// The greatest number of octets of a token's file: 256 of the token, and a line feed.
@@ -50,4 +51,19 @@ pub(crate) fn is_private(file: &Metadata) -> bool
     ensures short { IsTrue result → metadata_len file.now ≤ 257 }
 {
     file.is_file() && file.mode() % 0o100 == 0 && file.len() <= MAX_OCTETS
+}
+
+/// Returns the private file at a path, open for reading. Returns `None` if it is not private, and an error if it cannot
+/// be opened.
+pub(crate) fn open_private(rt: &HostRuntime, path: &str) -> io::Result<Option<fs::File>> {
+    // Before the file is opened, since opening a named pipe waits for its other end.
+    if !is_private(&fs::metadata(rt, path)?) {
+        return Ok(None);
+    }
+    let file = fs::open(rt, path)?;
+    // And of the file that was opened, since another one may be at the path by now.
+    if !is_private(&file.metadata()?) {
+        return Ok(None);
+    }
+    Ok(Some(file))
 }

@@ -1,0 +1,144 @@
+//! The explanations that `live --verbose` writes below the fault of a device: what could not be opened or read, and the
+//! system's error.
+use crate::fault::ProgramFault;
+use command_line::LiveArgs;
+use live_io::UnopenedSocket;
+use live_run::LiveFault;
+use std::alloc::{AllocError, Global};
+use std::fmt::{Display, Formatter};
+use std::net::{Ipv4Addr, Net, SocketAddrV4, TcpListener};
+use std::{fmt, io};
+use thiserror::Error;
+
+/// The explanation of a fault of a clock.
+const CLOCK: &str =
+    "the two clocks were not read within 100 microseconds of each other, or the system does not know how far International Atomic Time is ahead (adjtimex)";
+
+/// The explanation of a thread that could not be started.
+const THREAD: &str = "the system has no room for another thread (ulimit -u, TasksMax)";
+
+/// The explanation of a fault: what could not be opened or read, and why.
+#[derive(Debug, Drop, Error)]
+pub(crate) enum Explanation {
+    /// A socket: what it is for, its address and the system's error.
+    #[error("{0}")]
+    Socket(UnopenedSocket),
+    /// The port of the page.
+    #[error("{0}: {1}")]
+    Page(SocketAddrV4, Reason),
+    /// A file, by its path.
+    #[error("{0}: {1}")]
+    File(String, Reason),
+    /// Something that has no name.
+    #[error("{0}")]
+    Text(&'static str),
+}
+
+/// The reason for which something could not be opened or read.
+#[derive(Clone, Copy, Debug, PartialEq, Eq)]
+pub(crate) enum Reason {
+    /// The system's error number.
+    System(i32),
+    /// There is something at the path of a file that was to be created.
+    Exists,
+    /// The file of a token is not one, or others than its owner may read or write it.
+    NotPrivate,
+    /// It can be opened by now.
+    Passed,
+}
+
+impl Display for Reason {
+    fn fmt<W: fmt::Write>(&self, f: &mut Formatter<W>) -> fmt::Result {
+        match self {
+            Reason::System(code) => Display::fmt(&io::Error::from_raw_os_error(*code), f),
+            Reason::Exists => Display::fmt("it exists, and was not touched", f),
+            Reason::NotPrivate => Display::fmt(
+                "not a regular file of 16 to 256 visible ASCII characters that only its owner may read or write",
+                f,
+            ),
+            Reason::Passed => Display::fmt("it was not free at the start, but is now", f),
+        }
+    }
+}
+
+/// The host's last error.
+pub(crate) trait SystemErrors {
+    /// Returns the system's number of the error with which the host last failed to create, open or read a file; 0 if
+    /// there was none.
+    fn last_error(&self) -> i32;
+}
+
+/// Returns the fault of a live run, explained if it is one of a device and there is more to say. Returns `AllocError`
+/// if an allocation fails.
+pub(crate) fn explained<R: Net, H: SystemErrors>(
+    rt: &R,
+    alloc: Global,
+    host: &H,
+    args: LiveArgs<'_>,
+    fault: ProgramFault,
+) -> Result<ProgramFault, AllocError> {
+    match fault {
+        ProgramFault::Live(fault) => match explanation_of(rt, alloc, host, args, fault)? {
+            Some(why) => Ok(ProgramFault::LiveExplained(fault, why)),
+            None => Ok(ProgramFault::Live(fault)),
+        },
+        ProgramFault::Control => match at_path(alloc, args.control, token_reason(host))? {
+            Some(why) => Ok(ProgramFault::ControlExplained(why)),
+            None => Ok(ProgramFault::Control),
+        },
+        ProgramFault::Clock => Ok(ProgramFault::ClockExplained(Explanation::Text(CLOCK))),
+        fault => Ok(fault),
+    }
+}
+
+/// Returns the explanation of a run's fault, if there is more to say of it.
+fn explanation_of<R: Net, H: SystemErrors>(
+    rt: &R,
+    alloc: Global,
+    host: &H,
+    args: LiveArgs<'_>,
+    fault: LiveFault,
+) -> Result<Option<Explanation>, AllocError> {
+    match fault {
+        LiveFault::RecordExists => at_path(alloc, args.record, Reason::Exists),
+        LiveFault::Record => at_path(alloc, args.record, Reason::System(host.last_error())),
+        LiveFault::WavExists => at_path(alloc, args.wav, Reason::Exists),
+        LiveFault::Wav => at_path(alloc, args.wav, Reason::System(host.last_error())),
+        LiveFault::PcmExists => at_path(alloc, args.pcm, Reason::Exists),
+        LiveFault::Pcm => at_path(alloc, args.pcm, Reason::System(host.last_error())),
+        LiveFault::Page => Ok(args.options.page.map(|port| page_explanation(rt, port))),
+        LiveFault::Thread => Ok(Some(Explanation::Text(THREAD))),
+        LiveFault::Memory | LiveFault::Socket | LiveFault::Unsettled | LiveFault::Write => Ok(None),
+    }
+}
+
+/// Returns the explanation of a file at this path, if there is a path.
+fn at_path(
+    alloc: Global,
+    path: Option<&str>,
+    reason: Reason,
+) -> Result<Option<Explanation>, AllocError> {
+    match path {
+        Some(path) => Ok(Some(Explanation::File(String::from_str(alloc, path)?, reason))),
+        None => Ok(None),
+    }
+}
+
+/// Returns the reason for which the file of a token was not read, or has no token.
+fn token_reason<H: SystemErrors>(host: &H) -> Reason {
+    match host.last_error() {
+        0 => Reason::NotPrivate,
+        code => Reason::System(code),
+    }
+}
+
+/// Returns the explanation of a page's port that could not be bound.
+// The run does not keep the system's error, so the port is bound once more. If that succeeds, it is closed at once.
+fn page_explanation<R: Net>(rt: &R, port: u16) -> Explanation {
+    let address = SocketAddrV4::new(Ipv4Addr::LOCALHOST, port);
+    let reason = match TcpListener::bind(rt, address) {
+        Ok(_listener) => Reason::Passed,
+        Err(error) => Reason::System(error.raw_os_error().unwrap_or(0)),
+    };
+    Explanation::Page(address, reason)
+}
