@@ -237,7 +237,7 @@ class Case(NamedTuple):
 
 
 # All worked cases, in the order in which they are read: each topic with its files of tests, its examples and its scripts.
-RECEPTION, STUDIO, WORKERS = (f"crates/{crate}/src" for crate in ("worked_cases", "engine_tests", "worker_tests"))
+RECEPTION, STUDIO, WORKERS, PAGE = (f"crates/{crate}/src" for crate in ("worked_cases", "engine_tests", "worker_tests", "page_tests"))
 CASE_PLACES = {
     "Datagrams and samples": [f"{RECEPTION}/tests/wire.rt"],
     "Streams": [f"{RECEPTION}/tests/{name}.rt" for name in ("numbers", "streams")],
@@ -261,7 +261,7 @@ CASE_PLACES = {
     "Gains that move during a run": [f"{WORKERS}/tests/gain_moves.rt"],
     "Records and statistics": [f"{RECEPTION}/{name}.rt" for name in ("record_tests/octets", "record_tests/marks", "tally_tests", "drift_tests")],
     "Sockets and the clock": [f"{RECEPTION}/socket_tests.rt"],
-    "The page": [f"{WORKERS}/page_tests/{name}.rt" for name in ("texts", "requests", "controls", "sockets")],
+    "The page": [f"{PAGE}/tests/{name}.rt" for name in ("texts", "requests", "controls", "sockets")],
     "Captures and live runs": ["tests/captures", "tests/control", "tests/loopback", "tests/networks", "tests/page", "tests/faders", "tests/senders"],
 }
 ROW = re.compile(r'\bshows:\s*"((?:[^"\\]|\\.)*)"', re.DOTALL)
@@ -324,7 +324,7 @@ def cases_in(place, text):
 def unlisted_cases():
     """The files of tests in the crates of worked cases, and the examples, that no topic names."""
     listed = {place for places in CASE_PLACES.values() for place in places}
-    files = [file for crate in (RECEPTION, STUDIO, WORKERS) for file in sorted((ROOT / crate).rglob("*.rt")) if TEST.search(file.read_text())]
+    files = [file for crate in (RECEPTION, STUDIO, WORKERS, PAGE) for file in sorted((ROOT / crate).rglob("*.rt")) if TEST.search(file.read_text())]
     examples = [trace.parent for trace in sorted((ROOT / "examples").glob("*/input.trace"))]
     return [name for name in (str(path.relative_to(ROOT)) for path in [*files, *examples]) if name not in listed]
 

@@ -33,7 +33,7 @@ pub(crate) enum ProgramFault {
     /// A clock could not be read, or the system does not know how far International Atomic Time is ahead.
     #[error("device: clock")]
     Clock,
-    /// The same, and this explains why.
+    /// A clock could not be read, and this explains why.
     #[error("device: clock\n{0}")]
     ClockExplained(Explanation),
     /// A command, or the configuration of a live run, ended with a fault.
@@ -54,7 +54,7 @@ pub(crate) enum ProgramFault {
     /// The file of `--control` cannot be read, others than its owner may read or write it, or it has no token.
     #[error("device: control")]
     Control,
-    /// The same, and this explains why.
+    /// The file of `--control` is refused, and this explains why.
     #[error("device: control\n{0}")]
     ControlExplained(Explanation),
     /// Two of the files of a live run, named by their options, are one file.
