@@ -1,4 +1,5 @@
 //! Requests and their answers, and both texts of a snapshot.
+mod client;
 mod controls;
 mod desk;
 mod requests;

@@ -1,7 +1,8 @@
 //! Requests for the gains of a run and their answers, over a desk in memory.
+use super::client::{sent_by, stands_alone};
 use super::desk::MemoryDesk;
 use super::sample::snapshot;
-use http_server::{Connection, serve};
+use http_server::Connection;
 use status_page::{
     CONTROLS, Control, ControlPage, GainShape, HTML, Page, Token, new_control_connection,
 };
@@ -35,21 +36,7 @@ fn answers(
     octets: &[u8],
 ) -> Vec<u8> {
     let keys = RandomState::new(rt).expect(rt, "random octets");
-    let mut sent = Vec::new(alloc);
-    let is_served = is_served(new_control_connection(alloc, keys), page, octets, &mut sent);
-    assert!(rt; is_served);
-    sent
-}
-
-/// Serves a client until its connection is done.
-fn is_served(
-    mut connection: Connection,
-    page: &mut ControlPage<MemoryDesk>,
-    octets: &[u8],
-    sent: &mut Vec<u8>,
-) -> bool {
-    let mut unread = octets;
-    serve(&mut connection, page, &mut unread, sent).is_ok()
+    sent_by(rt, alloc, new_control_connection(alloc, keys), page, octets)
 }
 
 /// A request, and the begin and the end of its answer.
@@ -469,11 +456,21 @@ fn is_taken_at(
 ) {
     let keys = RandomState::new(rt).expect(rt, "random octets");
     let octets = request(rt, alloc, &CHANGE);
-    let mut unread = octets.as_bytes();
-    let mut connection = new_control_connection(alloc, keys);
-    assert!(rt; connection.read_from(&mut unread).is_ok());
+    let is_taken = is_taken(new_control_connection(alloc, keys), page, &octets, now);
+    assert!(rt; is_taken);
+}
+
+/// Returns true if the first answer to a request at a time is that it succeeded.
+fn is_taken(
+    mut connection: Connection,
+    page: &mut ControlPage<MemoryDesk>,
+    request: &str,
+    now: Duration,
+) -> bool {
+    let mut unread = request.as_bytes();
+    let is_read = connection.read_from(&mut unread).is_ok();
     page.answer(&mut connection, now);
-    assert!(rt; connection.output().starts_with(b"HTTP/1.1 200 "));
+    is_read && connection.output().starts_with(b"HTTP/1.1 200 ")
 }
 
 /// After the end of a run there is no answer.
@@ -543,27 +540,20 @@ fn a_file_has_a_token_or_none(rt: HostRuntime) {
 /// The end of a page.
 const END: &str = "</body>\n</html>\n";
 
-/// The words that would have a browser fetch something from elsewhere.
-const FROM_ELSEWHERE: [&str; 5] = ["http:", "https:", "src=", "@import", "url("];
-
 /// The page has the gains before its end. They are at most 10 KB, and nothing in them comes from elsewhere.
 #[test]
 fn the_page_has_its_gains(rt: HostRuntime) {
     let page = &mut page(&rt, rt.alloc());
     let request = b"GET / HTTP/1.1\r\nHost: localhost\r\n\r\n";
-    ends_with_gains(&rt, &answers(&rt, rt.alloc(), page, request));
-    assert!(rt; CONTROLS.len() <= 10_000);
-    for from_elsewhere in &FROM_ELSEWHERE {
-        assert!(rt; !CONTROLS.contains(*from_elsewhere), "{from_elsewhere}");
-    }
+    let sent = answers(&rt, rt.alloc(), page, request);
+    ends_with_gains(&rt, &sent, HTML, CONTROLS);
+    stands_alone(&rt, CONTROLS, 10_000);
 }
 
 /// Tests that a response ends with the page, with the gains before its end.
-fn ends_with_gains(rt: &impl Abort, sent: &[u8]) {
-    let front = HTML.strip_suffix(END).expect(rt, "an end");
+fn ends_with_gains(rt: &impl Abort, sent: &[u8], html: &str, gains: &str) {
+    let front = html.strip_suffix(END).expect(rt, "an end");
     let rest = sent.strip_suffix(END.as_bytes()).expect(rt, "an end");
-    let rest = rest
-        .strip_suffix(CONTROLS.as_bytes())
-        .expect(rt, "the gains");
+    let rest = rest.strip_suffix(gains.as_bytes()).expect(rt, "the gains");
     assert!(rt; rest.ends_with(front.as_bytes()));
 }

@@ -1,7 +1,7 @@
 //! Requests and their answers, octet by octet.
+use super::client::{sent_by, stands_alone};
 use super::sample::snapshot;
 use super::texts::STATE;
-use http_server::{Connection, serve};
 use status_page::{HTML, Page, new_connection, state_json};
 use std::alloc::Global;
 use std::hash::RandomState;
@@ -16,21 +16,7 @@ fn answers(
     octets: &[u8],
 ) -> Vec<u8> {
     let keys = RandomState::new(rt).expect(rt, "random octets");
-    let mut sent = Vec::new(alloc);
-    let is_served = is_served(new_connection(alloc, keys), page, octets, &mut sent);
-    assert!(rt; is_served);
-    sent
-}
-
-/// Serves a client until its connection is done.
-fn is_served(
-    mut connection: Connection,
-    page: &mut Page,
-    octets: &[u8],
-    sent: &mut Vec<u8>,
-) -> bool {
-    let mut unread = octets;
-    serve(&mut connection, page, &mut unread, sent).is_ok()
+    sent_by(rt, alloc, new_connection(alloc, keys), page, octets)
 }
 
 /// Requests that are answered in few words.
@@ -130,16 +116,16 @@ fn a_connection_is_kept(rt: HostRuntime) {
     let page = &mut Page::new(rt.alloc(), snapshot());
     let requests =
         b"GET /state HTTP/1.1\r\nHost: localhost\r\n\r\nGET /?now HTTP/1.1\r\nHost: localhost\r\n\r\n";
-    has_kept_parts(&rt, &answers(&rt, rt.alloc(), page, requests));
+    has_kept_parts(&rt, &answers(&rt, rt.alloc(), page, requests), HTML);
 }
 
 /// Tests that these octets are those of `KEPT`, then the page's length, and the page.
-fn has_kept_parts(rt: &impl Abort, sent: &[u8]) {
+fn has_kept_parts(rt: &impl Abort, sent: &[u8], html: &str) {
     let mut rest = sent;
     for part in &KEPT {
         rest = rest.strip_prefix(part.as_bytes()).expect(rt, "a part");
     }
-    assert!(rt; rest.ends_with(HTML.as_bytes()));
+    assert!(rt; rest.ends_with(html.as_bytes()));
 }
 
 /// Returns a request that begins so, of 9,000 octets.
@@ -177,14 +163,8 @@ fn is_refused(
     assert!(rt; sent.starts_with(answer.as_bytes()), "{front}");
 }
 
-/// The words that would have a browser fetch something from elsewhere.
-const FROM_ELSEWHERE: [&str; 5] = ["http:", "https:", "src=", "@import", "url("];
-
 /// The page is at most 40 KB, and nothing in it comes from elsewhere.
 #[test]
 fn the_page_stands_alone(rt: HostRuntime) {
-    assert!(rt; HTML.len() <= 40_000);
-    for from_elsewhere in &FROM_ELSEWHERE {
-        assert!(rt; !HTML.contains(*from_elsewhere), "{from_elsewhere}");
-    }
+    stands_alone(&rt, HTML, 40_000);
 }

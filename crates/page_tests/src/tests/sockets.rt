@@ -3,9 +3,8 @@ use super::sample::snapshot;
 use status_page::{MAX_CLIENTS, Page, PageServer};
 use std::alloc::Global;
 use std::hash::RandomState;
-use std::io;
 use std::io::{ErrorKind, Read, Write};
-use std::net::TcpStream;
+use std::net::{Net, SocketAddr, TcpStream};
 use std::process::Abort;
 use std::time::Duration;
 
@@ -52,22 +51,41 @@ fn fates_of(clients: &mut [TcpStream]) -> (u32, u32) {
     (answered, let_go)
 }
 
-/// Adds a client that has connected and sends a request.
-fn add_client(rt: &impl Abort, clients: &mut Vec<TcpStream>, client: io::Result<TcpStream>) {
-    let mut client = client.expect(rt, "a connection");
-    ask(rt, &mut client);
-    assert!(rt; clients.push(client).is_ok());
+/// Returns so many clients of a server at this address, each of which sends a request.
+fn clients_of(
+    rt: &(impl Abort + Net<Stream = TcpStream>),
+    alloc: Global,
+    address: SocketAddr,
+    count: usize,
+) -> Vec<TcpStream> {
+    let mut clients = Vec::new(alloc);
+    for _ in 0..count {
+        let mut client = TcpStream::connect(rt, address).expect(rt, "a connection");
+        ask(rt, &mut client);
+        assert!(rt; clients.push(client).is_ok());
+    }
+    clients
 }
 
-/// Tests that a server answers 64 of 70 clients, and disconnects all after 10 s.
-fn serves(rt: &impl Abort, server: &mut PageServer, page: &mut Page, clients: &mut [TcpStream]) {
+/// Lets a server take what its clients send.
+fn take_turns(server: &mut PageServer, page: &mut Page) {
     for turn in 0..20 {
         server.wait(Duration::from_millis(10));
         server.turn(page, Duration::from_millis(turn));
     }
-    assert!(rt; fates_of(clients) == (64, 6));
+}
+
+/// Tests that so many clients were answered, and so many removed.
+fn have_fates(rt: &impl Abort, clients: &mut [TcpStream], wanted: (u32, u32)) {
+    assert!(rt; fates_of(clients) == wanted);
+}
+
+/// Tests that a server answers 64 of 70 clients, and disconnects all after 10 s.
+fn serves(rt: &impl Abort, server: &mut PageServer, page: &mut Page, clients: &mut [TcpStream]) {
+    take_turns(server, page);
+    have_fates(rt, clients, (64, 6));
     server.turn(page, Duration::from_secs(11));
-    assert!(rt; fates_of(clients) == (0, 70));
+    have_fates(rt, clients, (0, 70));
 }
 
 /// Tests that with a page that has something to show.
@@ -81,9 +99,6 @@ fn clients_are_answered_or_let_go(rt: HostRuntime) {
     let keys = RandomState::new(&rt).expect(&rt, "random octets");
     let mut server = PageServer::bind(&rt, rt.alloc(), keys, 0).expect(&rt, "a port");
     let address = server.address().expect(&rt, "an address");
-    let mut clients = Vec::new(rt.alloc());
-    for _ in 0..MAX_CLIENTS + 6 {
-        add_client(&rt, &mut clients, TcpStream::connect(&rt, address));
-    }
+    let mut clients = clients_of(&rt, rt.alloc(), address, MAX_CLIENTS + 6);
     serves_page(&rt, rt.alloc(), &mut server, &mut clients);
 }
