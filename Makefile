@@ -71,11 +71,12 @@ test:
 	tests/page $(program)
 	tests/faders
 	tests/control $(program)
+	tests/desk $(program)
 	tests/networks $(program)
 	tests/senders $(program)
 	tests/library $(program) live
 	@cat bin/gate-time
-	@echo "gate: pages, proofs, edits, tests, examples, faults, statuses, blocks, WAV files, charts, captures, SDP files, package, library, engine, memory, live runs, pages, faders, control, networks and senders passed in $$(( ($$(date +%s) - $$(cat bin/gate-begun)) / 60 )) minutes"
+	@echo "gate: pages, proofs, edits, tests, examples, faults, statuses, blocks, WAV files, charts, captures, SDP files, package, library, engine, memory, live runs, pages, faders, control, a desk, networks and senders passed in $$(( ($$(date +%s) - $$(cat bin/gate-begun)) / 60 )) minutes"
 
 %.ran:
 	$* $(program)

@@ -262,7 +262,7 @@ CASE_PLACES = {
     "Records and statistics": [f"{RECEPTION}/{name}.rt" for name in ("record_tests/octets", "record_tests/marks", "tally_tests", "drift_tests")],
     "Sockets and the clock": [f"{RECEPTION}/socket_tests.rt"],
     "The page": [f"{PAGE}/tests/{name}.rt" for name in ("texts", "requests", "controls", "sockets")],
-    "Captures and live runs": ["tests/captures", "tests/control", "tests/loopback", "tests/networks", "tests/page", "tests/faders", "tests/senders"],
+    "Captures and live runs": ["tests/captures", "tests/control", "tests/desk", "tests/loopback", "tests/networks", "tests/page", "tests/faders", "tests/senders"],
 }
 ROW = re.compile(r'\bshows:\s*"((?:[^"\\]|\\.)*)"', re.DOTALL)
 # The greatest length of a row of a script as it is listed.
