@@ -21,13 +21,25 @@ pub fn time_rounds(rt: &HostRuntime, words: &mut Args) -> anyhow::Result<()> {
     let Some(rounds) = number(words) else {
         bail!("rounds: CONFIG ROUNDS");
     };
-    let spec = studio_at(rt, path.as_str())?;
-    let mut engine = Engine::new(rt.alloc(), &spec)?;
-    let start = Instant::now(rt)?;
-    let given = make_rounds(&mut engine, rounds)?;
-    let nanos = start.elapsed(rt)?.as_nanos();
+    let (nanos, given) = timed_at(rt, path.as_str(), rounds)?;
     println!(rt; "rounds {rounds} {nanos} {given}")?;
     Ok(())
+}
+
+/// Makes rounds of calls to the engine of the configuration at a path. Returns the nanoseconds that they took, and the
+/// number of datagrams of the output.
+fn timed_at(rt: &HostRuntime, path: &str, rounds: u32) -> anyhow::Result<(u128, u64)> {
+    let spec = studio_at(rt, path)?;
+    let mut engine = Engine::new(rt.alloc(), &spec)?;
+    timed(rt, &mut engine, rounds)
+}
+
+/// Makes rounds of calls to an engine, as `timed_at` does.
+// The engine is lent: one that is held is followed through each `?`, which took two minutes to prove.
+fn timed(rt: &HostRuntime, engine: &mut Engine, rounds: u32) -> anyhow::Result<(u128, u64)> {
+    let start = Instant::now(rt)?;
+    let given = make_rounds(engine, rounds)?;
+    Ok((start.elapsed(rt)?.as_nanos(), given))
 }
 
 /// Makes rounds of calls, and returns the number of datagrams of the output.
