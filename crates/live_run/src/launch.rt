@@ -1,5 +1,5 @@
 //! The launch of a live run, by workers or in one thread, with its page in another thread.
-ghost use Rattle.std.specs.Prelude.{is_some, IfOk, IfErr};
+ghost use Rattle.std.specs.Prelude.{◌≡◌, is_some, IfOk, IfErr};
 ghost use Rattle.std.specs.Thread.{IsSync};
 ghost use Rattle.live_run.specs.RunResult.{IsEarly, IsRunOf};
 
@@ -18,7 +18,7 @@ use live_audio::{
     PcmWriter, write_audio, write_pcm,
 };
 use live_io::{LiveOptions, RecordChannel, RecordResult, RunPeriod, Sockets, open_sockets};
-use live_status::{GainLink, Meter, PageDesk, PageThread, StatusInputs};
+use live_status::{GainLink, Meter, PageDesk, PageThread, RunGains, StatusInputs};
 use pcap_file::{CreateRecord, RecordFile};
 use status_page::Token;
 use std::alloc::Global;
@@ -94,6 +94,24 @@ pub(crate) fn launch_run<
     )
 }
 
+/// The sockets of a run, the source of its changes of gains, and its status, which are open before its files are
+/// created.
+#[derive(Drop)]
+struct OpenRun<'a, R: Wait + Clock, E> {
+    sockets: Sockets<'a>,
+    gains: Option<RunGains<'a, R>>,
+    status: OpenStatus<'a, PageDesk<'a, R>, E>,
+}
+
+/// The files of a run: its record, and the outputs of its mix with the taps that fill them, each if it is wanted.
+#[derive(Drop)]
+struct RunFiles<'a, D, A, B> {
+    recording: RecordOutput<'a, D>,
+    taps: AudioTaps<'a>,
+    audio: Option<OpenAudio<'a, A>>,
+    piped: Option<OpenPcm<'a, B>>,
+}
+
 /// Opens the sockets and the outputs of the status of a run, creates its files, and runs it.
 fn bind_and_run<
     'a,
@@ -116,6 +134,27 @@ fn bind_and_run<
     ensures run { IfOk result (IsRunOf options.now.one_thread (is_some control) studio.now) }
     ensures early { IfErr result IsEarly }
 {
+    let opened = open_run(rt, alloc, studio, inputs, options, state, control, faults)?;
+    // Last, so that a start that fails, as one whose sockets are taken, leaves no file behind and touches none.
+    let files = create_files(alloc, studio, inputs, record, wav, pcm)?;
+    run_open(rt, alloc, studio, inputs, options, state, opened, files)
+}
+
+/// Opens the sockets of a run, the control of its gains, and its status.
+// The parts of a run are made in few steps, each of which holds little: what a `?` passes by costs time to prove.
+fn open_run<'a, R: Wait + Net + Clock + RandomSource, E: Write + Drop>(
+    rt: &'a R,
+    alloc: Global,
+    studio: &'a StudioSpec,
+    inputs: LiveInputs<'a>,
+    options: &LiveOptions,
+    state: &'a SharedState,
+    control: Option<Token>,
+    faults: E,
+) -> Result<OpenRun<'a, R, E>, LiveFault>
+    ensures gains { IfOk result (λ opened. is_some opened.gains ≡ is_some control) }
+    ensures early { IfErr result IsEarly }
+{
     let sockets = open_sockets(rt, alloc, studio, inputs.sockets)?;
     let shown = StatusInputs {
         names: inputs.names,
@@ -123,24 +162,81 @@ fn bind_and_run<
     };
     let GainControl { gains, control } = open_control(rt, alloc, studio, &state.link, control)?;
     let status = open_status(rt, alloc, studio, &sockets, options, shown, control, faults)?;
-    let OpenStatus { serving, showing } = status;
-    // Last, so that a start that fails, as one whose sockets are taken, leaves no file behind and touches none.
+    Ok(OpenRun {
+        sockets,
+        gains,
+        status,
+    })
+}
+
+/// Creates the files of a run that are wanted. Takes the memory for each before it creates it.
+fn create_files<'a, P: CreateRecord + CreateLiveWav + CreatePcm>(
+    alloc: Global,
+    studio: &StudioSpec,
+    inputs: LiveInputs<'a>,
+    record: Option<&P>,
+    wav: Option<&P>,
+    pcm: Option<&P>,
+) -> Result<RunFiles<'a, P::File, P::Audio, P::Pcm>, LiveFault>
+    ensures early { IfErr result IsEarly }
+{
     let recording = recording_of(alloc, studio, inputs.recorded, record)?;
     let (wav_tap, audio) = audio_of(alloc, studio, inputs.audio, wav)?;
     let (pcm_tap, piped) = pcm_of(alloc, studio, inputs.pcm, pcm)?;
+    Ok(RunFiles {
+        recording,
+        taps: AudioTaps {
+            wav: wav_tap,
+            pcm: pcm_tap,
+        },
+        audio,
+        piped,
+    })
+}
+
+/// Runs a studio whose parts are open, and sets the numbers of blocks that it sent.
+fn run_open<
+    'a,
+    R: Threads + Wait + Sync + Clock,
+    E: Write + Send + Drop,
+    D: RecordFile + Send + Drop,
+    A: LiveWavFile + Send + Drop,
+    B: PcmOutput + Send + Drop,
+>(
+    rt: &'a R,
+    alloc: Global,
+    studio: &'a StudioSpec,
+    inputs: LiveInputs<'a>,
+    options: &LiveOptions,
+    state: &'a SharedState,
+    opened: OpenRun<'a, R, E>,
+    files: RunFiles<'a, D, A, B>,
+) -> Result<WorkReport, LiveFault>
+    ensures run { IfOk result (IsRunOf options.now.one_thread (is_some opened.entry.gains) studio.now) }
+    ensures early { IfErr result IsEarly }
+{
+    let period = RunPeriod::new(studio, inputs.began, options.instants);
+    let OpenRun {
+        sockets,
+        gains,
+        status: OpenStatus { serving, showing },
+    } = opened;
+    let RunFiles {
+        recording,
+        taps,
+        audio,
+        piped,
+    } = files;
     let parts = PreparedRun {
         one_thread: options.one_thread,
         sockets,
         context: RunContext {
-            period: RunPeriod::new(studio, inputs.began, options.instants),
+            period,
             until_eof: options.until_eof,
             status: showing,
             flags: &state.flags,
             health: inputs.sockets.health,
-            taps: AudioTaps {
-                wav: wav_tap,
-                pcm: pcm_tap,
-            },
+            taps,
             shown: ShownHealth {
                 studio,
                 health: inputs.sockets.health,
@@ -151,10 +247,7 @@ fn bind_and_run<
         },
         recording,
     };
-    let report = match piped {
-        Some(piped) => run_with_pcm(rt, alloc, studio, parts, serving, audio, piped)?,
-        None => run_with_files(rt, alloc, studio, parts, serving, audio)?,
-    };
+    let report = run_with_pcm(rt, alloc, studio, parts, serving, audio, piped)?;
     inputs.audio.set_sent(report.blocks);
     inputs.pcm.set_sent(report.blocks);
     Ok(report)
@@ -201,8 +294,34 @@ fn pcm_of<'a, P: CreatePcm>(
     Ok((Some(tap), Some(OpenPcm { writer, output })))
 }
 
-/// Runs a studio, with the writer of its raw PCM in another thread, which ends with the run.
+/// Runs a studio, with the writer of its raw PCM in another thread, if there is raw PCM.
 fn run_with_pcm<
+    'a,
+    R: Threads + Wait + Sync + Clock,
+    E: Write + Send + Drop,
+    D: RecordFile + Send + Drop,
+    A: LiveWavFile + Send + Drop,
+    B: PcmOutput + Send + Drop,
+>(
+    rt: &'a R,
+    alloc: Global,
+    studio: &'a StudioSpec,
+    parts: PreparedRun<'a, R, E, D>,
+    page: Option<PageThread<PageDesk<'a, R>>>,
+    audio: Option<OpenAudio<'a, A>>,
+    piped: Option<OpenPcm<'a, B>>,
+) -> Result<WorkReport, LiveFault>
+    ensures run { IfOk result (IsRunOf parts.entry.one_thread (is_some parts.entry.context.gains) studio.now) }
+    ensures early { IfErr result IsEarly }
+{
+    match piped {
+        Some(piped) => run_with_pcm_thread(rt, alloc, studio, parts, page, audio, piped),
+        None => run_with_files(rt, alloc, studio, parts, page, audio),
+    }
+}
+
+/// Runs a studio, with the writer of its raw PCM in another thread, which ends with the run.
+fn run_with_pcm_thread<
     'a,
     R: Threads + Wait + Sync + Clock,
     E: Write + Send + Drop,

@@ -1,6 +1,6 @@
 //! A live run in one thread, with a supervisor in another. `engine_io` has the engine's feeds, clock and sink,
 //! `socket_wait` its wait for the sockets, and `observer` its record and status.
-ghost use Rattle.std.specs.Prelude.{is_some, true, IfOk, IfErr};
+ghost use Rattle.std.specs.Prelude.{◌≡◌, is_some, true, IfOk, IfErr};
 ghost use Rattle.std.specs.Thread.{IsSync};
 ghost use Rattle.live_run.specs.RunResult.{IsEarly, IsRunOf};
 
@@ -21,6 +21,7 @@ use pcap_file::RecordFile;
 use std::alloc::Global;
 use std::io::Write;
 use std::sync::Wait;
+use std::sync::atomic::AtomicBool;
 use std::thread::Threads;
 use std::time::Clock;
 use studio_config::StudioSpec;
@@ -65,6 +66,44 @@ pub(crate) fn run_in_one_thread<
     ensures early { IfErr result IsEarly }
 {
     let mut sockets = sockets;
+    let RecordOutput { record, recorded } = recording;
+    // Only a record needs the sources, and keeping them makes each receive slower.
+    if record.is_some() {
+        keep_sources(sockets.receiving.as_mut_slice());
+    }
+    let ready = ready_flags(alloc, sockets.receiving.len())?;
+    let (record, writer) = ends_of(record);
+    let run = prepare_run(
+        rt,
+        alloc,
+        studio,
+        sockets,
+        context,
+        ready.as_slice(),
+        record,
+        recorded,
+    )?;
+    match writer {
+        Some((writer, file)) => run_recorded(rt, alloc, studio, run, writer, file),
+        None => run.run(rt, alloc, studio),
+    }
+}
+
+/// Returns a run that is ready to start, with its observer and the inputs of its supervisor. All memory is allocated
+/// here.
+fn prepare_run<'a, R: Wait + Clock, E: Write + Drop>(
+    rt: &'a R,
+    alloc: Global,
+    studio: &'a StudioSpec,
+    sockets: Sockets<'a>,
+    context: RunContext<'a, R, E>,
+    ready: &'a [AtomicBool],
+    record: Option<RecordObserver<'a>>,
+    recorded: &'a RecordResult,
+) -> Result<SupervisedRun<'a, R, E>, LiveFault>
+    ensures gains { IfOk result (λ run. is_some run.io.gains ≡ is_some context.entry.gains) }
+    ensures early { IfErr result IsEarly }
+{
     let RunContext {
         period,
         until_eof,
@@ -75,36 +114,25 @@ pub(crate) fn run_in_one_thread<
         shown,
         gains,
     } = context;
-    let RecordOutput { record, recorded } = recording;
-    // Only a record needs the sources, and keeping them makes each receive slower.
-    if record.is_some() {
-        keep_sources(sockets.receiving.as_mut_slice());
-    }
-    let ready = ready_flags(alloc, sockets.receiving.len())?;
     let feed_flags = FeedFlags {
         stop: &flags.stop,
-        ready: ready.as_slice(),
+        ready,
         health: health.paths(),
     };
     let meter = status.meter;
     let watch = PathWatch::new(studio, health, status.publisher.is_some());
-    let (record, writer) = ends_of(record);
     let observer = LiveObserver::new(alloc, studio, record, status, shown)?;
     let io = prepare_engine_io(
         rt, alloc, studio, sockets, taps, period, feed_flags, meter, gains,
     )?;
-    let run = SupervisedRun {
+    Ok(SupervisedRun {
         io,
         observer,
         watch,
         until_eof,
         flags,
         recorded,
-    };
-    match writer {
-        Some((writer, file)) => run_recorded(rt, alloc, studio, run, writer, file),
-        None => run.run(rt, alloc, studio),
-    }
+    })
 }
 
 /// Makes all receivers keep the source address of each datagram, which a record has.

@@ -44,6 +44,10 @@ pub(crate) fn run_in_workers<'a, R: Threads + Wait + Sync + Clock, E: Write + Se
     ensures run { IfOk result (IsRunOf false (is_some context.entry.gains) studio.now) }
     ensures early { IfErr result IsEarly }
 {
+    // Without a status there are no rings for statistics, and the workers send none.
+    let is_shown = context.status.publisher.is_some();
+    let rings = open_rings(alloc, studio, sockets.receiving.len(), is_shown)?;
+    let Rings { ends, receivers } = rings;
     let RunContext {
         period,
         until_eof,
@@ -54,10 +58,6 @@ pub(crate) fn run_in_workers<'a, R: Threads + Wait + Sync + Clock, E: Write + Se
         shown,
         gains,
     } = context;
-    // Without a status there are no rings for statistics, and the workers send none.
-    let is_shown = status.publisher.is_some();
-    let rings = open_rings(alloc, studio, sockets.receiving.len(), is_shown)?;
-    let Rings { ends, receivers } = rings;
     // No flags of sockets: each path has a thread of its own, whose feed may wait.
     let feed_flags = FeedFlags {
         stop: &flags.stop,
