@@ -56,12 +56,23 @@ fn trace_of(rt: &HostRuntime) -> anyhow::Result<Vec<StudioEvent>> {
 /// Passes the events to an engine, and writes its datagrams and its counts.
 fn play(rt: &HostRuntime, spec: &StudioSpec, events: &[StudioEvent]) -> anyhow::Result<()> {
     let mut engine = Engine::new(rt.alloc(), spec)?;
+    play_by(rt, &mut engine, spec, events)
+}
+
+/// Passes the events to an engine as `play` does.
+// The engine is lent: one that is held is followed through each `?`.
+fn play_by(
+    rt: &HostRuntime,
+    engine: &mut Engine,
+    spec: &StudioSpec,
+    events: &[StudioEvent],
+) -> anyhow::Result<()> {
     let mut lines = Lines {
         text: TextBuffer::new(rt.alloc())?,
         output: &mut rt.stdout(),
     };
-    take_events(&mut engine, events, &mut lines)?;
-    write_counts(&engine, spec, &mut lines)?;
+    take_events(engine, events, &mut lines)?;
+    write_counts(engine, spec, &mut lines)?;
     finish(&mut lines)
 }
 
