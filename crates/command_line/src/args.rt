@@ -69,7 +69,8 @@ pub struct StreamsArgs<'a> {
     pub gap: u64,
 }
 
-/// The arguments of `replay`: the capture, and the files that are written in addition to its report.
+/// The arguments of `replay`: the capture, the file with changes of gains, and the files that are written in addition
+/// to its report.
 #[derive(Drop)]
 pub struct ReplayArgs<'a> {
     /// The capture's path, or `-` for standard input.
@@ -79,6 +80,8 @@ pub struct ReplayArgs<'a> {
     pub addresses: Vec<&'a str>,
     /// The longest step forward of the capture's time that is no fault, in seconds.
     pub gap: u64,
+    /// The path of the file with changes of gains, if there is one.
+    pub gains: Option<&'a str>,
     /// The path of the mix's WAV file, if one is asked for.
     pub wav: Option<&'a str>,
     /// The stream whose own WAV file is asked for, and that file.

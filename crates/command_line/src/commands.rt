@@ -58,15 +58,7 @@ pub(crate) const COMMANDS: &[CommandSpec] = &[
         name: "play",
         about: "Mixes the streams of the trace on standard input, and prints the datagrams of the mix and all counts",
         example: "Example: darbexum play studio.toml --wav mix.wav < input.trace",
-        args: &[
-            CONFIG,
-            ArgSpec {
-                name: "gains",
-                help: "Change gains by the lines of this file, as 'gain 96 0 1 32768': time, output, input, gain",
-                ..FILE
-            },
-            MIX,
-        ],
+        args: &[CONFIG, GAINS, MIX],
     },
     CommandSpec {
         name: "chart",
@@ -124,6 +116,7 @@ pub(crate) const COMMANDS: &[CommandSpec] = &[
             RECORD,
             PATH,
             GAP,
+            GAINS,
             MIX,
             STREAM,
             ArgSpec {
@@ -269,6 +262,13 @@ const GAP: ArgSpec = ArgSpec {
         ValueParser::Signed(1, MAX_GAP),
     ),
     relation: ArgRelation::Free,
+};
+
+/// The path of a file with changes of gains.
+const GAINS: ArgSpec = ArgSpec {
+    name: "gains",
+    help: "Change gains by the lines of this file, as 'gain 96 0 1 32768': time, output, input, gain",
+    ..FILE
 };
 
 /// The path of the mix's WAV file.

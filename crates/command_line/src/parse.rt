@@ -136,6 +136,7 @@ fn replay_args<'a>(
         file,
         addresses: addresses_in(alloc, matches)?,
         gap: gap_in(matches),
+        gains: matches.get_str("gains"),
         wav: matches.get_str("wav"),
         wav_stream: stream_wav_in(matches, "wav-stream"),
         chart: matches.get_str("chart"),
