@@ -1,2 +1,3 @@
 pub mod ImportedConfig
+pub mod ReplayedStudio
 pub mod Warning

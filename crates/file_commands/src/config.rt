@@ -1,4 +1,7 @@
 //! The configuration of a command, from its file to the studio that it describes.
+ghost use Rattle.std.specs.Prelude.{IfOk};
+ghost use Rattle.file_commands.specs.ReplayedStudio.{HasGains};
+
 use crate::explanation::{explain_fault, explain_toml};
 use crate::fault::{CommandFault, ConfigFault};
 use crate::host::Host;
@@ -42,9 +45,35 @@ pub(crate) fn played_studio<H: Host>(
     let Some(path) = gains else {
         return Ok(studio);
     };
+    let text = read_gains(host, alloc, path)?;
+    changed_studio(alloc, &studio, text.as_slice())
+}
+
+/// Returns the octets of the file of gains at a path. Returns `GainsInputFault::Unread` if the file cannot be read,
+/// `GainsInputFault::TooLong` if it has too many octets, and `CommandFault::Memory` if an allocation fails.
+pub(crate) fn read_gains<H: Host>(
+    host: &H,
+    alloc: Global,
+    path: &str,
+) -> Result<Vec<u8>, CommandFault> {
     match host.read_all(alloc, path) {
-        Ok(text) => Ok(studio_with_gains(alloc, &studio, text.as_slice())?),
+        Ok(text) => Ok(text),
         Err(fault) => Err(CommandFault::of_gains(fault)),
+    }
+}
+
+/// Returns the studio whose gains change as a text says. Returns the text's first fault, or `CommandFault::Memory` if
+/// an allocation fails.
+pub(crate) fn changed_studio(
+    alloc: Global,
+    studio: &StudioSpec,
+    text: &[u8],
+) -> Result<StudioSpec, CommandFault>
+    ensures { IfOk result (HasGains studio.now text.now) }
+{
+    match studio_with_gains(alloc, studio, text) {
+        Ok(changed) => Ok(changed),
+        Err(fault) => Err(CommandFault::from(fault)),
     }
 }
 

@@ -1,13 +1,17 @@
 //! The command `replay`: the report of a capture, with WAV files and a chart in addition to it.
-ghost use Rattle.std.specs.Prelude.{[], IfOk};
+ghost use Rattle.std.specs.Prelude.{◌≡◌, ◌≢◌, ℕ, pos, [], None, IfOk};
+ghost use Rattle.studio_config.specs.Shift.{shifted};
 ghost use Rattle.pcap_replay.specs.StreamObserver.{HasFollowedIf};
 ghost use Rattle.pcap_replay.specs.WavObserver.{HasSoundedIf};
+ghost use Rattle.file_commands.specs.ReplayedStudio.{HasGains};
 
 use crate::capture_flows::routes_at;
-use crate::config::studio_of;
+use crate::config::{changed_studio, read_gains, studio_of};
 use crate::fault::{CaptureInputFault, CommandFault};
 use crate::host::{Host, STDIN_PATH, is_one_file, open_capture, refuse_inputs};
-use crate::replay_input::{PeekedInput, opening_in, paths_in, read_front, studio_for};
+use crate::replay_input::{
+    PeekedInput, opening_in, paths_in, read_front, recorded_studio, studio_for,
+};
 use crate::replay_outputs::{ReplayOutputs, create_wav, finish_wav, write_chart};
 use crate::stream_output::{
     NumberedStream, create_stream_wav, end_stream_wav, numbered_file, stream_output,
@@ -40,8 +44,9 @@ struct ReplaySource {
     kind: CaptureKind,
 }
 
-/// Writes the report of a capture, by the configuration at a path, and the files that are asked for. Before the fault
-/// of a WAV file or a chart its path is written to `faults`.
+/// Writes the report of a capture, by the configuration at a path, and the files that are asked for. The gains change
+/// as the file of gains says, if there is one; for a record, its times are those of the recorded run. Before a fault
+/// that is put at a file its path is written to `faults`.
 ///
 /// A capture in a file is opened several times, so that it need not fit in memory: for its start up to the first
 /// packet, which says if it is the record of a live run and of which configuration; for its flows, if it is not a
@@ -59,15 +64,30 @@ pub fn run_replay<H: Host>(
     let file = numbered_file(args.wav_stream)?;
     refuse_outputs(host, config, &args, faults)?;
     let studio = studio_of(host, alloc, config)?;
+    let gains = gains_of(host, alloc, args.gains)?;
+    let gains = gains.as_slice();
     let stream = stream_output(file, &studio, faults)?;
     if args.is_stdin() {
-        return replay_input(host, alloc, studio, &args, stream, input, output, faults);
+        return replay_input(
+            host, alloc, studio, gains, &args, stream, input, output, faults,
+        );
     }
-    let source = source_of(host, alloc, studio, &args)?;
+    let source = source_of(host, alloc, studio, gains, &args)?;
     source.replay(host, alloc, &args, stream, output, faults)
 }
 
-/// Refuses to write a file that is also read, and to write two files at one place.
+/// Returns the text of the file of gains at a path. Without a path the text is empty, which changes nothing.
+fn gains_of<H: Host>(host: &H, alloc: Global, path: Option<&str>) -> Result<Vec<u8>, CommandFault>
+    ensures { path.entry ≡ None → IfOk result (λ text. text.items ≡ []) }
+{
+    match path {
+        Some(path) => read_gains(host, alloc, path),
+        None => Ok(Vec::new(alloc)),
+    }
+}
+
+/// Refuses to write a file that is also read, to write two files at one place, and to read one file both as the capture
+/// and as gains.
 fn refuse_outputs<H: Host>(
     host: &H,
     config: &str,
@@ -83,9 +103,28 @@ fn refuse_outputs<H: Host>(
     refuse_inputs(host, "wav", args.wav, &[config, capture], faults)?;
     refuse_inputs(host, "wav", stream, &[config, capture], faults)?;
     refuse_inputs(host, "chart", args.chart, &[config, capture], faults)?;
+    refuse_gains(host, args, capture, faults)?;
     refuse_one_file(host, ("--wav", args.wav), ("--wav-stream", stream))?;
     refuse_one_file(host, ("--wav", args.wav), ("--chart", args.chart))?;
     refuse_one_file(host, ("--wav-stream", stream), ("--chart", args.chart))
+}
+
+/// Refuses to write the file of gains, and to read the capture as gains.
+fn refuse_gains<H: Host>(
+    host: &H,
+    args: &ReplayArgs<'_>,
+    capture: &str,
+    faults: &mut H::Stderr,
+) -> Result<(), CommandFault> {
+    let Some(gains) = args.gains else {
+        return Ok(());
+    };
+    let stream = args.wav_stream.map(|wav| wav.file);
+    refuse_inputs(host, "wav", args.wav, &[gains], faults)?;
+    refuse_inputs(host, "wav", stream, &[gains], faults)?;
+    refuse_inputs(host, "chart", args.chart, &[gains], faults)?;
+    // The record would be read as gains too, and the first of its lines would be at fault.
+    refuse_inputs(host, "gains", Some(gains), &[capture], faults)
 }
 
 /// Refuses the files of two options if both are one file, of which the later would take the place of the earlier.
@@ -107,6 +146,7 @@ fn replay_input<H: Host>(
     host: &H,
     alloc: Global,
     studio: StudioSpec,
+    gains: &[u8],
     args: &ReplayArgs<'_>,
     stream: Option<NumberedStream>,
     input: &mut H::Stdin,
@@ -114,11 +154,7 @@ fn replay_input<H: Host>(
     faults: &mut H::Stderr,
 ) -> Result<(), CommandFault> {
     let front = read_front(alloc, input)?;
-    let Some(opening) = opening_in(alloc, &mut front.as_slice())? else {
-        return Err(CommandFault::Capture(CaptureInputFault::NoRecord));
-    };
-    let paths = paths_in(alloc, &mut front.as_slice())?;
-    let studio = studio_for(alloc, studio, opening, paths.as_slice())?;
+    let studio = recorded_studio(alloc, studio, front.as_slice(), gains)?;
     let mut outputs = create_files::<H, Extent>(host, alloc, &studio, args, stream, None, faults)?;
     let mut record = PeekedInput::new(front.as_slice(), input);
     let played = play_record(alloc, &studio, &mut record, output, &mut outputs);
@@ -202,32 +238,46 @@ fn cut_result(cut: Option<CaptureFault>) -> Result<(), CommandFault> {
     }
 }
 
-/// Returns the kind of the capture at a path, and the studio for it.
+/// Returns the kind of the capture at a path, and the studio for it, with the changes of a text of gains.
 fn source_of<H: Host>(
     host: &H,
     alloc: Global,
     studio: StudioSpec,
+    gains: &[u8],
     args: &ReplayArgs<'_>,
-) -> Result<ReplaySource, CommandFault> {
+) -> Result<ReplaySource, CommandFault>
+    ensures record { IfOk result (λ source. source.kind ≡ CaptureKind.Record
+        → (opening : ℕ) × HasGains (shifted (pos opening) studio) gains.now source.studio) }
+    ensures flows { IfOk result (λ source. source.kind ≢ CaptureKind.Record
+        → HasGains studio gains.now source.studio) }
+{
     match opening_in(alloc, &mut open_capture(host, args.file)?)? {
         Some(opening) => {
             let paths = paths_in(alloc, &mut open_capture(host, args.file)?)?;
             Ok(ReplaySource {
-                studio: studio_for(alloc, studio, opening, paths.as_slice())?,
+                studio: studio_for(alloc, studio, opening, paths.as_slice(), gains)?,
                 kind: CaptureKind::Record,
             })
         }
-        None => Ok(ReplaySource {
-            kind: CaptureKind::Flows(routes_at(
-                host,
-                alloc,
-                args.file,
-                args.addresses.as_slice(),
-                args.gap,
-            )?),
-            studio,
-        }),
+        None => {
+            // Before the capture is read, which may take long.
+            let studio = changed_studio(alloc, &studio, gains)?;
+            let kind = flows_at(host, alloc, args)?;
+            Ok(ReplaySource { studio, kind })
+        }
     }
+}
+
+/// Returns the kind of the capture at a path that is no record.
+fn flows_at<H: Host>(
+    host: &H,
+    alloc: Global,
+    args: &ReplayArgs<'_>,
+) -> Result<CaptureKind, CommandFault>
+    ensures { IfOk result (λ kind. kind ≢ CaptureKind.Record) }
+{
+    let routes = routes_at(host, alloc, args.file, args.addresses.as_slice(), args.gap)?;
+    Ok(CaptureKind::Flows(routes))
 }
 
 impl ReplaySource {

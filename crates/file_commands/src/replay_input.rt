@@ -1,4 +1,11 @@
 //! The capture that `replay` reads: a file, or a record on standard input, of which the first octets were read.
+ghost use Rattle.std.specs.Prelude.{◌≡◌, pos, IfOk, IfSome};
+ghost use Rattle.pcap_file.specs.Entries.{entries_of};
+ghost use Rattle.pcap_replay.specs.Record as spec;
+ghost use Rattle.studio_config.specs.Shift.{shifted};
+ghost use Rattle.file_commands.specs.ReplayedStudio.{HasGains, IsRecorded};
+
+use crate::config::changed_studio;
 use crate::fault::{CaptureInputFault, CommandFault};
 use pcap_replay::{RecordedPath, record_opening, recorded_paths, recording_fault};
 use std::alloc::{AllocError, Global};
@@ -67,10 +74,10 @@ fn push_all(front: &mut Vec<u8>, octets: &[u8]) -> Result<(), AllocError> {
 }
 
 /// Returns the opening time of the run, in sampling instants, if an input is the record of one.
-pub(crate) fn opening_in<R: Read>(
-    alloc: Global,
-    input: &mut R,
-) -> Result<Option<u64>, CommandFault> {
+pub(crate) fn opening_in<R: Read>(alloc: Global, input: &mut R) -> Result<Option<u64>, CommandFault>
+    ensures { IfOk result (λ given. IfSome (R.remaining input.old) (λ file. spec.opening_in (entries_of file)
+        ≡ given)) }
+{
     Ok(record_opening(alloc, input)?)
 }
 
@@ -82,17 +89,53 @@ pub(crate) fn paths_in<R: Read>(
     Ok(recorded_paths(alloc, input)?)
 }
 
-/// Returns a studio's configuration as that of a record: opened when the recorded run was. Returns a fault if the
-/// record is of another configuration.
+/// Returns a configuration's studio as that of the record that begins with these octets, with the changes of a text of
+/// gains. Returns `CaptureInputFault::NoRecord` if no record begins so.
+pub(crate) fn recorded_studio(
+    alloc: Global,
+    studio: StudioSpec,
+    front: &[u8],
+    gains: &[u8],
+) -> Result<StudioSpec, CommandFault>
+    ensures { IfOk result (IsRecorded front.now studio gains.now) }
+{
+    let mut start = front;
+    let Some(opening) = opening_in(alloc, &mut start)? else {
+        return Err(CommandFault::Capture(CaptureInputFault::NoRecord));
+    };
+    let mut again = front;
+    let paths = paths_in(alloc, &mut again)?;
+    studio_for(alloc, studio, opening, paths.as_slice(), gains)
+}
+
+/// Returns a configuration's studio as that of a record: opened when the recorded run was, with the changes of a text
+/// of gains. Returns a fault if the record is of another configuration.
+// The gains of a live run change by the run's own clock, so the times of the text are those of the run. The studio is
+// moved to the run's opening first, with the changes that the configuration plans, and the text changes that studio.
 pub(crate) fn studio_for(
     alloc: Global,
     studio: StudioSpec,
     opening: u64,
     paths: &[RecordedPath],
-) -> Result<StudioSpec, CommandFault> {
+    gains: &[u8],
+) -> Result<StudioSpec, CommandFault>
+    ensures { IfOk result (HasGains (shifted (pos opening) studio) gains.now) }
+{
     if let Some(fault) = recording_fault(paths, studio.streams()) {
         return Err(CommandFault::Capture(CaptureInputFault::Recording(fault)));
     }
+    let opened = opened_studio(alloc, studio, opening)?;
+    changed_studio(alloc, &opened, gains)
+}
+
+/// Returns a studio that is opened at another time, in sampling instants.
+fn opened_studio(
+    alloc: Global,
+    studio: StudioSpec,
+    opening: u64,
+) -> Result<StudioSpec, CommandFault>
+    ensures { IfOk result (λ opened. opened ≡ shifted (pos opening) studio) }
+{
     // A time of 2^63 or more becomes one that `shifted` refuses: it is past 2^60.
     let open_at = i64::try_from(opening).unwrap_or(i64::MAX);
     Ok(studio.shifted(alloc, open_at)?)
