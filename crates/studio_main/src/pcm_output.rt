@@ -64,8 +64,10 @@ impl SystemPcm {
 impl Write for SystemPcm {
     fn write(&mut self, buf: &[u8]) -> io::Result<usize> {
         let len = buf.len().min(MAX_WRITE);
-        // Not by `File::write`: SIGPIPE would end the run where nobody reads any more.
-        let count = os::write_no_sigpipe(self.descriptor(), &buf[..len]);
+        // The runtime ignores SIGPIPE from the program's start on, as Rust's does. So a write to a pipe that nobody
+        // reads any more fails, and ends nothing. `os::write_no_sigpipe` is not used: it is linked with calls of child
+        // processes, for which the program has no handle.
+        let count = libc::write(self.descriptor(), &buf[..len]);
         match usize::try_from(count) {
             Ok(count) => Ok(count.min(len)),
             Err(_) => Err(io::Error::from_raw_os_error(os::errno())),
