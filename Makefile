@@ -35,7 +35,7 @@ build: bin/darbexum bin/darbexum-live bin/darbexum-sdp
 bin/darbexum: $(sources) bin/.x86-64-$(CPU)
 	gate/build $(CPU) $@
 
-# The processor of the last build: another one is built for anew.
+# The processor of the last build: for another one everything is built again.
 bin/.x86-64-%:
 	mkdir -p bin
 	rm -f bin/.x86-64-*

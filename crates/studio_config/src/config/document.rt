@@ -38,7 +38,7 @@ impl StudioSpec {
     /// Returns the studio that a configuration describes, or its first fault.
     ///
     /// Tables are tested in the order top, stream by stream, output. In a table each key is tested for its presence,
-    /// its type and its range, in the order of docs/FORMATS.md. An allocation failure is `SpecErrorKind::Memory`.
+    /// its type and its range, in the order of docs/CONFIGURATION.md. An allocation failure is `SpecErrorKind::Memory`.
     pub fn from_table(alloc: Global, table: &Table) -> Result<StudioSpec, SpecError>
         ensures ok { OnOk result (config_fault_of (table_view table.now) ≡ None) }
         ensures studio { IfOk result (λ s. s ≡ studio_of (table_view table.now)) }

@@ -104,7 +104,7 @@ impl fmt::Display for ConfigTable {
 impl SpecErrorKind {
     /// Returns its word, and the number of the rule that is broken if the word names several.
     fn word_and_rule(self) -> (&'static str, Option<u8>) {
-        // The rules are numbered from 1 in docs/FORMATS.md.
+        // The rules are numbered from 1 in docs/CONFIGURATION.md.
         match self {
             SpecErrorKind::Missing => ("missing", None),
             SpecErrorKind::WrongKind => ("kind", None),
