@@ -43,9 +43,9 @@ bin/.x86-64-%:
 
 lib: bin/library/lib/libdarbexum.a
 
-# Proves what no earlier run on this machine proved, and builds the library.
+# Proves what no earlier run on this machine proved, and builds the library. With PROVED=--proved over what the gate has proved.
 bin/library/lib/libdarbexum.a: $(sources) bindings/c/darbexum.h bindings/cpp/darbexum.hpp packaging/library packaging/darbexum.pc.in
-	gate/build --library bin/library
+	gate/build --library bin/library $(PROVED)
 
 bin/darbexum-live bin/darbexum-sdp: bin/%: %
 	install -D $* $@
@@ -65,7 +65,7 @@ test:
 	@mkdir -p bin && date +%s > bin/gate-begun
 	docs/check
 	gate/progress rt ci $(ANEW)
-	$(MAKE) -j4 --no-print-directory $(addsuffix .ran,$(scripts))
+	$(MAKE) -j4 --no-print-directory PROVED=--proved $(addsuffix .ran,$(scripts))
 	tests/loopback $(program)
 	tests/sockets $(program)
 	tests/page $(program)
