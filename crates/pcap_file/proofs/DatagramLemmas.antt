@@ -94,7 +94,7 @@ number_datagram : (a : ArrivalView) → a.interface < 2 ^ 32 → number_at Littl
 number_datagram a fits =
     number_behind 4 8 a.interface (little_bytes 4 6 ++ little_bytes 4 (len_of a)) (high a ++ (low a ++ (count a ++ (count a ++ rest a)))) (datagram_block a) (pieces a) refl fits
 
-captured_datagram : (a : ArrivalView) → length a.octets ≤ 2048 → number_at Little 4 20 (datagram_block a) ≡ 28 + length a.octets
+captured_datagram : (a : ArrivalView) → length a.octets ≤ 32784 → number_at Little 4 20 (datagram_block a) ≡ 28 + length a.octets
 captured_datagram a few =
     number_behind 4 20 (28 + length a.octets) (begin (len_of a) a ++ high a ++ low a) (count a ++ rest a) (datagram_block a) (pieces a) refl (omega (arith, few))
 
@@ -137,7 +137,7 @@ content_enhanced interfaces block view kind is =
 unmarked : (interfaces : List Interface) (block : List ℕ) → number_at Little 4 0 block ≡ 6 → mark_of Little interfaces block ≡ None
 unmarked interfaces block kind = rw kind refl
 
-pub tells_datagram : (interfaces : List Interface) (k : ℕ) (a : ArrivalView) → IsArrival k a → k ≤ 64 → slice_get interfaces a.interface ≡ Some raw
+pub tells_datagram : (interfaces : List Interface) (k : ℕ) (a : ArrivalView) → IsArrival k a → k ≤ 65 → slice_get interfaces a.interface ≡ Some raw
     → Tells Little interfaces interfaces (datagram_block a) (Some (packet_of a)) None
 unfolding header_octets
 tells_datagram interfaces k a is few found =

@@ -39,7 +39,7 @@ unfolding udp_of
 udp_by u octets from to n count size said source destination payload =
     rw (not_below (length u) 8 (omega (arith, size)), said, not_below (8 + n) 8 (omega arith), not_below (length u) (8 + n) (omega (arith, size)), source, destination, payload) refl
 
-udp_back : (a : ArrivalView) → length a.octets ≤ 2048 → a.source_port < 2 ^ 16 → a.destination_port < 2 ^ 16
+udp_back : (a : ArrivalView) → length a.octets ≤ 32784 → a.source_port < 2 ^ 16 → a.destination_port < 2 ^ 16
     → udp_of (udp_octets a ++ a.octets) ≡ Some (record { source_port = a.source_port; destination_port = a.destination_port; payload = a.octets })
 unfolding udp_octets
 udp_back a few source destination =
@@ -108,7 +108,7 @@ destination_is : (sum : ℕ) (a : ArrivalView) → length a.source ≡ 4 → len
 unfolding header_with
 destination_is sum a s d = ap next_four (tail a) ∙ destinations a.source a.destination (udp_octets a ++ a.octets) s d
 
-total_is : (sum : ℕ) (a : ArrivalView) → length a.octets ≤ 2048 → number_at Big 2 2 (packet_with sum a) ≡ 28 + length a.octets
+total_is : (sum : ℕ) (a : ArrivalView) → length a.octets ≤ 32784 → number_at Big 2 2 (packet_with sum a) ≡ 28 + length a.octets
 unfolding header_with
 total_is sum a few =
     big_behind 2 2 (28 + length a.octets) (0x45 ∷ 0 ∷ [])

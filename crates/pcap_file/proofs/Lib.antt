@@ -17,6 +17,7 @@ mod OptionLemmas
 mod WholeLemmas
 mod OpeningLemmas
 mod WriteInterfaceLemmas
+mod ChangeLemmas
 mod ClosingLemmas
 mod FrameLemmas
 mod DatagramLemmas

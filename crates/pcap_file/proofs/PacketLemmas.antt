@@ -72,7 +72,7 @@ all_ones sum low high is few small = elim (cases_lt (low + high) 65536) [
       ap carried whole ∙ omega arith
 ]
 
-pub checksum_right : (a : ArrivalView) → HasAddresses a → length a.octets ≤ 2048 → carried (carried (words_sum (header_octets a))) ≡ 65535
+pub checksum_right : (a : ArrivalView) → HasAddresses a → length a.octets ≤ 32784 → carried (carried (words_sum (header_octets a))) ≡ 65535
 unfolding header_octets header_with
 checksum_right a has few =
     let total : ℕ = 28 + length a.octets in

@@ -11,11 +11,11 @@ use Rattle.pcap_file.specs.Section.{is_section_header, no_section}
 use Rattle.pcap_file.specs.Capture.{Item, is_pcapng, packets_from, packets_of, packets_past}
 use Rattle.pcap_file.specs.Entries.{Mark, Packet, entries_from, entries_of, entries_past}
 use Rattle.pcap_file.specs.RecordedDatagram.{ArrivalView}
-use Rattle.pcap_file.specs.Blocks.{block_octets, closing_block, datagram_block, interface_block, section_block, section_body}
-use Rattle.pcap_file.specs.WrittenRecord.{IsArrival, IsPath, PathView, closed_record, datagram_blocks, interface_blocks, items_of, open_record, packet_entries, packet_of}
+use Rattle.pcap_file.specs.Blocks.{block_octets, closing_block, datagram_block, gains_interface_block, interface_block, section_block, section_body}
+use Rattle.pcap_file.specs.WrittenRecord.{IsArrival, IsPath, PathView, closed_gains_record, closed_record, datagram_blocks, interface_blocks, items_of, open_gains_record, open_record, packet_entries, packet_of}
 use Rattle.pcap_file.proofs.ClosingLemmas.{tells_closing}
 use Rattle.pcap_file.proofs.DatagramLemmas.{tells_datagram}
-use Rattle.pcap_file.proofs.WriteInterfaceLemmas.{raw, tells_interface}
+use Rattle.pcap_file.proofs.WriteInterfaceLemmas.{raw, tells_gains, tells_interface}
 use Rattle.pcap_file.proofs.OpeningLemmas.{tells_opening, whole_opening}
 use Rattle.pcap_file.proofs.WholeLemmas.{at, told_entries, told_packet}
 
@@ -78,7 +78,7 @@ interfaces_entries (path ∷ paths) n rest every few =
     ∙ ap (λ k. entries_from (at (raws k)) rest) (omega arith)
 
 -- and behind the datagrams
-datagrams_packets : (arrivals : List ArrivalView) (n : ℕ) (place : ℕ) (rest : List ℕ) (items : List Item) → All (IsArrival n) arrivals → n ≤ 64
+datagrams_packets : (arrivals : List ArrivalView) (n : ℕ) (place : ℕ) (rest : List ℕ) (items : List Item) → All (IsArrival n) arrivals → n ≤ 65
     → ((place : ℕ) → packets_from (at (raws n)) place rest ≡ items)
     → packets_from (at (raws n)) place (datagram_blocks arrivals ++ rest) ≡ items_of arrivals ++ items
 datagrams_packets [] n place rest items all few then = then place
@@ -90,7 +90,7 @@ datagrams_packets (a ∷ arrivals) n place rest items every few then =
     ∙ told_packet Little (raws n) (raws n) block (datagram_blocks arrivals ++ rest) (Some (packet_of a)) None place (tells_datagram (raws n) n a is few (raw_at n a.interface is.interface))
     ∙ ap (λ l. Ok (packet_of a) ∷ l) (datagrams_packets arrivals n (place + length block) rest items all few then)
 
-datagrams_entries : (arrivals : List ArrivalView) (n : ℕ) (rest : List ℕ) → All (IsArrival n) arrivals → n ≤ 64
+datagrams_entries : (arrivals : List ArrivalView) (n : ℕ) (rest : List ℕ) → All (IsArrival n) arrivals → n ≤ 65
     → entries_from (at (raws n)) (datagram_blocks arrivals ++ rest) ≡ packet_entries arrivals ++ entries_from (at (raws n)) rest
 datagrams_entries [] n rest all few = refl
 datagrams_entries (a ∷ arrivals) n rest every few =
@@ -142,7 +142,7 @@ record_packets n paths arrivals rest items small named few all then =
     ap packets_of (in_turn (section_block n) (interface_blocks paths) (datagram_blocks arrivals) rest)
     ∙ opened_packets n (interface_blocks paths ++ (datagram_blocks arrivals ++ rest)) (items_of arrivals ++ items) small
     (λ place. interfaces_packets paths 0 place (datagram_blocks arrivals ++ rest) (items_of arrivals ++ items) named (omega (arith, few))
-    (λ p. ap (λ k. packets_from (at (raws k)) p (datagram_blocks arrivals ++ rest)) (omega arith) ∙ datagrams_packets arrivals (length paths) p rest items all few then))
+    (λ p. ap (λ k. packets_from (at (raws k)) p (datagram_blocks arrivals ++ rest)) (omega arith) ∙ datagrams_packets arrivals (length paths) p rest items all (omega (arith, few)) then))
 
 record_entries : (n : ℕ) (paths : List PathView) (arrivals : List ArrivalView) (rest : List ℕ) → n < 2 ^ 63 → All IsPath paths → length paths ≤ 64
     → All (IsArrival (length paths)) arrivals
@@ -154,7 +154,7 @@ record_entries n paths arrivals rest small named few all =
     ∙ ap (λ l. Mark (Opened n) ∷ l)
     (interfaces_entries paths 0 (datagram_blocks arrivals ++ rest) named (omega (arith, few))
     ∙ ap (λ k. entries_from (at (raws k)) (datagram_blocks arrivals ++ rest)) (omega arith)
-    ∙ datagrams_entries arrivals (length paths) rest all few)
+    ∙ datagrams_entries arrivals (length paths) rest all (omega (arith, few)))
 
 nothing_left : (interfaces : List Interface) (place : ℕ) → packets_from (at interfaces) place [] ≡ []
 unfolding packets_past
@@ -203,3 +203,76 @@ pub closed_entries : (n : ℕ) (paths : List PathView) (arrivals : List ArrivalV
 closed_entries n paths arrivals time small named some few all fits =
     record_entries n paths arrivals (closing_block time) small named few all
     ∙ ap (λ l. Mark (Opened n) ∷ (packet_entries arrivals ++ l)) (closing_entries (raws (length paths)) time fits (raw_at (length paths) 0 (omega (arith, some))))
+
+-- the same behind the interface of changes of gains
+with_gains_in_turn : (s i g d rest : List ℕ) → s ++ i ++ g ++ d ++ rest ≡ s ++ (i ++ (g ++ (d ++ rest)))
+with_gains_in_turn s i g d rest = append_assoc (s ++ i ++ g) d rest ∙ append_assoc (s ++ i) g (d ++ rest) ∙ append_assoc s i (g ++ (d ++ rest))
+
+one_more : (n : ℕ) → raws n ++ raw ∷ [] ≡ raws (n + 1)
+one_more n = more_raws n ∙ ap raws (omega arith)
+
+gains_packets : (n : ℕ) (place : ℕ) (rest : List ℕ) (items : List Item) → n ≤ 64 → ((place : ℕ) → packets_from (at (raws (n + 1))) place rest ≡ items)
+    → packets_from (at (raws n)) place (gains_interface_block ++ rest) ≡ items
+gains_packets n place rest items few then =
+    let size = count_raws n in
+    told_packet Little (raws n) (raws n ++ raw ∷ []) gains_interface_block rest None None place (tells_gains (raws n) (omega (arith, size, few)))
+    ∙ ap (λ l. packets_from (at l) (place + length gains_interface_block) rest) (one_more n) ∙ then (place + length gains_interface_block)
+
+gains_entries : (n : ℕ) (rest : List ℕ) → n ≤ 64 → entries_from (at (raws n)) (gains_interface_block ++ rest) ≡ entries_from (at (raws (n + 1))) rest
+gains_entries n rest few =
+    let size = count_raws n in
+    told_entries Little (raws n) (raws n ++ raw ∷ []) gains_interface_block rest None None (tells_gains (raws n) (omega (arith, size, few)))
+    ∙ ap (λ l. entries_from (at l) rest) (one_more n)
+
+gains_record_packets : (n : ℕ) (paths : List PathView) (arrivals : List ArrivalView) (rest : List ℕ) (items : List Item) → n < 2 ^ 63 → All IsPath paths → length paths ≤ 64
+    → All (IsArrival (length paths + 1)) arrivals → ((place : ℕ) → packets_from (at (raws (length paths + 1))) place rest ≡ items)
+    → packets_of (open_gains_record n paths arrivals ++ rest) ≡ items_of arrivals ++ items
+unfolding raws
+gains_record_packets n paths arrivals rest items small named few all then =
+    let behind : List ℕ = gains_interface_block ++ (datagram_blocks arrivals ++ rest) in
+    ap packets_of (with_gains_in_turn (section_block n) (interface_blocks paths) gains_interface_block (datagram_blocks arrivals) rest)
+    ∙ opened_packets n (interface_blocks paths ++ behind) (items_of arrivals ++ items) small
+    (λ place. interfaces_packets paths 0 place behind (items_of arrivals ++ items) named (omega (arith, few))
+    (λ p. ap (λ k. packets_from (at (raws k)) p behind) (omega arith)
+    ∙ gains_packets (length paths) p (datagram_blocks arrivals ++ rest) (items_of arrivals ++ items) few
+    (λ q. datagrams_packets arrivals (length paths + 1) q rest items all (omega (arith, few)) then)))
+
+gains_record_entries : (n : ℕ) (paths : List PathView) (arrivals : List ArrivalView) (rest : List ℕ) → n < 2 ^ 63 → All IsPath paths → length paths ≤ 64
+    → All (IsArrival (length paths + 1)) arrivals
+    → entries_of (open_gains_record n paths arrivals ++ rest) ≡ Mark (Opened n) ∷ (packet_entries arrivals ++ entries_from (at (raws (length paths + 1))) rest)
+unfolding raws
+gains_record_entries n paths arrivals rest small named few all =
+    let behind : List ℕ = gains_interface_block ++ (datagram_blocks arrivals ++ rest) in
+    ap entries_of (with_gains_in_turn (section_block n) (interface_blocks paths) gains_interface_block (datagram_blocks arrivals) rest)
+    ∙ opened_entries n (interface_blocks paths ++ behind) small
+    ∙ ap (λ l. Mark (Opened n) ∷ l)
+    (interfaces_entries paths 0 behind named (omega (arith, few))
+    ∙ ap (λ k. entries_from (at (raws k)) behind) (omega arith)
+    ∙ gains_entries (length paths) (datagram_blocks arrivals ++ rest) few
+    ∙ datagrams_entries arrivals (length paths + 1) rest all (omega (arith, few)))
+
+pub open_gains_packets : (n : ℕ) (paths : List PathView) (arrivals : List ArrivalView) → n < 2 ^ 63 → All IsPath paths → length paths ≤ 64 → All (IsArrival (length paths + 1)) arrivals
+    → packets_of (open_gains_record n paths arrivals) ≡ items_of arrivals
+open_gains_packets n paths arrivals small named few all =
+    ap packets_of (sym (append-nil (open_gains_record n paths arrivals)))
+    ∙ gains_record_packets n paths arrivals [] [] small named few all (λ place. nothing_left (raws (length paths + 1)) place) ∙ append-nil (items_of arrivals)
+
+pub open_gains_entries : (n : ℕ) (paths : List PathView) (arrivals : List ArrivalView) → n < 2 ^ 63 → All IsPath paths → length paths ≤ 64 → All (IsArrival (length paths + 1)) arrivals
+    → entries_of (open_gains_record n paths arrivals) ≡ Mark (Opened n) ∷ packet_entries arrivals
+open_gains_entries n paths arrivals small named few all =
+    ap entries_of (sym (append-nil (open_gains_record n paths arrivals)))
+    ∙ gains_record_entries n paths arrivals [] small named few all
+    ∙ ap (λ l. Mark (Opened n) ∷ l) (ap (λ l. packet_entries arrivals ++ l) (no_entry_left (raws (length paths + 1))) ∙ append-nil (packet_entries arrivals))
+
+pub closed_gains_packets : (n : ℕ) (paths : List PathView) (arrivals : List ArrivalView) (time : ℕ) → n < 2 ^ 63 → All IsPath paths → length paths ≤ 64
+    → All (IsArrival (length paths + 1)) arrivals → time < 2 ^ 64 → packets_of (closed_gains_record n paths arrivals time) ≡ items_of arrivals
+closed_gains_packets n paths arrivals time small named few all fits =
+    gains_record_packets n paths arrivals (closing_block time) [] small named few all
+    (λ place. closing_packets (raws (length paths + 1)) time place fits (raw_at (length paths + 1) 0 (omega arith)))
+    ∙ append-nil (items_of arrivals)
+
+pub closed_gains_entries : (n : ℕ) (paths : List PathView) (arrivals : List ArrivalView) (time : ℕ) → n < 2 ^ 63 → All IsPath paths → length paths ≤ 64
+    → All (IsArrival (length paths + 1)) arrivals → time < 2 ^ 64 → entries_of (closed_gains_record n paths arrivals time) ≡ Mark (Opened n) ∷ (packet_entries arrivals ++ Mark (Closed time) ∷ [])
+closed_gains_entries n paths arrivals time small named few all fits =
+    gains_record_entries n paths arrivals (closing_block time) small named few all
+    ∙ ap (λ l. Mark (Opened n) ∷ (packet_entries arrivals ++ l)) (closing_entries (raws (length paths + 1)) time fits (raw_at (length paths + 1) 0 (omega arith)))

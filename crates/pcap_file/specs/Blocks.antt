@@ -3,6 +3,7 @@ use Rattle.std.specs.Prelude.{ℕ, ◌+◌, ◌-◌, ◌*◌, ◌/◌, ◌%◌, 
 use Rattle.byteorder.specs.Endian.{little_bytes}
 use Rattle.pcap_file.specs.Mark.{opening_text}
 use Rattle.pcap_file.specs.RecordedDatagram.{ArrivalView}
+use Rattle.pcap_file.specs.RecordedChange.{ChangeView, change_octets}
 use Rattle.pcap_file.specs.IpHeader.{header_octets, udp_octets}
 
 -- octets, and zeros up to whole words of four
@@ -35,14 +36,22 @@ abbrev pub interface_text : ℕ → ℕ → List ℕ
 interface_text stream letter = decimal stream ++ 32 ∷ letter ∷ []
 
 -- what the description of an interface of IP packets holds: no limit, its name, that its times are in nanoseconds, and a
--- description, which says what its stream's configuration is
-unfoldable pub interface_body : ℕ → ℕ → List ℕ → List ℕ
-interface_body stream letter description =
+-- description
+unfoldable pub texts_body : List ℕ → List ℕ → List ℕ
+texts_body name description =
     little_bytes 2 101 ++ little_bytes 2 0 ++ little_bytes 4 0
-    ++ option_octets 2 (interface_text stream letter) ++ option_octets 9 (9 ∷ []) ++ option_octets 3 description ++ options_end
+    ++ option_octets 2 name ++ option_octets 9 (9 ∷ []) ++ option_octets 3 description ++ options_end
 
+unfoldable pub texts_block : List ℕ → List ℕ → List ℕ
+texts_block name description = block_octets 1 (texts_body name description)
+
+-- the interface of a path, whose description says what its stream's configuration is
 unfoldable pub interface_block : ℕ → ℕ → List ℕ → List ℕ
-interface_block stream letter description = block_octets 1 (interface_body stream letter description)
+interface_block stream letter description = texts_block (interface_text stream letter) description
+
+-- the interface of a run's changes of gains
+unfoldable pub gains_interface_block : List ℕ
+gains_interface_block = texts_block (codes "gains") (codes "gains")
 
 -- a time as two words, the high one first
 abbrev pub time_octets : ℕ → List ℕ
@@ -57,6 +66,21 @@ datagram_head a =
 -- an enhanced packet block
 unfoldable pub datagram_block : ArrivalView → List ℕ
 datagram_block a = block_octets 6 (datagram_head a ++ padded a.octets)
+
+-- a change of gains as the payload of a datagram from and to nowhere: all addresses and ports are 0
+abbrev pub change_arrival : ℕ → ℕ → ChangeView → ArrivalView
+change_arrival interface nanoseconds change = record {
+  interface = interface;
+  nanoseconds = nanoseconds;
+  source = 0 ∷ 0 ∷ 0 ∷ 0 ∷ [];
+  source_port = 0;
+  destination = 0 ∷ 0 ∷ 0 ∷ 0 ∷ [];
+  destination_port = 0;
+  octets = change_octets change;
+}
+
+unfoldable pub change_block : ℕ → ℕ → ChangeView → List ℕ
+change_block interface nanoseconds change = datagram_block (change_arrival interface nanoseconds change)
 
 -- what an interface statistics block of the first interface holds: its time, and nothing else
 unfoldable pub closing_body : ℕ → List ℕ

@@ -17,6 +17,7 @@ pub mod ReadBuffer
 pub mod Reader
 pub mod Overwrites
 pub mod RecordedDatagram
+pub mod RecordedChange
 pub mod IpHeader
 pub mod Blocks
 pub mod RecordedStream

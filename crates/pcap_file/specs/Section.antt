@@ -117,10 +117,10 @@ abbrev pub section_begun : SectionView → Option CaptureFaultKind → Result Co
 section_begun section None = Ok (record { packet = None; section = record { order = section.order; interfaces = [] } })
 section_begun section (Some f) = Err f
 
--- the section with one more interface, of at most 64
+-- the section with one more interface, of at most 65
 abbrev pub interface_added : SectionView → Interface → Result Content CaptureFaultKind
 interface_added section interface =
-    if nat_lt (length section.interfaces) 64
+    if nat_lt (length section.interfaces) 65
     then Ok (record { packet = None; section = record { order = section.order; interfaces = section.interfaces ++ interface ∷ [] } })
     else Err fault.TooMany
 

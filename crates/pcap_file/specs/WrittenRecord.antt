@@ -5,7 +5,7 @@ use Rattle.pcap_file.specs.UdpPacket.{Whole}
 use Rattle.pcap_file.specs.Capture.{Item}
 use Rattle.pcap_file.specs.Entries.{Entry, Packet}
 use Rattle.pcap_file.specs.RecordedDatagram.{ArrivalView}
-use Rattle.pcap_file.specs.Blocks.{section_block, interface_block, datagram_block, closing_block}
+use Rattle.pcap_file.specs.Blocks.{section_block, interface_block, gains_interface_block, datagram_block, closing_block}
 
 -- a path's stream and letter, and the description of its stream's configuration
 pub record PathView : Type 0 where
@@ -34,7 +34,15 @@ open_record open_at paths arrivals = section_block open_at ++ interface_blocks p
 abbrev pub closed_record : ℕ → List PathView → List ArrivalView → ℕ → List ℕ
 closed_record open_at paths arrivals closed = open_record open_at paths arrivals ++ closing_block closed
 
--- a datagram that can be written: on a described interface, of two addresses, with numbers that fit their octets
+-- the same of a run whose gains can change: the interface of its changes is behind those of the paths
+abbrev pub open_gains_record : ℕ → List PathView → List ArrivalView → List ℕ
+open_gains_record open_at paths arrivals = section_block open_at ++ interface_blocks paths ++ gains_interface_block ++ datagram_blocks arrivals
+
+abbrev pub closed_gains_record : ℕ → List PathView → List ArrivalView → ℕ → List ℕ
+closed_gains_record open_at paths arrivals closed = open_gains_record open_at paths arrivals ++ closing_block closed
+
+-- a datagram that can be written: on a described interface, of two addresses, with numbers that fit their octets, and of no more
+-- octets than the longest change has
 pub record IsArrival (count : ℕ) (a : ArrivalView) : Type 0 where
   pub interface : a.interface < count
   pub nanoseconds : a.nanoseconds < 2 ^ 64
@@ -42,7 +50,7 @@ pub record IsArrival (count : ℕ) (a : ArrivalView) : Type 0 where
   pub source_port : a.source_port < 2 ^ 16
   pub destination : length a.destination ≡ 4
   pub destination_port : a.destination_port < 2 ^ 16
-  pub octets : length a.octets ≤ 2048
+  pub octets : length a.octets ≤ 32784
 
 -- the packet that it is read as
 abbrev pub packet_of : ArrivalView → PacketView

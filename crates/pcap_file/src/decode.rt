@@ -1,5 +1,5 @@
 //! A captured packet. The submodules read the formats: pcap, pcapng with its interfaces, options and marks, the header
-//! of a link, and IPv4 with UDP.
+//! of a link, IPv4 with UDP, and a recorded change of gains.
 ghost use Rattle.std.specs.Prelude.{◌≡◌, option_map};
 ghost use Rattle.pcap_file.specs.Packet as spec;
 ghost use Rattle.pcap_file.specs.Packet.{packet_view};
@@ -16,6 +16,7 @@ pub(crate) mod options;
 pub(crate) mod pcap;
 pub(crate) mod pcapng;
 pub(crate) mod record_mark;
+pub(crate) mod recorded_change;
 
 /// An IPv4 packet of UDP as it was captured. Its payload is borrowed from the capture's octets.
 #[derive(Clone, Copy, Debug, PartialEq, Eq)]

@@ -24,7 +24,7 @@ pub enum CaptureFaultKind {
     /// The format's version is not 2.4 of pcap, nor 1.0 or 1.2 of pcapng.
     #[error("the version is unknown")]
     Version,
-    /// A section describes more than 64 interfaces.
+    /// A section describes more than 65 interfaces.
     #[error("there are too many interfaces")]
     TooMany,
     /// An interface's options are cut, or `if_tsresol` or `if_tsoffset` has a wrong length.

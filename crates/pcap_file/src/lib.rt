@@ -13,7 +13,9 @@
 //!   `write_interface` then describes a path and its stream's configuration (`RecordedStream`), stream
 //!   by stream and path by path; `BlockParser::interface_texts` reads both back. `write_packet`
 //!   writes a datagram that arrived, as an IPv4 packet, and `write_statistics` the time of the close.
-//!   Each writes one block to the front of the caller's slice, which has `MAX_BLOCK_LEN` octets, and
+//!   In the record of a run whose gains can change, `write_gains_interface` describes one more
+//!   interface behind those of all paths, and `write_change` writes a change of gains that was taken, as
+//!   a packet on it; `read_change` reads its payload. Each writes one block to the front of the caller's slice, which has `MAX_BLOCK_LEN` octets, and
 //!   returns its length. Times are in nanoseconds since the opening (`nanoseconds_after`).
 //!   `whole_blocks` finds how much of what was written so far ends with a whole block. A `RecordFile` is
 //!   where the blocks go, and can be cut behind the last of them; `CreateRecord` creates one.
@@ -42,15 +44,19 @@ pub use decode::Packet;
 pub use decode::interface_texts::InterfaceTexts;
 pub use decode::ipv4::{UdpBody, UdpDatagram, UdpPacket};
 pub use decode::record_mark::{RecordMark, decimal_number};
+pub use decode::recorded_change::{ChangeHead, read_change};
 pub use encode::body::{InterfaceName, interface_name};
 pub use encode::datagram::{MAX_DATAGRAM_LEN, RecordedDatagram, nanoseconds_after};
+pub use encode::recorded_change::{MAX_RECORDED_GAINS, RecordedChange};
 pub use encode::recorded_stream::{Description, RecordedStream};
 pub use encode::{
-    MAX_BLOCK_LEN, write_interface, write_packet, write_section_header, write_statistics,
+    MAX_BLOCK_LEN, write_change, write_gains_interface, write_interface, write_packet,
+    write_section_header, write_statistics,
 };
 pub use fault::{CaptureFault, CaptureFaultKind, ReaderFault};
 pub use laws::{
-    checksums_are_right, instants_come_back, paths_are_read_back, records_are_read_back,
+    changes_are_read_back, checksums_are_right, instants_come_back, paths_are_read_back,
+    records_are_read_back,
 };
 pub use reader::buffer::ReadBuffer;
 pub use reader::{cut_fault, has_block, has_whole_block, interface_texts, next_block, open_reader};

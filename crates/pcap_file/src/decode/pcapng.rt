@@ -19,9 +19,9 @@ use crate::fault::CaptureFaultKind;
 use arrayvec::ArrayVec;
 
 /// The greatest number of interfaces of a section.
-// A record has at most 16 streams with 4 paths each. The limit lets the interfaces lie in an array, so that reading
-// allocates nothing.
-const MAX_INTERFACES: usize = 64;
+// A record has at most 16 streams with 4 paths each, and an interface of changes of gains. The limit lets the interfaces
+// lie in an array, so that reading allocates nothing.
+const MAX_INTERFACES: usize = 65;
 
 /// The length of an empty block in octets: its type, and its length twice.
 const EMPTY_BLOCK: usize = 12;
@@ -115,7 +115,7 @@ impl Section {
         Ok(None)
     }
 
-    /// Adds an interface by its description. Returns `TooMany` after 64.
+    /// Adds an interface by its description. Returns `TooMany` after 65.
     #[tactic(auto, unfolding(crate::specs::Section::described_by))]
     fn add_interface<'a>(&mut self, block: &'a [u8]) -> Result<Option<Packet<'a>>, CaptureFaultKind>
         ensures { GivesContent (spec.described_by (section_view self.old) block.now) (section_view self.new) result }

@@ -80,10 +80,11 @@ fn push_opening(head: &mut BlockBody, open_at: u64)
 }
 
 /// Returns the body of an interface's description.
-#[tactic(auto, unfolding(crate::specs::Blocks::interface_body))]
-pub(crate) fn interface_body(stream: u16, letter: u8, description: &[u8]) -> BlockBody
-    requires { length description.now ≤ 64 }
-    ensures items { result.items ≡ spec.interface_body stream letter description.now }
+#[tactic(auto, unfolding(crate::specs::Blocks::texts_body))]
+pub(crate) fn interface_body(name: &[u8], description: &[u8]) -> BlockBody
+    requires short_name { length name.now ≤ 8 }
+    requires few { length description.now ≤ 64 }
+    ensures items { result.items ≡ spec.texts_body name.now description.now }
     ensures length { array_vec_len result ≤ 128 }
 {
     let mut head = BlockBody::new();
@@ -91,21 +92,12 @@ pub(crate) fn interface_body(stream: u16, letter: u8, description: &[u8]) -> Blo
     push(&mut head, &0_u16.to_le_bytes());
     // 0 means that packets are captured whole.
     push(&mut head, &0_u32.to_le_bytes());
-    push_name(&mut head, stream, letter);
+    push_option(&mut head, 2, name);
     // The option `if_tsresol`: times are in nanoseconds.
     push_option(&mut head, 9, &[9]);
     push_option(&mut head, 3, description);
     push(&mut head, &0_u32.to_le_bytes());
     head
-}
-
-/// Appends an interface's name.
-fn push_name(head: &mut BlockBody, stream: u16, letter: u8)
-    requires { array_vec_len head.old + 12 ≤ 128 }
-    ensures items { head.new.items ≡ head.old.items ++ option_octets 2 (interface_text stream letter) }
-    ensures length { array_vec_len head.new ≤ array_vec_len head.old + 12 }
-{
-    push_option(head, 2, interface_name(stream, letter).as_slice());
 }
 
 /// Returns the name of the interface of a stream's path, as `0 a`: the stream's number, a space and the path's letter.
@@ -122,7 +114,7 @@ pub fn interface_name(stream: u16, letter: u8) -> InterfaceName
 /// Returns the octets before a datagram in its block: the packet's fields, and the IPv4 and UDP headers.
 #[tactic(auto, unfolding(crate::specs::Blocks::datagram_head))]
 pub(crate) fn datagram_body(arrival: &RecordedDatagram<'_>) -> BlockBody
-    requires { length arrival.now.octets.now ≤ 2048 }
+    requires { length arrival.now.octets.now ≤ 32784 }
     ensures items { result.items ≡ datagram_head (arrival_view arrival.now) }
     ensures length { array_vec_len result ≡ 48 }
 {

@@ -11,7 +11,7 @@ use std::net::Ipv4Addr;
 
 /// Appends the IPv4 header of a datagram.
 pub(crate) fn push_ipv4(head: &mut BlockBody, arrival: &RecordedDatagram<'_>)
-    requires few { length arrival.now.octets.now ≤ 2048 }
+    requires few { length arrival.now.octets.now ≤ 32784 }
     requires room { array_vec_len head.old + 20 ≤ 128 }
     ensures items { head.new.items ≡ head.old.items ++ header_octets (arrival_view arrival.now) }
     ensures length { array_vec_len head.new ≡ array_vec_len head.old + 20 }
@@ -29,7 +29,7 @@ pub(crate) fn push_ipv4(head: &mut BlockBody, arrival: &RecordedDatagram<'_>)
 /// Appends the UDP header of a datagram.
 #[tactic(auto, unfolding(crate::specs::IpHeader::udp_octets))]
 pub(crate) fn push_udp(head: &mut BlockBody, arrival: &RecordedDatagram<'_>)
-    requires few { length arrival.now.octets.now ≤ 2048 }
+    requires few { length arrival.now.octets.now ≤ 32784 }
     requires room { array_vec_len head.old + 8 ≤ 128 }
     ensures items { head.new.items ≡ head.old.items ++ udp_octets (arrival_view arrival.now) }
     ensures length { array_vec_len head.new ≡ array_vec_len head.old + 8 }
@@ -43,7 +43,7 @@ pub(crate) fn push_udp(head: &mut BlockBody, arrival: &RecordedDatagram<'_>)
 
 /// Returns the checksum of a datagram's IPv4 header (RFC 1071).
 fn checksum(total: u16, arrival: &RecordedDatagram<'_>) -> u16
-    requires few { length arrival.now.octets.now ≤ 2048 }
+    requires few { length arrival.now.octets.now ≤ 32784 }
     requires total { total ≡ 28 + length arrival.now.octets.now }
     ensures { result ≡ checksum_of (header_with 0 (arrival_view arrival.now)) }
 {
