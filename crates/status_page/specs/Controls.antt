@@ -30,6 +30,10 @@ use Rattle.status_page.specs.Verdicts.{verdict_of}
 abbrev pub Asks : Type 0 → Type 1
 Asks D = D → GainRequest → List ℤ → DeskAnswer → List ℤ → D → Type 0
 
+-- the times of the planned changes that a desk has
+abbrev pub Plans : Type 0 → Type 0
+Plans D = D → List ℤ
+
 -- the time in a query: `at=` and an integer
 abbrev pub time_at : List ℕ → Option ℤ
 time_at query = if bytes_eq (take 3 query) (codes "at=") then integer_in (drop 3 query) else None
@@ -86,9 +90,10 @@ abbrev pub IsWrittenOrFailed : (Response → Type 0) → Response → Type 0
 IsWrittenOrFailed Is response = Is response ⊎ IsFailed response
 
 -- the gains were asked for at the time of the query, and the response is the reply; or an allocation failed before that
-abbrev pub Shows : {D : Type 0} → Asks D → Control D → Option (List ℕ) → Control D → Response → Type 0
-Shows asks old query new response =
-    ((reply : Result ShownTimes ControlFault) × ShowsBy asks old (time_in_query query) new reply × IsWrittenOrFailed (IsShownReply old.shape.outs old.shape.ins reply new.gains.items) response)
+abbrev pub Shows : {D : Type 0} → Asks D → Plans D → Control D → Option (List ℕ) → Control D → Response → Type 0
+Shows asks plans old query new response =
+    ((reply : Result ShownTimes ControlFault) × ShowsBy asks old (time_in_query query) new reply
+    × IsWrittenOrFailed (IsShownReply old.shape.outs old.shape.ins reply (plans new.desk) new.gains.items) response)
     ⊎ ((new.desk ≡ old.desk) × IsFailed response)
 
 -- the change of the body was asked for, and the response is the reply; or an allocation failed before that
@@ -106,8 +111,8 @@ abbrev pub verdict_on : {D : Type 0} → ControlPage D → Request (List ℕ) �
 verdict_on page request = verdict_of page.control.token (allows page.rate page.time) (head_of request)
 
 -- the gains were shown, and nothing but the desk has changed
-pub record ShowsGains {D : Type 0} (asks : Asks D) (old : ControlPage D) (request : Request (List ℕ)) (response : Response) (new : ControlPage D) : Type 0 where
-  pub shows : Shows asks old.control (uri_query (head_of request).uri) new.control response
+pub record ShowsGains {D : Type 0} (asks : Asks D) (plans : Plans D) (old : ControlPage D) (request : Request (List ℕ)) (response : Response) (new : ControlPage D) : Type 0 where
+  pub shows : Shows asks plans old.control (uri_query (head_of request).uri) new.control response
   pub lock : HasSameLock old.control new.control
   pub page : new.page ≡ old.page
   pub rate : new.rate ≡ old.rate
@@ -122,17 +127,17 @@ pub record ChangesGains {D : Type 0} (asks : Asks D) (old : ControlPage D) (requ
   pub time : new.time ≡ old.time
 
 -- what the page does by a verdict
-abbrev pub responds : {D : Type 0} → Asks D → Verdict → ControlPage D → Request (List ℕ) → Response → ControlPage D → Type 0
-responds asks OtherHost old request response new = IsResponse 421 misdirected_fields misdirected_text response × (new ≡ old)
-responds asks (Refused fault) old request response new = IsFault fault response × (new ≡ old)
-responds asks NoResource old request response new = IsResponse 404 guard_fields [] response × (new ≡ old)
-responds asks WrongMethod old request response new = IsResponse 405 refused_fields [] response × (new ≡ old)
-responds asks WrongGainsMethod old request response new = IsWrongMethod response × (new ≡ old)
-responds asks WithoutToken old request response new = IsWithoutToken response × (new ≡ old)
-responds asks (Show resource) old request response new = IsResponse 200 (shown_fields resource) (control_content_of old.page resource) response × (new ≡ old)
-responds asks ShowGains old request response new = ShowsGains asks old request response new
-responds asks ChangeGains old request response new = ChangesGains asks old request response new
+abbrev pub responds : {D : Type 0} → Asks D → Plans D → Verdict → ControlPage D → Request (List ℕ) → Response → ControlPage D → Type 0
+responds asks plans OtherHost old request response new = IsResponse 421 misdirected_fields misdirected_text response × (new ≡ old)
+responds asks plans (Refused fault) old request response new = IsFault fault response × (new ≡ old)
+responds asks plans NoResource old request response new = IsResponse 404 guard_fields [] response × (new ≡ old)
+responds asks plans WrongMethod old request response new = IsResponse 405 refused_fields [] response × (new ≡ old)
+responds asks plans WrongGainsMethod old request response new = IsWrongMethod response × (new ≡ old)
+responds asks plans WithoutToken old request response new = IsWithoutToken response × (new ≡ old)
+responds asks plans (Show resource) old request response new = IsResponse 200 (shown_fields resource) (control_content_of old.page resource) response × (new ≡ old)
+responds asks plans ShowGains old request response new = ShowsGains asks plans old request response new
+responds asks plans ChangeGains old request response new = ChangesGains asks old request response new
 
 -- the answer to a request, by its verdict
-abbrev pub control_answers : {D : Type 0} → Asks D → ControlPage D → Request (List ℕ) → Response → ControlPage D → Type 0
-control_answers asks old request response new = responds asks (verdict_on old request) old request response new
+abbrev pub control_answers : {D : Type 0} → Asks D → Plans D → ControlPage D → Request (List ℕ) → Response → ControlPage D → Type 0
+control_answers asks plans old request response new = responds asks plans (verdict_on old request) old request response new

@@ -49,6 +49,10 @@ unfoldable pub number_tokens : List ℤ → List Token
 number_tokens [] = []
 number_tokens (n ∷ ns) = number (signed_decimal n) ∷ number_tokens ns
 
+-- the times of the changes that are still to come
+abbrev pub planned_tokens : List ℤ → List Token
+planned_tokens planned = array_tokens (codes "planned") (number_tokens planned)
+
 -- a row of gains
 abbrev pub row_tokens : List ℤ → List Token
 row_tokens row = begin_array ∷ (number_tokens row ++ end_array ∷ [])
@@ -62,9 +66,10 @@ rows_tokens (row ∷ rows) = row_tokens row ++ rows_tokens rows
 abbrev pub time_members : ShownTimes → List Token
 time_members times = time_member (codes "at") times.at ++ time_member (codes "next_block_start") times.next_block_start
 
--- gains that are shown
-abbrev pub shown_tokens : ShownTimes → List (List ℤ) → List Token
-shown_tokens times rows = begin_object ∷ (time_members times ++ array_tokens (codes "gains") (rows_tokens rows) ++ end_object ∷ [])
+-- gains that are shown, with the times of the changes that are still to come
+abbrev pub shown_tokens : ShownTimes → List ℤ → List (List ℤ) → List Token
+shown_tokens times planned rows =
+    begin_object ∷ (time_members times ++ planned_tokens planned ++ array_tokens (codes "gains") (rows_tokens rows) ++ end_object ∷ [])
 
 -- the response to a request for a change
 abbrev pub IsTakenReply : Result ℤ ControlFault → Response → Type 0
@@ -72,6 +77,6 @@ IsTakenReply (Ok at) response = IsResponse 200 json_fields (print (taken_tokens 
 IsTakenReply (Err fault) response = IsFault fault response
 
 -- the response to a request for the gains
-abbrev pub IsShownReply : ℕ → ℕ → Result ShownTimes ControlFault → List ℤ → Response → Type 0
-IsShownReply outs ins (Ok times) gains response = IsResponse 200 json_fields (print (shown_tokens times (rows_of ins outs gains))) response
-IsShownReply outs ins (Err fault) gains response = IsFault fault response
+abbrev pub IsShownReply : ℕ → ℕ → Result ShownTimes ControlFault → List ℤ → List ℤ → Response → Type 0
+IsShownReply outs ins (Ok times) planned gains response = IsResponse 200 json_fields (print (shown_tokens times planned (rows_of ins outs gains))) response
+IsShownReply outs ins (Err fault) planned gains response = IsFault fault response

@@ -1,3 +1,4 @@
+pub mod Audio
 pub mod Blank
 pub mod ChangeRate
 pub mod Connections

@@ -9,7 +9,10 @@ use Rattle.status_page.specs.declared.snapshot.PathState.{PathState}
 use Rattle.status_page.specs.declared.snapshot.StreamState.{StreamState}
 use Rattle.status_page.specs.declared.snapshot.OutputState.{OutputState}
 use Rattle.status_page.specs.declared.snapshot.RecordState.{RecordState}
+use Rattle.status_page.specs.declared.snapshot.WavState.{WavState}
+use Rattle.status_page.specs.declared.snapshot.PcmState.{PcmState}
 use Rattle.status_page.specs.declared.snapshot.Snapshot.{Snapshot}
+use Rattle.status_page.specs.Audio.{pcm_blocks, pcm_left_out, pcm_text, wav_blocks, wav_text}
 use Rattle.status_page.specs.Record.{record_datagrams, record_text}
 use Rattle.status_page.specs.declared.fields.Number.{Number}
 use Rattle.status_page.specs.declared.fields.Number.TheVariants as Shown
@@ -213,33 +216,90 @@ failed_samples failed_a failed_b = failed_sample (codes "a") failed_a ++ failed_
 unfoldable pub failed_text : ℕ → ℕ → List ℕ
 failed_text failed_a failed_b = failed_header ++ failed_samples failed_a failed_b
 
--- the metric of a record's state
+-- whether the state of this name is the one that something is in
+unfoldable pub state_sample : List ℕ → List ℕ → List ℕ → List ℕ
+state_sample group state name =
+    metric_text group (codes "state") Gauge ++ codes "{state=\"" ++ name ++ codes "\"" ++ value_text (flag (bytes_eq state name))
+
+-- the states of a file by their names, each with 1 for the one that it is in
+unfoldable pub file_states : List ℕ → List ℕ → List ℕ
+file_states group state = state_sample group state (codes "none") ++ state_sample group state (codes "writing") ++ state_sample group state (codes "ended")
+
+-- the states of raw PCM
+unfoldable pub pcm_states : List ℕ → List ℕ
+pcm_states state =
+    state_sample (codes "pcm_") state (codes "none") ++ state_sample (codes "pcm_") state (codes "waiting")
+    ++ state_sample (codes "pcm_") state (codes "writing") ++ state_sample (codes "pcm_") state (codes "ended")
+
+-- a count without labels, if it is known
+unfoldable pub count_sample : List ℕ → List ℕ → Option ℕ → List ℕ
+count_sample group key None = []
+count_sample group key (Some count) = metric_text group key Counter ++ codes " " ++ decimal count ++ codes "\n"
+
+-- the metric of a count without labels
+abbrev pub count_family : List ℕ → List ℕ → List ℕ → Option ℕ → List ℕ
+count_family group key help count = header_text group key Counter help ++ count_sample group key count
+
+-- the lines before a record's states
 abbrev pub record_header : List ℕ
 record_header = header_text (codes "record_") (codes "state") Gauge (codes "The state of the record: 1 for the state that it is in, and 0 for the others.")
 
--- whether the state of a record has this name
-unfoldable pub record_sample : RecordState → List ℕ → List ℕ
-record_sample state name =
-    metric_text (codes "record_") (codes "state") Gauge ++ codes "{state=\"" ++ name ++ codes "\"" ++ value_text (flag (bytes_eq (record_text state) name))
-
--- each of the states by its name
+-- the metric of a record's state
 unfoldable pub record_states : RecordState → List ℕ
-record_states state =
-    record_header ++ record_sample state (codes "none") ++ record_sample state (codes "writing") ++ record_sample state (codes "ended")
+record_states state = record_header ++ file_states (codes "record_") (record_text state)
 
 -- the metric of the datagrams that a record holds
-abbrev pub recorded_header : List ℕ
-recorded_header = header_text (codes "record_") (codes "datagrams") Counter (codes "Datagrams that the record holds.")
-
--- how many these are, if there is a record
-unfoldable pub recorded_sample : Option ℕ → List ℕ
-recorded_sample None = []
-recorded_sample (Some datagrams) =
-    metric_text (codes "record_") (codes "datagrams") Counter ++ codes " " ++ decimal datagrams ++ codes "\n"
+unfoldable pub recorded_family : Option ℕ → List ℕ
+recorded_family datagrams = count_family (codes "record_") (codes "datagrams") (codes "Datagrams that the record holds.") datagrams
 
 -- both metrics of a record
-abbrev pub record_families : RecordState → List ℕ
-record_families state = record_states state ++ recorded_header ++ recorded_sample (record_datagrams state)
+unfoldable pub record_families : RecordState → List ℕ
+record_families state = record_states state ++ recorded_family (record_datagrams state)
+
+-- the lines before a WAV file's states
+abbrev pub wav_header : List ℕ
+wav_header = header_text (codes "wav_") (codes "state") Gauge (codes "The state of the WAV file: 1 for the state that it is in, and 0 for the others.")
+
+-- the metric of a WAV file's state
+unfoldable pub wav_states : WavState → List ℕ
+wav_states state = wav_header ++ file_states (codes "wav_") (wav_text state)
+
+-- the metric of the blocks that a WAV file holds
+unfoldable pub wav_blocks_family : Option ℕ → List ℕ
+wav_blocks_family blocks = count_family (codes "wav_") (codes "blocks") (codes "Blocks of the mix that the WAV file holds.") blocks
+
+-- both metrics of a WAV file
+unfoldable pub wav_families : WavState → List ℕ
+wav_families state = wav_states state ++ wav_blocks_family (wav_blocks state)
+
+-- the lines before the states of raw PCM
+abbrev pub pcm_header : List ℕ
+pcm_header = header_text (codes "pcm_") (codes "state") Gauge (codes "The state of the raw PCM: 1 for the state that it is in, and 0 for the others.")
+
+-- the metric of the state of raw PCM
+unfoldable pub pcm_state_family : PcmState → List ℕ
+pcm_state_family state = pcm_header ++ pcm_states (pcm_text state)
+
+-- the metric of the blocks that were written as raw PCM
+unfoldable pub pcm_blocks_family : Option ℕ → List ℕ
+pcm_blocks_family blocks = count_family (codes "pcm_") (codes "blocks") (codes "Blocks of the mix that were written as raw PCM.") blocks
+
+-- the metric of the blocks that were left out
+unfoldable pub left_out_family : Option ℕ → List ℕ
+left_out_family left_out =
+    count_family (codes "pcm_") (codes "left_out") (codes "Blocks of the mix that were left out of the raw PCM, because its reader was slow or there was none.") left_out
+
+-- the metrics of both counts of raw PCM
+unfoldable pub pcm_counts : Option ℕ → Option ℕ → List ℕ
+pcm_counts blocks left_out = pcm_blocks_family blocks ++ left_out_family left_out
+
+-- all metrics of raw PCM
+unfoldable pub pcm_families : PcmState → List ℕ
+pcm_families state = pcm_state_family state ++ pcm_counts (pcm_blocks state) (pcm_left_out state)
+
+-- those of what a run writes in addition to its datagrams
+abbrev pub file_families : RecordState → WavState → PcmState → List ℕ
+file_families record_state wav_state pcm_state = record_families record_state ++ wav_families wav_state ++ pcm_families pcm_state
 
 -- all metrics
 unfoldable pub metrics_text : Snapshot → List ℕ
@@ -249,4 +309,4 @@ metrics_text snapshot =
     ++ path_families PATH_FIELDS snapshot.streams.items
     ++ output_families OUTPUT_FIELDS snapshot.outputs.items
     ++ failed_text (slice_index snapshot.failed_sends 0) (slice_index snapshot.failed_sends 1)
-    ++ record_families snapshot.record
+    ++ file_families snapshot.record snapshot.wav snapshot.pcm

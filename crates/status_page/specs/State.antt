@@ -7,7 +7,10 @@ use Rattle.status_page.specs.declared.snapshot.PathState.{PathState}
 use Rattle.status_page.specs.declared.snapshot.StreamState.{StreamState}
 use Rattle.status_page.specs.declared.snapshot.OutputState.{OutputState}
 use Rattle.status_page.specs.declared.snapshot.RecordState.{RecordState}
+use Rattle.status_page.specs.declared.snapshot.WavState.{WavState}
+use Rattle.status_page.specs.declared.snapshot.PcmState.{PcmState}
 use Rattle.status_page.specs.declared.snapshot.Snapshot.{Snapshot}
+use Rattle.status_page.specs.Audio.{pcm_blocks, pcm_left_out, pcm_text, wav_blocks, wav_text}
 use Rattle.status_page.specs.Record.{record_datagrams, record_text}
 use Rattle.status_page.specs.declared.fields.Number.{Number}
 use Rattle.status_page.specs.declared.fields.Number.TheVariants as Shown
@@ -108,18 +111,52 @@ abbrev pub failed_tokens : List ℕ → List Token
 failed_tokens failed =
     array_tokens (codes "failed_sends") (number_token (slice_index failed 0) ∷ number_token (slice_index failed 1) ∷ [])
 
+-- a state, by its name
+abbrev pub state_member : List ℕ → List Token
+state_member name = key (codes "state") ∷ string name ∷ []
+
+-- a count behind its key
+abbrev pub count_member : List ℕ → Option ℕ → List Token
+count_member name count = key name ∷ known_token count ∷ []
+
+-- an object behind its key
+abbrev pub object_tokens : List ℕ → List Token → List Token
+object_tokens name members = key name ∷ begin_object ∷ (members ++ end_object ∷ [])
+
 -- the state of a record, and how many datagrams it holds
 abbrev pub record_members : RecordState → List Token
-record_members state =
-    (key (codes "state") ∷ string (record_text state) ∷ []) ++ key (codes "datagrams") ∷ known_token (record_datagrams state) ∷ []
+record_members state = state_member (record_text state) ++ count_member (codes "datagrams") (record_datagrams state)
+
+-- the state of a WAV file, and how many blocks it holds
+abbrev pub wav_members : WavState → List Token
+wav_members state = state_member (wav_text state) ++ count_member (codes "blocks") (wav_blocks state)
+
+-- the state of raw PCM, how many blocks were written, and how many left out
+unfoldable pub pcm_count_members : Option ℕ → Option ℕ → List Token
+pcm_count_members blocks left_out = count_member (codes "blocks") blocks ++ count_member (codes "left_out") left_out
+
+abbrev pub pcm_members : PcmState → List Token
+pcm_members state = state_member (pcm_text state) ++ pcm_count_members (pcm_blocks state) (pcm_left_out state)
 
 -- the record
 abbrev pub record_tokens : RecordState → List Token
-record_tokens state = key (codes "record") ∷ begin_object ∷ (record_members state ++ end_object ∷ [])
+record_tokens state = object_tokens (codes "record") (record_members state)
+
+-- the WAV file
+abbrev pub wav_tokens : WavState → List Token
+wav_tokens state = object_tokens (codes "wav") (wav_members state)
+
+-- raw PCM
+abbrev pub pcm_tokens : PcmState → List Token
+pcm_tokens state = object_tokens (codes "pcm") (pcm_members state)
+
+-- what a run writes in addition to its datagrams
+unfoldable pub file_tokens : RecordState → WavState → PcmState → List Token
+file_tokens record_state wav_state pcm_state = record_tokens record_state ++ wav_tokens wav_state ++ pcm_tokens pcm_state
 
 -- a snapshot
 unfoldable pub state_tokens : Snapshot → List Token
 state_tokens snapshot =
     begin_object ∷ (array_tokens (codes "streams") (streams_tokens snapshot.streams.items)
     ++ array_tokens (codes "outputs") (outputs_tokens snapshot.outputs.items)
-    ++ failed_tokens snapshot.failed_sends ++ record_tokens snapshot.record ++ end_object ∷ [])
+    ++ failed_tokens snapshot.failed_sends ++ file_tokens snapshot.record snapshot.wav snapshot.pcm ++ end_object ∷ [])

@@ -1,11 +1,8 @@
 //! The names of the conditions of a stream and of the states of a record, and their values as metrics.
 ghost use Rattle.std.specs.Prelude.{◌≡◌};
-ghost use Rattle.std.specs.Str.{bytes_eq};
-ghost use Rattle.status_page.specs.Fields.{flag};
 ghost use Rattle.status_page.specs.Metrics.{condition_text, has_condition};
 ghost use Rattle.status_page.specs.Record.{record_datagrams, record_text};
 
-use crate::fields::path::flag;
 use crate::snapshot::{Condition, RecordState};
 
 /// All conditions of a stream, in the order in which `/metrics` lists them.
@@ -64,12 +61,5 @@ impl RecordState {
             RecordState::Absent => None,
             RecordState::Writing(datagrams) | RecordState::Closed(datagrams) => Some(datagrams),
         }
-    }
-
-    /// Returns 1 if the state has this name, and 0 otherwise: the value of the metric of a record's state.
-    pub(crate) fn is_named(self, name: &str) -> u64
-        ensures { result ≡ flag (bytes_eq (record_text self) name.now) }
-    {
-        flag(self.text() == name)
     }
 }

@@ -39,8 +39,16 @@ pub trait GainDesk: Drop {
     /// outcome and the gains in the buffer after it are these, and that the desk is in the last state then.
     ghost asks: { Self → Asked → List ℤ → Outcome → List ℤ → Self → Type 0 };
 
+    /// The times of the planned changes that the last answer had, in rising order.
+    ghost planned: { Self → List ℤ };
+
     /// Returns the shape of the run's gain matrix.
     fn shape(&self) -> GainShape;
+
+    /// Returns the times of the changes that were still to come when the last answer was made, in rising order: behind
+    /// the `next_block_start` of that answer. Without an answer there are none.
+    fn planned(&self) -> &[i64]
+        ensures { result.now ≡ planned self.now };
 
     /// Asks the run, and waits at most 200 ms for its answer. `gains` has a place for each gain of the matrix, row by
     /// row. For `GainAction::SetAll` it has the gains that are asked for. After an answer it has those that the answer

@@ -73,7 +73,7 @@ impl<D: GainDesk> ControlPage<D> {
     /// each read and after each write.
     pub fn answer(&mut self, connection: &mut Connection, now: Duration)
         ensures served { ∥ IsServed (config_of connection.new) (history connection.new) ∥₁ }
-        ensures calls { Calls (control_answers D.asks) (at_time self.old now) self.new
+        ensures calls { Calls (control_answers D.asks D.planned) (at_time self.old now) self.new
             (history connection.old).calls (history connection.new).calls }
         ensures rests { Rests (config_of connection.new) (history connection.new) }
         ensures config { config_of connection.new ≡ config_of connection.old }
@@ -109,7 +109,7 @@ impl<D: GainDesk> ControlPage<D> {
     /// Shows the gains.
     fn show_gains(&mut self, request: &Request<Bytes>, response: &mut Response)
         requires { IsBlank response.old }
-        ensures { ShowsGains D.asks self.old request.now response.new self.new }
+        ensures { ShowsGains D.asks D.planned self.old request.now response.new self.new }
     {
         let alloc = self.page.alloc();
         self.control.show(alloc, request.uri().query(), response);
@@ -127,7 +127,7 @@ impl<D: GainDesk> ControlPage<D> {
 }
 
 impl<D: GainDesk> Service for ControlPage<D> {
-    ghost answers = { control_answers D.asks };
+    ghost answers = { control_answers D.asks D.planned };
 
     fn call(
         &mut self,

@@ -2,6 +2,8 @@
 ghost use Rattle.std.specs.Prelude.{◌≡◌, [], ◌∷◌, None};
 ghost use Rattle.status_page.specs.Blank.{IsBlank, blank_path};
 ghost use Rattle.status_page.specs.declared.snapshot.RecordState.TheVariants.{Absent};
+ghost use Rattle.status_page.specs.declared.snapshot.WavState.TheVariants as Wav;
+ghost use Rattle.status_page.specs.declared.snapshot.PcmState.TheVariants as Pcm;
 
 use arrayvec::{ArrayString, ArrayVec};
 use rtp_stats::ArrivalMargin;
@@ -152,6 +154,39 @@ pub enum RecordState {
     Closed(u64),
 }
 
+/// The state of a run's WAV file.
+#[derive(Clone, Copy, Debug, PartialEq, Eq)]
+pub enum WavState {
+    /// The run has no WAV file.
+    Absent,
+    /// The file is being written, and holds this number of blocks of the mix.
+    Writing(u64),
+    /// The file ended with this number of blocks: nothing that is mixed is added to it.
+    Closed(u64),
+}
+
+/// The numbers of blocks of a run's raw PCM.
+#[derive(Clone, Copy, Debug, PartialEq, Eq)]
+pub struct PcmBlocks {
+    /// The number of blocks that were written.
+    pub written: u64,
+    /// The number of blocks that were left out, because the reader was slow or there was none.
+    pub left_out: u64,
+}
+
+/// The state of a run's raw PCM.
+#[derive(Clone, Copy, Debug, PartialEq, Eq)]
+pub enum PcmState {
+    /// The run writes no raw PCM.
+    Absent,
+    /// Nobody reads the output yet.
+    Waiting(PcmBlocks),
+    /// The output is being written.
+    Writing(PcmBlocks),
+    /// The output ended: no block is written any more.
+    Closed(PcmBlocks),
+}
+
 /// A snapshot of a studio.
 #[derive(Drop)]
 pub struct Snapshot {
@@ -163,21 +198,28 @@ pub struct Snapshot {
     pub failed_sends: [u64; 2],
     /// The state of the run's record.
     pub record: RecordState,
+    /// The state of the run's WAV file.
+    pub wav: WavState,
+    /// The state of the run's raw PCM.
+    pub pcm: PcmState,
 }
 
 impl Snapshot {
-    /// Returns a snapshot without streams, output channels and a record, in which no send failed.
+    /// Returns a snapshot without streams, output channels, a record, a WAV file and raw PCM, in which no send failed.
     pub fn new() -> Snapshot
         ensures streams { result.streams.items ≡ [] }
         ensures outputs { result.outputs.items ≡ [] }
         ensures sends { result.failed_sends ≡ 0 ∷ 0 ∷ [] }
         ensures record { result.record ≡ Absent }
+        ensures audio { (result.wav ≡ Wav.Absent) × (result.pcm ≡ Pcm.Absent) }
     {
         Snapshot {
             streams: ArrayVec::new(),
             outputs: ArrayVec::new(),
             failed_sends: [0; 2],
             record: RecordState::Absent,
+            wav: WavState::Absent,
+            pcm: PcmState::Absent,
         }
     }
 }

@@ -13,6 +13,7 @@ ghost use Rattle.status_page.specs.GainReplies.{
   IsShownReply,
   IsTakenReply,
   number_tokens,
+  planned_tokens,
   row_tokens,
   rows_tokens,
   shown_in,
@@ -114,14 +115,15 @@ pub(crate) fn write_shown(
     alloc: Global,
     shape: GainShape,
     reply: Result<ShownTimes, ControlFault>,
+    planned: &[i64],
     gains: &[i32],
     response: &mut Response,
 ) -> Result<(), AllocError>
     requires { IsBlank response.old }
-    ensures { OnOk result (IsShownReply shape.outs shape.ins reply gains.now response.new) }
+    ensures { OnOk result (IsShownReply shape.outs shape.ins reply planned.now gains.now response.new) }
 {
     match reply {
-        Ok(times) => show(shown_json(alloc, shape, times, gains)?, response),
+        Ok(times) => show(shown_json(alloc, shape, times, planned, gains)?, response),
         Err(fault) => refuse(fault, response),
     }
 }
@@ -197,18 +199,21 @@ fn taken_json(alloc: Global, at: i64) -> Result<Vec<u8>, AllocError>
     Ok(writer.into_inner())
 }
 
-/// Returns the gains that are shown, as JSON.
+/// Returns the gains that are shown and the times of the changes that are still to come, as JSON.
 fn shown_json(
     alloc: Global,
     shape: GainShape,
     times: ShownTimes,
+    planned: &[i64],
     gains: &[i32],
 ) -> Result<Vec<u8>, AllocError>
-    ensures { IfOk result (λ text. text.items ≡ print (shown_tokens times (rows_of shape.ins shape.outs gains.now))) }
+    ensures { IfOk result (λ text. text.items
+        ≡ print (shown_tokens times planned.now (rows_of shape.ins shape.outs gains.now))) }
 {
     let mut writer = Writer::new(Vec::new(alloc));
     writer.begin_object()?;
     write_times(&mut writer, times)?;
+    write_planned(&mut writer, planned)?;
     write_gains(&mut writer, shape, gains)?;
     writer.end_object()?;
     Ok(writer.into_inner())
@@ -230,6 +235,29 @@ fn write_time(writer: &mut Writer, name: &str, time: i64) -> Result<(), AllocErr
 {
     writer.key(name)?;
     writer.i64(time)
+}
+
+/// Writes the member with the times of the changes that are still to come.
+fn write_planned(writer: &mut Writer, planned: &[i64]) -> Result<(), AllocError>
+    ensures tokens { OnOk result (writer.new.tokens ≡ writer.old.tokens ++ planned_tokens planned.now) }
+    ensures before { OnOk result (writer.new.before ≡ writer.old.before) }
+{
+    writer.key("planned")?;
+    writer.begin_array()?;
+    write_each_time(writer, planned)?;
+    writer.end_array()
+}
+
+/// Writes times one after another.
+#[tactic(auto, unfolding(crate::specs::GainReplies::number_tokens))]
+fn write_each_time(writer: &mut Writer, times: &[i64]) -> Result<(), AllocError>
+    ensures tokens { OnOk result (writer.new.tokens ≡ writer.old.tokens ++ number_tokens times.now) }
+    ensures before { OnOk result (writer.new.before ≡ writer.old.before) }
+{
+    for time in times {
+        writer.i64(*time)?;
+    }
+    Ok(())
 }
 
 /// Writes the member with the gains.

@@ -30,7 +30,8 @@ impl<D: GainDesk> Control<D> {
     // Not an error: the run may have been asked already.
     pub(crate) fn show(&mut self, alloc: Global, query: Option<&str>, response: &mut Response)
         requires { IsBlank response.old }
-        ensures shows { Shows D.asks self.old (option_map (λ query. query.now) query.entry) self.new response.new }
+        ensures shows { Shows D.asks D.planned self.old (option_map (λ query. query.now) query.entry) self.new
+            response.new }
         ensures lock { HasSameLock self.old self.new }
     {
         match self.ask_for_gains(time_in_query(query)) {
@@ -48,10 +49,12 @@ impl<D: GainDesk> Control<D> {
     )
         requires { IsBlank response.old }
         ensures { IsWrittenOrFailed
-            (IsShownReply self.now.shape.outs self.now.shape.ins reply self.now.gains.items) response.new }
+            (IsShownReply self.now.shape.outs self.now.shape.ins reply (D.planned self.now.desk) self.now.gains.items)
+            response.new }
     {
+        let planned = self.desk.planned();
         let gains = self.gains.as_slice();
-        if write_shown(alloc, self.shape, reply, gains, response).is_err() {
+        if write_shown(alloc, self.shape, reply, planned, gains, response).is_err() {
             fail(response);
         }
     }

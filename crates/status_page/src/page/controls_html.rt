@@ -21,13 +21,14 @@ pub const CONTROLS: &str = r##"<style>
 </style>
 <section id="control" aria-label="Gains">
 <p><label for="token">Token</label> <input id="token" type="password" autocomplete="off" spellcheck="false">
-<span id="told" role="status"></span></p>
+<span id="told" role="status"></span>
+<span id="planned" class="soft" title="changes of gains that are still to come"></span></p>
 <fieldset id="banks"></fieldset>
 </section>
 <script>
 "use strict";
 (() => {
-const UNITY = 65536, SILENT = -601, MOST = 240, POLL_EVERY = 200, OWN_FOR = 400, OPEN_UP_TO = 64;
+const UNITY = 65536, SILENT = -601, MOST = 240, POLL_EVERY = 200, OWN_FOR = 400, OPEN_UP_TO = 64, SECOND = 48000;
 const FAULTS = {
   token: "\u2715 this is not the run's token",
   origin: "\u2715 this page is not the run's own",
@@ -35,7 +36,7 @@ const FAULTS = {
   "no answer": "\u2715 the run does not answer",
   "too many": "\u25b2 64 changes are planned already",
 };
-const [field, told, banks] = ["token", "told", "banks"].map(name => document.getElementById(name));
+const [field, told, planned, banks] = ["token", "told", "planned", "banks"].map(name => document.getElementById(name));
 let faders = [], built = "";
 
 document.getElementById("streams").before(document.getElementById("control"));
@@ -183,11 +184,22 @@ function update(gains) {
   });
 }
 
+// the changes that are still to come: how many, and when the next one is in force
+function plan(reply) {
+  const left = reply.planned.map(time => (time - reply.next_block_start) / SECOND);
+  show(planned, left.length > 0 ? left.length + " planned, next in " + exact(Math.ceil(left[0])) + " s" : "");
+}
+
+function take(reply) {
+  update(reply.gains);
+  plan(reply);
+}
+
 async function poll() {
   for (;;) {
     try {
       const answer = document.hidden ? null : await fetch("/gains", { cache: "no-store" });
-      if (answer && answer.ok) update((await answer.json()).gains);
+      if (answer && answer.ok) take(await answer.json());
     } catch (fault) {
       console.error(fault);
     }

@@ -37,7 +37,7 @@ header { display: flex; gap: 6px; align-items: stretch; margin-bottom: 6px; }
 #about h1 { font-size: 1.25em; }
 #link { display: block; color: var(--soft); }
 #link.off { color: var(--bad); font-weight: 700; }
-#record, #sends { display: block; white-space: nowrap; }
+#record, #wav, #pcm, #sends { display: block; white-space: nowrap; }
 .net { flex: 1; background: var(--card); border: 1px solid var(--line); border-radius: 4px; padding: 3px 8px; }
 .net b { font-size: 1.2em; }
 .net span { display: inline-block; margin-left: .8em; white-space: nowrap; }
@@ -77,7 +77,7 @@ tr.silent td:first-child { font-weight: 700; }
 <body>
 <header>
 <div id="about"><h1>Darbexum</h1> <span id="link" role="status">connecting</span>
-<span id="record"></span><span id="sends"></span></div>
+<span id="record"></span><span id="wav"></span><span id="pcm"></span><span id="sends"></span></div>
 </header>
 <section id="outputs" aria-label="Output channels"></section>
 <main id="streams"></main>
@@ -93,6 +93,15 @@ const CONDITIONS = {
   lost: ["\u2715 lost", "bad"],
   ended: ["\u25a0 ended", "soft"],
 };
+const COLUMNS = [
+  ["path", "the path by its letter"],
+  ["pk/s", "packets a second in the last second"],
+  ["lost", "packets that the stream lost, or that another path brought and this one did not"],
+  ["first", "the share of packets whose first copy came on this path, in the last second"],
+  ["double", "further copies, with the payload of the first"],
+  ["late", "packets after their deadline"],
+  ["spare ms: least, median, drift ppm", "the time from arrival to deadline in the last second, and its drift over the last minute"],
+];
 const REFUSED = { unlike: "unlike", bad: "no RTP", wrong_type: "type", wrong_length: "length", full: "no room", unexpected: "other address" };
 const REFUSED_BY_STREAM = { off_grid: "off grid", ahead: "ahead", wrong_source: "source" };
 
@@ -198,8 +207,10 @@ function buildStream(parent, stream, n) {
   strip.setAttribute("role", "img");
   const table = make("table", box);
   const head = make("tr", make("thead", table));
-  for (const word of ["path", "pk/s", "lost", "first", "double", "late", "spare ms: least, median, drift ppm"]) {
-    make("th", head, "", word).scope = "col";
+  for (const [word, title] of COLUMNS) {
+    const cell = make("th", head, "", word);
+    cell.scope = "col";
+    cell.title = title;
   }
   const body = make("tbody", table);
   const paths = stream.paths.map((_, path) => buildPath(body, LETTERS[path]));
@@ -256,15 +267,38 @@ function draw(state, now) {
   state.outputs.forEach((output, n) => drawOutput(view.outputs[n], output, now));
 }
 
-// the record of the run, and the sends of both copies of its mix
+// the record of the run, its WAV file and raw PCM if it has these, and the sends of both copies of its mix
 function drawRun(state, old) {
   const record = document.getElementById("record"), sends = document.getElementById("sends");
+  drawWav(document.getElementById("wav"), state.wav);
+  drawPcm(document.getElementById("pcm"), state.pcm, old.pcm);
   const { state: kind, datagrams } = state.record, closed = kind === "ended";
   show(record, kind === "none" ? "no record" : (closed ? "\u2715 record ended at " : "\u25cf record ") + exact(datagrams));
   style(record, closed ? "bad word" : kind === "none" ? "soft" : "good");
   const failed = state.failed_sends, all = failed[0] + failed[1];
   show(sends, all > 0 ? "\u25b2 sends failed: a " + exact(failed[0]) + ", b " + exact(failed[1]) : "no send failed");
   style(sends, all > old.failed_sends[0] + old.failed_sends[1] ? "bad word" : all > 0 ? "warn" : "soft");
+}
+
+// the WAV file of the run; no line without one
+function drawWav(line, wav) {
+  const closed = wav.state === "ended", blocks = exact(wav.blocks) + " blocks";
+  show(line, closed ? "\u2715 WAV file: ended after " + blocks : "\u25cf WAV file: " + blocks);
+  style(line, closed ? "bad word" : "good");
+  line.title = closed ? "nothing that is mixed is added to the WAV file any more" : "blocks of the mix in the WAV file";
+  set(line, "display", wav.state === "none" ? "none" : "block");
+}
+
+const PCM_WORDS = { none: "", waiting: "no reader", writing: "reading", ended: "closed" };
+
+// the raw PCM of the run; no line without it
+function drawPcm(line, pcm, old) {
+  const all = pcm.blocks + pcm.left_out, closed = pcm.state === "ended";
+  const sign = closed ? "\u2715" : pcm.left_out > 0 ? "\u25b2" : "\u25cf";
+  show(line, sign + " PCM: " + exact(pcm.blocks) + " of " + exact(all) + " blocks, " + PCM_WORDS[pcm.state]);
+  style(line, closed || pcm.left_out > old.left_out ? "bad word" : pcm.left_out > 0 ? "warn" : "good");
+  line.title = "blocks of the mix that were written as raw PCM; " + exact(pcm.left_out) + " were left out";
+  set(line, "display", pcm.state === "none" ? "none" : "block");
 }
 
 function drawNet(net, sum) {

@@ -14,8 +14,21 @@ ghost use Rattle.status_page.specs.Metrics.{
   output_families,
   failed_samples,
   failed_text,
-  record_states,
+  count_family,
+  file_families,
+  file_states,
+  left_out_family,
+  pcm_blocks_family,
+  pcm_counts,
+  pcm_families,
+  pcm_state_family,
+  pcm_states,
   record_families,
+  record_states,
+  recorded_family,
+  wav_blocks_family,
+  wav_families,
+  wav_states,
   metrics_text,
   state_header,
 };
@@ -26,11 +39,13 @@ use crate::fields::output::{OUTPUT_FIELDS, OutputField};
 use crate::fields::path::{PATH_FIELDS, PathField};
 use crate::fields::stream::StreamField;
 use crate::page::samples::{
-    push_condition_sample, push_failed_sample, push_output_sample, push_path_sample,
-    push_record_sample, push_recorded_sample, push_stream_sample,
+    push_condition_sample, push_count_sample, push_failed_sample, push_output_sample,
+    push_path_sample, push_state_sample, push_stream_sample,
 };
 use crate::page::text::push_header;
-use crate::snapshot::{Condition, OutputState, PathState, RecordState, Snapshot, StreamState};
+use crate::snapshot::{
+    Condition, OutputState, PathState, PcmState, RecordState, Snapshot, StreamState, WavState,
+};
 use rtp_stream::{COUNT_FIELDS, CountField, Path};
 use std::alloc::{AllocError, Global};
 
@@ -50,7 +65,7 @@ pub fn metrics_text(alloc: Global, snapshot: &Snapshot) -> Result<Vec<u8>, Alloc
         snapshot.failed_sends[0],
         snapshot.failed_sends[1],
     )?;
-    push_record_families(&mut text, snapshot.record)?;
+    push_file_families(&mut text, snapshot.record, snapshot.wav, snapshot.pcm)?;
     Ok(text)
 }
 
@@ -255,23 +270,29 @@ fn push_failed_samples(text: &mut Vec<u8>, failed_a: u64, failed_b: u64) -> Resu
     push_failed_sample(text, "b", failed_b)
 }
 
+/// Appends the metrics of the record, of the WAV file and of raw PCM.
+fn push_file_families(
+    text: &mut Vec<u8>,
+    recorded: RecordState,
+    wav: WavState,
+    pcm: PcmState,
+) -> Result<(), AllocError>
+    ensures { OnOk result (text.new.items ≡ text.old.items ++ file_families recorded wav pcm) }
+{
+    push_record_families(text, recorded)?;
+    push_wav_families(text, wav)?;
+    push_pcm_families(text, pcm)
+}
+
 /// Appends the two metrics of the record.
+// Each text with a description is a function of its own: the proof then compares it once.
+#[tactic(auto, unfolding(crate::specs::Metrics::record_families))]
 fn push_record_families(text: &mut Vec<u8>, state: RecordState) -> Result<(), AllocError>
     ensures { OnOk result (text.new.items ≡ text.old.items ++ record_families state) }
 {
     push_record_states(text, state)?;
-    push_header(
-        text,
-        "record_",
-        "datagrams",
-        MetricKind::Counter,
-        RECORDED_HELP,
-    )?;
-    push_recorded_sample(text, state.datagrams())
+    push_recorded(text, state.datagrams())
 }
-
-/// The description of the metric of the datagrams in the record.
-const RECORDED_HELP: &str = "Datagrams that the record holds.";
 
 /// The description of the metric of the record's state.
 const RECORD_HELP: &str =
@@ -283,7 +304,142 @@ fn push_record_states(text: &mut Vec<u8>, state: RecordState) -> Result<(), Allo
     ensures { OnOk result (text.new.items ≡ text.old.items ++ record_states state) }
 {
     push_header(text, "record_", "state", MetricKind::Gauge, RECORD_HELP)?;
-    push_record_sample(text, state, "none")?;
-    push_record_sample(text, state, "writing")?;
-    push_record_sample(text, state, "ended")
+    push_file_states(text, "record_", state.text())
+}
+
+/// The description of the metric of the datagrams in the record.
+const RECORDED_HELP: &str = "Datagrams that the record holds.";
+
+/// Appends the metric of the datagrams in the record.
+#[tactic(auto, unfolding(crate::specs::Metrics::recorded_family))]
+fn push_recorded(text: &mut Vec<u8>, datagrams: Option<u64>) -> Result<(), AllocError>
+    ensures { OnOk result (text.new.items ≡ text.old.items ++ recorded_family datagrams) }
+{
+    push_count_family(text, "record_", "datagrams", RECORDED_HELP, datagrams)
+}
+
+/// Appends the two metrics of the WAV file.
+#[tactic(auto, unfolding(crate::specs::Metrics::wav_families))]
+fn push_wav_families(text: &mut Vec<u8>, state: WavState) -> Result<(), AllocError>
+    ensures { OnOk result (text.new.items ≡ text.old.items ++ wav_families state) }
+{
+    push_wav_states(text, state)?;
+    push_wav_blocks(text, state.blocks())
+}
+
+/// The description of the metric of the WAV file's state.
+const WAV_HELP: &str =
+    "The state of the WAV file: 1 for the state that it is in, and 0 for the others.";
+
+/// Appends the metric of the WAV file's state.
+#[tactic(auto, unfolding(crate::specs::Metrics::wav_states))]
+fn push_wav_states(text: &mut Vec<u8>, state: WavState) -> Result<(), AllocError>
+    ensures { OnOk result (text.new.items ≡ text.old.items ++ wav_states state) }
+{
+    push_header(text, "wav_", "state", MetricKind::Gauge, WAV_HELP)?;
+    push_file_states(text, "wav_", state.text())
+}
+
+/// The description of the metric of the blocks in the WAV file.
+const WAV_BLOCKS_HELP: &str = "Blocks of the mix that the WAV file holds.";
+
+/// Appends the metric of the blocks in the WAV file.
+#[tactic(auto, unfolding(crate::specs::Metrics::wav_blocks_family))]
+fn push_wav_blocks(text: &mut Vec<u8>, blocks: Option<u64>) -> Result<(), AllocError>
+    ensures { OnOk result (text.new.items ≡ text.old.items ++ wav_blocks_family blocks) }
+{
+    push_count_family(text, "wav_", "blocks", WAV_BLOCKS_HELP, blocks)
+}
+
+/// Appends the metrics of raw PCM.
+#[tactic(auto, unfolding(crate::specs::Metrics::pcm_families))]
+fn push_pcm_families(text: &mut Vec<u8>, state: PcmState) -> Result<(), AllocError>
+    ensures { OnOk result (text.new.items ≡ text.old.items ++ pcm_families state) }
+{
+    push_pcm_state_family(text, state)?;
+    push_pcm_counts(text, state.blocks(), state.left_out())
+}
+
+/// The description of the metric of the state of raw PCM.
+const PCM_HELP: &str =
+    "The state of the raw PCM: 1 for the state that it is in, and 0 for the others.";
+
+/// Appends the metric of the state of raw PCM.
+#[tactic(auto, unfolding(crate::specs::Metrics::pcm_state_family))]
+fn push_pcm_state_family(text: &mut Vec<u8>, state: PcmState) -> Result<(), AllocError>
+    ensures { OnOk result (text.new.items ≡ text.old.items ++ pcm_state_family state) }
+{
+    push_header(text, "pcm_", "state", MetricKind::Gauge, PCM_HELP)?;
+    push_pcm_states(text, state.text())
+}
+
+/// Appends the metrics of both counts of raw PCM.
+#[tactic(auto, unfolding(crate::specs::Metrics::pcm_counts))]
+fn push_pcm_counts(
+    text: &mut Vec<u8>,
+    blocks: Option<u64>,
+    left_out: Option<u64>,
+) -> Result<(), AllocError>
+    ensures { OnOk result (text.new.items ≡ text.old.items ++ pcm_counts blocks left_out) }
+{
+    push_pcm_blocks(text, blocks)?;
+    push_left_out(text, left_out)
+}
+
+/// The description of the metric of the blocks of raw PCM.
+const PCM_BLOCKS_HELP: &str = "Blocks of the mix that were written as raw PCM.";
+
+/// Appends the metric of the blocks of raw PCM.
+#[tactic(auto, unfolding(crate::specs::Metrics::pcm_blocks_family))]
+fn push_pcm_blocks(text: &mut Vec<u8>, blocks: Option<u64>) -> Result<(), AllocError>
+    ensures { OnOk result (text.new.items ≡ text.old.items ++ pcm_blocks_family blocks) }
+{
+    push_count_family(text, "pcm_", "blocks", PCM_BLOCKS_HELP, blocks)
+}
+
+/// The description of the metric of the blocks that raw PCM lacks.
+const LEFT_OUT_HELP: &str =
+    "Blocks of the mix that were left out of the raw PCM, because its reader was slow or there was none.";
+
+/// Appends the metric of the blocks that raw PCM lacks.
+#[tactic(auto, unfolding(crate::specs::Metrics::left_out_family))]
+fn push_left_out(text: &mut Vec<u8>, left_out: Option<u64>) -> Result<(), AllocError>
+    ensures { OnOk result (text.new.items ≡ text.old.items ++ left_out_family left_out) }
+{
+    push_count_family(text, "pcm_", "left_out", LEFT_OUT_HELP, left_out)
+}
+
+/// Appends the metric of a count without labels.
+fn push_count_family(
+    text: &mut Vec<u8>,
+    group: &str,
+    key: &str,
+    help: &str,
+    count: Option<u64>,
+) -> Result<(), AllocError>
+    ensures { OnOk result (text.new.items ≡ text.old.items ++ count_family group.now key.now help.now count) }
+{
+    push_header(text, group, key, MetricKind::Counter, help)?;
+    push_count_sample(text, group, key, count)
+}
+
+/// Appends the lines of the states of a file: 1 for the state of this name, and 0 for the others.
+#[tactic(auto, unfolding(crate::specs::Metrics::file_states))]
+fn push_file_states(text: &mut Vec<u8>, group: &str, state: &str) -> Result<(), AllocError>
+    ensures { OnOk result (text.new.items ≡ text.old.items ++ file_states group.now state.now) }
+{
+    push_state_sample(text, group, state, "none")?;
+    push_state_sample(text, group, state, "writing")?;
+    push_state_sample(text, group, state, "ended")
+}
+
+/// Appends the lines of the states of raw PCM: 1 for the state of this name, and 0 for the others.
+#[tactic(auto, unfolding(crate::specs::Metrics::pcm_states))]
+fn push_pcm_states(text: &mut Vec<u8>, state: &str) -> Result<(), AllocError>
+    ensures { OnOk result (text.new.items ≡ text.old.items ++ pcm_states state.now) }
+{
+    push_state_sample(text, "pcm_", state, "none")?;
+    push_state_sample(text, "pcm_", state, "waiting")?;
+    push_state_sample(text, "pcm_", state, "writing")?;
+    push_state_sample(text, "pcm_", state, "ended")
 }

@@ -4,8 +4,8 @@ ghost use Rattle.status_page.specs.Metrics.{
   change_text,
   name_label,
   failed_sample,
-  record_sample,
-  recorded_sample,
+  count_sample,
+  state_sample,
   stream_labels,
   value_text,
   shown_text,
@@ -16,11 +16,11 @@ ghost use Rattle.status_page.specs.Metrics.{
 };
 
 use crate::fields::output::OutputField;
-use crate::fields::path::PathField;
+use crate::fields::path::{PathField, flag};
 use crate::fields::stream::StreamField;
 use crate::fields::{MetricKind, Number};
 use crate::page::text::{push, push_label, push_metric, push_number, push_signed};
-use crate::snapshot::{Condition, OutputState, RecordState, StreamName, StreamState};
+use crate::snapshot::{Condition, OutputState, StreamName, StreamState};
 use rtp_stream::Path;
 use std::alloc::AllocError;
 
@@ -171,35 +171,38 @@ pub(crate) fn push_failed_sample(
     push_value(text, failed)
 }
 
-/// Appends the line for a state of the record, by its name, with 1 if it is the record's state and 0 otherwise.
-#[tactic(auto, unfolding(crate::specs::Metrics::record_sample))]
-pub(crate) fn push_record_sample(
+/// Appends the line for the state of this name, with 1 if it is the one that something is in, and 0 otherwise.
+#[tactic(auto, unfolding(crate::specs::Metrics::state_sample))]
+pub(crate) fn push_state_sample(
     text: &mut Vec<u8>,
-    state: RecordState,
+    group: &str,
+    state: &str,
     name: &str,
 ) -> Result<(), AllocError>
-    ensures { OnOk result (text.new.items ≡ text.old.items ++ record_sample state name.now) }
+    ensures { OnOk result (text.new.items ≡ text.old.items ++ state_sample group.now state.now name.now) }
 {
-    push_metric(text, "record_", "state", MetricKind::Gauge)?;
+    push_metric(text, group, "state", MetricKind::Gauge)?;
     push(text, "{state=\"")?;
     push(text, name)?;
     push(text, "\"")?;
-    push_value(text, state.is_named(name))
+    push_value(text, flag(state == name))
 }
 
-/// Appends the line with the number of datagrams in the record. Appends nothing if there is no record.
-#[tactic(auto, unfolding(crate::specs::Metrics::recorded_sample))]
-pub(crate) fn push_recorded_sample(
+/// Appends the line with a count without labels. Appends nothing if the count is not known.
+#[tactic(auto, unfolding(crate::specs::Metrics::count_sample))]
+pub(crate) fn push_count_sample(
     text: &mut Vec<u8>,
-    datagrams: Option<u64>,
+    group: &str,
+    key: &str,
+    count: Option<u64>,
 ) -> Result<(), AllocError>
-    ensures { OnOk result (text.new.items ≡ text.old.items ++ recorded_sample datagrams) }
+    ensures { OnOk result (text.new.items ≡ text.old.items ++ count_sample group.now key.now count) }
 {
-    let Some(datagrams) = datagrams else {
+    let Some(count) = count else {
         return Ok(());
     };
-    push_metric(text, "record_", "datagrams", MetricKind::Counter)?;
+    push_metric(text, group, key, MetricKind::Counter)?;
     push(text, " ")?;
-    push_number(text, datagrams)?;
+    push_number(text, count)?;
     push(text, "\n")
 }

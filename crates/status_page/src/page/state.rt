@@ -2,7 +2,6 @@
 ghost use Rattle.std.specs.Prelude.{◌≡◌, [], ◌∷◌, ◌++◌, OnOk, IfOk, codes};
 ghost use Rattle.json.specs.Lex.{tokens};
 ghost use Rattle.json.specs.Print.{print};
-ghost use Rattle.json.specs.Token.{key, string};
 ghost use Rattle.status_page.specs.State.{
   array_tokens,
   known_token,
@@ -21,8 +20,16 @@ ghost use Rattle.status_page.specs.State.{
   output_tokens,
   outputs_tokens,
   failed_tokens,
+  count_member,
+  file_tokens,
+  pcm_count_members,
+  pcm_members,
+  pcm_tokens,
   record_members,
   record_tokens,
+  state_member,
+  wav_members,
+  wav_tokens,
   state_tokens,
 };
 
@@ -30,7 +37,9 @@ use crate::fields::Number;
 use crate::fields::output::{OUTPUT_FIELDS, OutputField};
 use crate::fields::path::{PATH_FIELDS, PathField};
 use crate::fields::stream::StreamField;
-use crate::snapshot::{OutputState, PathState, RecordState, Snapshot, StreamName, StreamState};
+use crate::snapshot::{
+    OutputState, PathState, PcmState, RecordState, Snapshot, StreamName, StreamState, WavState,
+};
 use json::Writer;
 use rtp_stream::{COUNT_FIELDS, CountField};
 use std::alloc::{AllocError, Global};
@@ -46,7 +55,7 @@ pub fn state_json(alloc: Global, snapshot: &Snapshot) -> Result<Vec<u8>, AllocEr
     write_streams(&mut writer, snapshot.streams.as_slice())?;
     write_outputs(&mut writer, snapshot.outputs.as_slice())?;
     write_failed_sends(&mut writer, snapshot.failed_sends)?;
-    write_record(&mut writer, snapshot.record)?;
+    write_files(&mut writer, snapshot.record, snapshot.wav, snapshot.pcm)?;
     writer.end_object()?;
     Ok(writer.into_inner())
 }
@@ -285,6 +294,22 @@ fn write_failed_sends(writer: &mut Writer, failed: [u64; 2]) -> Result<(), Alloc
     writer.end_array()
 }
 
+/// Writes the members with the states of the record, of the WAV file and of raw PCM.
+#[tactic(auto, unfolding(crate::specs::State::file_tokens))]
+fn write_files(
+    writer: &mut Writer,
+    recorded: RecordState,
+    wav: WavState,
+    pcm: PcmState,
+) -> Result<(), AllocError>
+    ensures tokens { OnOk result (writer.new.tokens ≡ writer.old.tokens ++ file_tokens recorded wav pcm) }
+    ensures before { OnOk result (writer.new.before ≡ writer.old.before) }
+{
+    write_record(writer, recorded)?;
+    write_wav(writer, wav)?;
+    write_pcm(writer, pcm)
+}
+
 /// Writes the member with the state of the record.
 fn write_record(writer: &mut Writer, state: RecordState) -> Result<(), AllocError>
     ensures tokens { OnOk result (writer.new.tokens ≡ writer.old.tokens ++ record_tokens state) }
@@ -301,26 +326,78 @@ fn write_record_members(writer: &mut Writer, state: RecordState) -> Result<(), A
     ensures tokens { OnOk result (writer.new.tokens ≡ writer.old.tokens ++ record_members state) }
     ensures before { OnOk result (writer.new.before ≡ writer.old.before) }
 {
-    write_record_state(writer, state.text())?;
-    write_record_datagrams(writer, state.datagrams())
+    write_state_member(writer, state.text())?;
+    write_count_member(writer, "datagrams", state.datagrams())
 }
 
-/// Writes the state of the record by its name.
-fn write_record_state(writer: &mut Writer, name: &str) -> Result<(), AllocError>
-    ensures tokens { OnOk result (writer.new.tokens
-        ≡ writer.old.tokens ++ key (codes "state") ∷ string name.now ∷ []) }
+/// Writes the member with the state of the WAV file.
+fn write_wav(writer: &mut Writer, state: WavState) -> Result<(), AllocError>
+    ensures tokens { OnOk result (writer.new.tokens ≡ writer.old.tokens ++ wav_tokens state) }
+    ensures before { OnOk result (writer.new.before ≡ writer.old.before) }
+{
+    writer.key("wav")?;
+    writer.begin_object()?;
+    write_wav_members(writer, state)?;
+    writer.end_object()
+}
+
+/// Writes the state of the WAV file, and the number of blocks that it holds.
+fn write_wav_members(writer: &mut Writer, state: WavState) -> Result<(), AllocError>
+    ensures tokens { OnOk result (writer.new.tokens ≡ writer.old.tokens ++ wav_members state) }
+    ensures before { OnOk result (writer.new.before ≡ writer.old.before) }
+{
+    write_state_member(writer, state.text())?;
+    write_count_member(writer, "blocks", state.blocks())
+}
+
+/// Writes the member with the state of raw PCM.
+fn write_pcm(writer: &mut Writer, state: PcmState) -> Result<(), AllocError>
+    ensures tokens { OnOk result (writer.new.tokens ≡ writer.old.tokens ++ pcm_tokens state) }
+    ensures before { OnOk result (writer.new.before ≡ writer.old.before) }
+{
+    writer.key("pcm")?;
+    writer.begin_object()?;
+    write_pcm_members(writer, state)?;
+    writer.end_object()
+}
+
+/// Writes the state of raw PCM, the number of blocks that were written, and that of those that were left out.
+fn write_pcm_members(writer: &mut Writer, state: PcmState) -> Result<(), AllocError>
+    ensures tokens { OnOk result (writer.new.tokens ≡ writer.old.tokens ++ pcm_members state) }
+    ensures before { OnOk result (writer.new.before ≡ writer.old.before) }
+{
+    write_state_member(writer, state.text())?;
+    write_pcm_counts(writer, state.blocks(), state.left_out())
+}
+
+/// Writes the number of blocks of raw PCM that were written, and that of those that were left out.
+#[tactic(auto, unfolding(crate::specs::State::pcm_count_members))]
+fn write_pcm_counts(
+    writer: &mut Writer,
+    blocks: Option<u64>,
+    left_out: Option<u64>,
+) -> Result<(), AllocError>
+    ensures tokens { OnOk result (writer.new.tokens ≡ writer.old.tokens ++ pcm_count_members blocks left_out) }
+    ensures before { OnOk result (writer.new.before ≡ writer.old.before) }
+{
+    write_count_member(writer, "blocks", blocks)?;
+    write_count_member(writer, "left_out", left_out)
+}
+
+/// Writes a state by its name.
+fn write_state_member(writer: &mut Writer, name: &str) -> Result<(), AllocError>
+    ensures tokens { OnOk result (writer.new.tokens ≡ writer.old.tokens ++ state_member name.now) }
     ensures before { OnOk result (writer.new.before ≡ writer.old.before) }
 {
     writer.key("state")?;
     writer.string(name)
 }
 
-/// Writes the number of datagrams that the record holds, if there is a record.
-fn write_record_datagrams(writer: &mut Writer, count: Option<u64>) -> Result<(), AllocError>
-    ensures tokens { OnOk result (writer.new.tokens
-        ≡ writer.old.tokens ++ key (codes "datagrams") ∷ known_token count ∷ []) }
+/// Writes a count behind its key, or null if nothing is counted.
+fn write_count_member(writer: &mut Writer, name: &str, count: Option<u64>) -> Result<(), AllocError>
+    ensures tokens { OnOk result (writer.new.tokens ≡ writer.old.tokens ++ count_member name.now count) }
     ensures before { OnOk result (writer.new.before ≡ writer.old.before) }
 {
-    writer.key("datagrams")?;
+    writer.key(name)?;
     write_known(writer, count)
 }
