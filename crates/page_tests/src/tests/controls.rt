@@ -66,7 +66,7 @@ const CASES: [Case; 37] = [
         fields: "",
         body: "",
         status: "200 OK",
-        answer: "{\"at\":480,\"next_block_start\":480,\"gains\":[[1,2],[3,4]]}",
+        answer: "{\"at\":480,\"next_block_start\":480,\"planned\":[2400,3600],\"gains\":[[1,2],[3,4]]}",
     },
     Case {
         shows: "the gains at a time are shown",
@@ -74,7 +74,7 @@ const CASES: [Case; 37] = [
         fields: "",
         body: "",
         status: "200 OK",
-        answer: "{\"at\":960,\"next_block_start\":480,\"gains\":[[1,2],[3,4]]}",
+        answer: "{\"at\":960,\"next_block_start\":480,\"planned\":[2400,3600],\"gains\":[[1,2],[3,4]]}",
     },
     Case {
         shows: "a query without an integer is refused",
@@ -106,7 +106,7 @@ const CASES: [Case; 37] = [
         fields: "",
         body: "",
         status: "200 OK",
-        answer: "{\"at\":480,\"next_block_start\":480,\"gains\":[[5,-6],[1048576,-1048576]]}",
+        answer: "{\"at\":480,\"next_block_start\":480,\"planned\":[],\"gains\":[[5,-6],[1048576,-1048576]]}",
     },
     Case {
         shows: "one gain is changed, in the row of its output",
@@ -122,7 +122,7 @@ const CASES: [Case; 37] = [
         fields: "",
         body: "",
         status: "200 OK",
-        answer: "{\"at\":480,\"next_block_start\":480,\"gains\":[[5,7],[1048576,-1048576]]}",
+        answer: "{\"at\":480,\"next_block_start\":480,\"planned\":[960],\"gains\":[[5,7],[1048576,-1048576]]}",
     },
     Case {
         shows: "a time that has passed is refused by the run",
@@ -354,7 +354,7 @@ const CASES: [Case; 37] = [
         fields: "",
         body: "",
         status: "200 OK",
-        answer: "{\"at\":480,\"next_block_start\":480,\"gains\":[[5,7],[0,-1048576]]}",
+        answer: "{\"at\":480,\"next_block_start\":480,\"planned\":[],\"gains\":[[5,7],[0,-1048576]]}",
     },
 ];
 

@@ -1,4 +1,7 @@
-//! A desk of two output channels and two inputs, in memory. The next block begins at 480.
+//! A desk of two output channels and two inputs, in memory. The next block begins at 480. At first two changes are
+//! planned.
+ghost use Rattle.std.specs.Prelude.{min, take};
+
 use gain_mix::ChangeFault;
 use status_page::{DeskAnswer, GainDesk, GainShape};
 use studio_io::{GainAction, GainAnswer, GainRequest};
@@ -14,6 +17,9 @@ const FULL: i64 = 4_800;
 pub(super) struct MemoryDesk {
     shape: GainShape,
     gains: [i32; 4],
+    /// The times of the planned changes: the first `count` of these.
+    planned: [i64; 2],
+    count: usize,
     /// True once the run has ended.
     pub(super) has_ended: bool,
 }
@@ -24,6 +30,8 @@ impl MemoryDesk {
         MemoryDesk {
             shape,
             gains: [1, 2, 3, 4],
+            planned: [2_400, 3_600],
+            count: 2,
             has_ended: false,
         }
     }
@@ -41,6 +49,9 @@ impl MemoryDesk {
             return GainAnswer::Refused(ChangeFault::TooMany);
         }
         if self.set(request.action, gains) {
+            // Each change here is before the planned ones, and so replaces them.
+            self.planned[0] = at;
+            self.count = usize::from(at > NEXT);
             GainAnswer::Taken(at)
         } else {
             GainAnswer::Refused(ChangeFault::Shape)
@@ -71,8 +82,14 @@ impl GainDesk for MemoryDesk {
     // Nothing is claimed of this desk: its tests look at what the page answers.
     ghost asks = { λ old request sent outcome shown new. Unit {0} };
 
+    ghost planned = { λ desk. take (min desk.count 2) desk.planned };
+
     fn shape(&self) -> GainShape {
         self.shape
+    }
+
+    fn planned(&self) -> &[i64] {
+        &self.planned[..self.count.min(2)]
     }
 
     fn ask(&mut self, request: GainRequest, gains: &mut [i32]) -> DeskAnswer {

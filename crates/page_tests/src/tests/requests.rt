@@ -41,7 +41,7 @@ const SHORT: [(&str, &str); 12] = [
     (
         "HEAD /state HTTP/1.0\r\nHost: 127.0.0.1:8080\r\n\r\n",
         "HTTP/1.0 200 OK\r\ncontent-type: application/json\r\ncache-control: no-store\r\n\
-        x-content-type-options: nosniff\r\ncontent-length: 1044\r\nconnection: close\r\n\r\n",
+        x-content-type-options: nosniff\r\ncontent-length: 1134\r\nconnection: close\r\n\r\n",
     ),
     (
         "PUT /state HTTP/1.1\r\nHost: localhost\r\nContent-Length: 8193\r\n\r\n",
@@ -104,7 +104,7 @@ fn is_answered(
 /// Returns the octets that a client gets that asks for the state and then for the page, up to the page's length.
 const KEPT: [&str; 3] = [
     "HTTP/1.1 200 OK\r\ncontent-type: application/json\r\ncache-control: no-store\r\n\
-    x-content-type-options: nosniff\r\ncontent-length: 1044\r\n\r\n",
+    x-content-type-options: nosniff\r\ncontent-length: 1134\r\n\r\n",
     STATE,
     "HTTP/1.1 200 OK\r\ncontent-type: text/html; charset=utf-8\r\ncache-control: no-store\r\n\
     x-content-type-options: nosniff\r\ncontent-length: ",

@@ -3,8 +3,8 @@
 //! All parts find room in it, which the texts show: so its functions test no result, and hold little across a test.
 use rtp_stream::{Counts, PathCounts};
 use status_page::{
-    ArrivalMargin, Condition, CopyCounts, OutputState, PathState, RecordState, Snapshot,
-    SocketState, StreamName, StreamState,
+    ArrivalMargin, Condition, CopyCounts, OutputState, PathState, PcmBlocks, PcmState, RecordState,
+    Snapshot, SocketState, StreamName, StreamState, WavState,
 };
 
 /// A name with all that has to be escaped.
@@ -76,7 +76,8 @@ fn add_output(snapshot: &mut Snapshot, peak: u32) {
     let _ = snapshot.outputs.try_push(output);
 }
 
-/// Returns a snapshot of that stream, of two output channels, of failed sends and of a record.
+/// Returns a snapshot of that stream, of two output channels, of failed sends, of a record, of a WAV file and of raw
+/// PCM.
 pub(super) fn snapshot() -> Snapshot {
     let mut snapshot = Snapshot::new();
     let _ = snapshot.streams.try_push(stream());
@@ -84,5 +85,10 @@ pub(super) fn snapshot() -> Snapshot {
     add_output(&mut snapshot, 0);
     snapshot.failed_sends = [11, 13];
     snapshot.record = RecordState::Closed(14);
+    snapshot.wav = WavState::Writing(20);
+    snapshot.pcm = PcmState::Waiting(PcmBlocks {
+        written: 21,
+        left_out: 22,
+    });
     snapshot
 }

@@ -14,14 +14,16 @@ pub(super) const STATE: &str =
     \"late\":null,\"ahead\":null,\"repeated\":null,\"bad\":null,\"wrong_type\":null,\"wrong_length\":null,\"full\":null,\"spare_least\":null,\
     \"spare_median\":null,\"spare_greatest\":null,\"drift_ppm\":null,\"astray\":null,\"repeating\":null,\"unexpected\":null,\"socket_faults\":null,\"socket_ended\":null,\"socket_dropped\":null}]}],\
     \"outputs\":[{\"peak\":8388608,\"saturated\":2},{\"peak\":0,\"saturated\":2}],\
-    \"failed_sends\":[11,13],\"record\":{\"state\":\"ended\",\"datagrams\":14}}";
+    \"failed_sends\":[11,13],\"record\":{\"state\":\"ended\",\"datagrams\":14},\
+    \"wav\":{\"state\":\"writing\",\"blocks\":20},\"pcm\":{\"state\":\"waiting\",\"blocks\":21,\"left_out\":22}}";
 
-/// The JSON of a snapshot without streams, outputs, failed sends and a record.
+/// The JSON of a snapshot without streams, outputs, failed sends, a record, a WAV file and raw PCM.
 const EMPTY: &str = "{\"streams\":[],\"outputs\":[],\"failed_sends\":[0,0],\
-    \"record\":{\"state\":\"none\",\"datagrams\":null}}";
+    \"record\":{\"state\":\"none\",\"datagrams\":null},\"wav\":{\"state\":\"none\",\"blocks\":null},\
+    \"pcm\":{\"state\":\"none\",\"blocks\":null,\"left_out\":null}}";
 
 /// Parts of its metrics.
-const METRICS: [&str; 15] = [
+const METRICS: [&str; 16] = [
     "# HELP darbexum_stream_state Where the stream stands: 1 for the state that it is in, and 0 for the others.\n\
     # TYPE darbexum_stream_state gauge\n\
     darbexum_stream_state{stream=\"0\",name=\"L\\\"\\\\\\n<b>\",state=\"no_packet\"} 0\n\
@@ -51,7 +53,22 @@ const METRICS: [&str; 15] = [
     darbexum_record_state{state=\"none\"} 0\ndarbexum_record_state{state=\"writing\"} 0\n\
     darbexum_record_state{state=\"ended\"} 1\n\
     # HELP darbexum_record_datagrams_total Datagrams that the record holds.\n\
-    # TYPE darbexum_record_datagrams_total counter\ndarbexum_record_datagrams_total 14\n",
+    # TYPE darbexum_record_datagrams_total counter\ndarbexum_record_datagrams_total 14\n\
+    # HELP darbexum_wav_state ",
+    "# HELP darbexum_wav_state The state of the WAV file: 1 for the state that it is in, and 0 for the others.\n\
+    # TYPE darbexum_wav_state gauge\n\
+    darbexum_wav_state{state=\"none\"} 0\ndarbexum_wav_state{state=\"writing\"} 1\ndarbexum_wav_state{state=\"ended\"} 0\n\
+    # HELP darbexum_wav_blocks_total Blocks of the mix that the WAV file holds.\n\
+    # TYPE darbexum_wav_blocks_total counter\ndarbexum_wav_blocks_total 20\n\
+    # HELP darbexum_pcm_state The state of the raw PCM: 1 for the state that it is in, and 0 for the others.\n\
+    # TYPE darbexum_pcm_state gauge\n\
+    darbexum_pcm_state{state=\"none\"} 0\ndarbexum_pcm_state{state=\"waiting\"} 1\n\
+    darbexum_pcm_state{state=\"writing\"} 0\ndarbexum_pcm_state{state=\"ended\"} 0\n\
+    # HELP darbexum_pcm_blocks_total Blocks of the mix that were written as raw PCM.\n\
+    # TYPE darbexum_pcm_blocks_total counter\ndarbexum_pcm_blocks_total 21\n\
+    # HELP darbexum_pcm_left_out_total Blocks of the mix that were left out of the raw PCM, \
+    because its reader was slow or there was none.\n\
+    # TYPE darbexum_pcm_left_out_total counter\ndarbexum_pcm_left_out_total 22\n",
 ];
 
 /// Returns true if the state was written; else an allocation was refused.
