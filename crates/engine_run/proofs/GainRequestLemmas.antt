@@ -10,10 +10,11 @@ use Rattle.studio_engine.specs.Session.{HasSession}
 use Rattle.studio_io.specs.Answers.{Answer}
 use Rattle.studio_io.specs.declared.report.WorkReport.{WorkReport}
 use Rattle.engine_run.specs.GainRequests.{HasTakenChanges}
-use Rattle.engine_run.specs.Observers.{Heard}
+use Rattle.engine_run.specs.Observers.{Heard, Hears, heard_by}
 use Rattle.engine_run.specs.Rounds.{events_by}
 use Rattle.engine_run.specs.Runs.{IsSettledRun, IsSettledRunWith, IsUnderWay, IsUnderWayWith}
 use Rattle.engine_run.specs.declared.state.RunState.{RunState}
+use Rattle.engine_run.proofs.TellLemmas.{adds_more}
 
 with_each-append : (schedule : Changes) (first more : List (ℤ × List (List ℤ))) → with_each schedule (first ++ more) ≡ with_each (with_each schedule first) more
 with_each-append schedule [] more = refl
@@ -65,26 +66,28 @@ module _ {F C K T : Type 0} (feed_told : F → List Answer) (clock_told : C → 
       → IsUnderWayWith feed_told clock_told sink_handed tap_heard studio all clock before earlier state taken taken
   run-as-it-was state taken h = record { changes = []; taken = sym (append-nil taken); run = h }
 
-  -- one whose engine did
-  pub run-asked : (old : RunState F C K T) (engine : EngineState) (a b : List (ℤ × List ℤ)) → (h : IsUnderWay feed_told clock_told sink_handed tap_heard studio all clock before earlier old) → engine.time ≡ old.engine.time
-      → HasTakenChanges studio engine (events_by studio.open_at h.rounds) h.datagrams a b
-      → IsUnderWayWith feed_told clock_told sink_handed tap_heard studio all clock before earlier (record old { engine = engine }) a b
-  run-asked old engine a b h same t = record {
-    changes = t.changes;
-    taken = t.taken;
-    run = record {
-      rounds = h.rounds;
-      datagrams = h.datagrams;
-      stands = t.stands;
-      time = same ∙ h.time;
-      bounded = h.bounded;
-      clocked = h.clocked;
-      given = h.given;
-      count = h.count;
-      handed = h.handed;
-      heard = h.heard;
-    };
-  }
+  -- one whose engine did, and whose tap was told nothing else
+  pub run-asked : (old : RunState F C K T) (engine : EngineState) (tap : T) (a b : List (ℤ × List ℤ)) → (h : IsUnderWay feed_told clock_told sink_handed tap_heard studio all clock before earlier old) → engine.time ≡ old.engine.time
+      → Hears (tap_heard old.tap) [] (tap_heard tap) → HasTakenChanges studio engine (events_by studio.open_at h.rounds) h.datagrams a b
+      → IsUnderWayWith feed_told clock_told sink_handed tap_heard studio all clock before earlier (record old { engine = engine; tap = tap }) a b
+  run-asked old engine tap a b h same none t =
+      let told = heard_by studio.open_at (events_by studio.open_at h.rounds) in
+      record {
+        changes = t.changes;
+        taken = t.taken;
+        run = record {
+          rounds = h.rounds;
+          datagrams = h.datagrams;
+          stands = t.stands;
+          time = same ∙ h.time;
+          bounded = h.bounded;
+          clocked = h.clocked;
+          given = h.given;
+          count = h.count;
+          handed = h.handed;
+          heard = subst (λ l. Hears earlier l (tap_heard tap)) (append-nil told) (adds_more earlier (tap_heard old.tap) (tap_heard tap) told [] h.heard none);
+        };
+      }
 
   -- and then took more
   pub run-took-more : (mid new : RunState F C K T) (a b c : List (ℤ × List ℤ)) → (h : IsUnderWayWith feed_told clock_told sink_handed tap_heard studio all clock before earlier mid a b)

@@ -5,7 +5,7 @@ use Rattle.std.specs.Ordering.{int_eq}
 use Rattle.studio_session.specs.Event.{TraceEvent, Arrival, Reading, Closing}
 use Rattle.studio_session.specs.Fault.{time_after, time_at}
 use Rattle.studio_engine.specs.Session.{turned}
-use Rattle.engine_run.specs.Observers.{Came, Closed, Heard, Hears, heard_by, heard_of}
+use Rattle.engine_run.specs.Observers.{Came, Closed, HasNotedTaken, Heard, Hears, heard_by, heard_of}
 
 module _ {X : Type 0} where
   -- where one tells at the end, it told at the beginning, and more since
@@ -21,6 +21,21 @@ module _ {X : Type 0} where
   adds_more o None (Some all) xs ys h k = absurd k
   adds_more None (Some mid) (Some all) xs ys h k = absurd h
   adds_more (Some before) (Some mid) (Some all) xs ys h k = k ∙ (ap (λ l. l ++ ys) h ∙ append_assoc before xs ys)
+
+-- changes that were noted, none and then more
+pub noted_none : (a : List (ℤ × List ℤ)) (o : Option (List (ℤ × List ℤ))) → HasNotedTaken a a o o
+noted_none a o = record { changes = []; taken = sym (append-nil a); noted = adds_none o }
+
+pub noted_more : (a b c : List (ℤ × List ℤ)) (o p q : Option (List (ℤ × List ℤ))) → HasNotedTaken a b o p → HasNotedTaken b c p q → HasNotedTaken a c o q
+noted_more a b c o p q h k = record {
+  changes = h.changes ++ k.changes;
+  taken = k.taken ∙ (ap (λ l. l ++ k.changes) h.taken ∙ append_assoc a h.changes k.changes);
+  noted = adds_more o p q h.changes k.changes h.noted k.noted;
+}
+
+-- and nothing since
+pub noted_same : (a b : List (ℤ × List ℤ)) (o p q : Option (List (ℤ × List ℤ))) → HasNotedTaken a b o p → q ≡ p → HasNotedTaken a b o q
+noted_same a b o p q h same = record { changes = h.changes; taken = h.taken; noted = subst (λ r. Adds o h.changes r) (sym same) h.noted }
 
 -- the time after more events
 time-append : (time : ℤ) (xs ys : List TraceEvent) → time_at time (xs ++ ys) ≡ time_at (time_at time xs) ys

@@ -1,4 +1,4 @@
--- The events of a run of which an observer is notified.
+-- The events of a run of which an observer is notified, and the changes of gains.
 use Rattle.std.specs.Prelude.{◌≡◌, ℕ, List, [], ◌∷◌, ◌++◌, ℤ, Option, IfSome, IsSomeAnd}
 use Rattle.studio_session.specs.Event.{TraceEvent, Arrival, Reading, Closing}
 use Rattle.studio_session.specs.Fault.{time_after}
@@ -22,3 +22,13 @@ heard_by time (event ∷ events) = heard_of time event ++ heard_by (time_after t
 -- where a tap tells at the end, it told at the beginning, and was told this since
 abbrev pub Hears : Option (List Heard) → List Heard → Option (List Heard) → Type 0
 Hears before told after = IfSome after (λ all. IsSomeAnd before (λ earlier. all ≡ earlier ++ told))
+
+-- the same of changes of gains: the time from which gains are in force, and the gains, row by row
+abbrev pub NotesChanges : Option (List (ℤ × List ℤ)) → List (ℤ × List ℤ) → Option (List (ℤ × List ℤ)) → Type 0
+NotesChanges before changes after = IfSome after (λ all. IsSomeAnd before (λ earlier. all ≡ earlier ++ changes))
+
+-- exactly the changes that a source took more were noted more, in their order
+pub record HasNotedTaken (first last : List (ℤ × List ℤ)) (before after : Option (List (ℤ × List ℤ))) : Type 0 where
+  pub changes : List (ℤ × List ℤ)
+  pub taken : last ≡ first ++ changes
+  pub noted : NotesChanges before changes after

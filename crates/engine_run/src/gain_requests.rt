@@ -1,4 +1,4 @@
-//! Asks the source of gains for requests, and answers them by the engine.
+//! Asks the source of gains for requests, and answers them by the engine. The observer is notified of each change.
 ghost use Rattle.std.specs.Prelude.{◌≡◌, ◌≤◌, ◌*◌, ◌∷◌, [], ℕ, List, length, Some, MatchResult, OnErr, OnOk, IfOk};
 ghost use Rattle.gain_mix.specs.Changes.{matrix_at};
 ghost use Rattle.gain_mix.specs.Gain.{ins_of};
@@ -8,7 +8,9 @@ ghost use Rattle.studio_session.specs.Event.{TraceEvent};
 ghost use Rattle.studio_engine.specs.Session.{HasSession};
 ghost use Rattle.studio_io.specs.Gains.{AreShown, answer_of, changes_in, wanted_gains};
 ghost use Rattle.engine_run.specs.GainRequests.{HasTakenChanges, next_start};
+ghost use Rattle.engine_run.specs.Observers.{HasNotedTaken, Hears, NotesChanges};
 
+use crate::observer::RunObserver;
 use gain_mix::ChangeFault;
 use studio_engine::Engine;
 use studio_io::{GainAnswer, GainRequest, GainSource, MAX_REQUESTS, copy_gains};
@@ -77,13 +79,35 @@ fn gain_count(engine: &Engine) -> usize
     in_force.outs() * in_force.ins()
 }
 
-/// Asks the source for one request, and answers it. Returns false if there was none.
-fn ask_once<G: GainSource>(engine: &mut Engine, source: &mut G, room: &mut [i32]) -> bool
+/// Notifies the observer of the change that an answer takes, if it takes one.
+fn notify_change<F, T: RunObserver<F>>(
+    engine: &Engine,
+    answer: GainAnswer,
+    gains: &[i32],
+    tap: &mut T,
+)
+    ensures heard { Hears (T.heard tap.old) [] (T.heard tap.new) }
+    ensures noted { NotesChanges (T.noted tap.old) (changes_in answer gains.now) (T.noted tap.new) }
+{
+    if let GainAnswer::Taken(at) = answer {
+        tap.changed(engine, at, gains);
+    }
+}
+
+/// Asks the source for one request, answers it, and notifies the observer of a change. Returns false if there was none.
+fn ask_once<F, G: GainSource, T: RunObserver<F>>(
+    engine: &mut Engine,
+    source: &mut G,
+    tap: &mut T,
+    room: &mut [i32],
+) -> bool
     requires room { length room.old ≡ 8192 }
     ensures stands { (studio : Studio) (events : List TraceEvent) (datagrams : List (List ℕ))
         → HasSession studio engine.old events datagrams
         → HasTakenChanges studio engine.new events datagrams (G.taken source.old) (G.taken source.new) }
     ensures time { engine.new.time ≡ engine.old.time }
+    ensures heard { Hears (T.heard tap.old) [] (T.heard tap.new) }
+    ensures noted { HasNotedTaken (G.taken source.old) (G.taken source.new) (T.noted tap.old) (T.noted tap.new) }
 {
     let count = gain_count(engine);
     let gains = &mut room[..count];
@@ -92,20 +116,30 @@ fn ask_once<G: GainSource>(engine: &mut Engine, source: &mut G, room: &mut [i32]
     };
     let next = engine.next_block_start();
     let answer = answer_request(engine, request, gains);
+    // Before the source has its answer: whoever reads the answer finds the change noted.
+    notify_change(engine, answer, gains, tap);
     source.answer(answer, next, gains);
     true
 }
 
-/// Asks the source for requests until it has none, but for at most 64, and answers each.
-pub(crate) fn ask_source<G: GainSource>(engine: &mut Engine, source: &mut G, room: &mut [i32])
+/// Asks the source for requests until it has none, but for at most 64, answers each, and notifies the observer of each
+/// change.
+pub(crate) fn ask_source<F, G: GainSource, T: RunObserver<F>>(
+    engine: &mut Engine,
+    source: &mut G,
+    tap: &mut T,
+    room: &mut [i32],
+)
     requires room { length room.old ≡ 8192 }
     ensures stands { (studio : Studio) (events : List TraceEvent) (datagrams : List (List ℕ))
         → HasSession studio engine.old events datagrams
         → HasTakenChanges studio engine.new events datagrams (G.taken source.old) (G.taken source.new) }
     ensures time { engine.new.time ≡ engine.old.time }
+    ensures heard { Hears (T.heard tap.old) [] (T.heard tap.new) }
+    ensures noted { HasNotedTaken (G.taken source.old) (G.taken source.new) (T.noted tap.old) (T.noted tap.new) }
 {
     for _ in 0..MAX_REQUESTS {
-        if !ask_once(engine, source, room) {
+        if !ask_once(engine, source, tap, room) {
             return;
         }
     }

@@ -46,10 +46,11 @@ fn take_one<F: Feed, T: RunObserver<F>>(
     buf: &mut [u8],
 ) -> Result<FeedOutcome, ArriveFault>
     requires room { length buf.old ≡ 2048 }
-    ensures { IfOk result (λ outcome. (studio : Studio) (events : List TraceEvent) (datagrams : List (List ℕ))
+    ensures takes { IfOk result (λ outcome. (studio : Studio) (events : List TraceEvent) (datagrams : List (List ℕ))
         → HasSession studio engine.old events datagrams
         → (t : Takes F.told studio engine.new events datagrams stream path reader.old reader.new (T.heard tap.old)
         (T.heard tap.new) 1) × GaveBy outcome t.given) }
+    ensures noted { T.noted tap.new ≡ T.noted tap.old }
 {
     if reader.state.ended {
         return Ok(FeedOutcome::Nothing);
@@ -79,10 +80,11 @@ fn take_some<F: Feed, T: RunObserver<F>>(
     buf: &mut [u8],
 ) -> Result<i64, ArriveFault>
     requires room { length buf.old ≡ 2048 }
-    ensures { OnOk result ((studio : Studio) (events : List TraceEvent) (datagrams : List (List ℕ))
+    ensures takes { OnOk result ((studio : Studio) (events : List TraceEvent) (datagrams : List (List ℕ))
         → HasSession studio engine.old events datagrams
         → Takes F.told studio engine.new events datagrams stream path reader.old reader.new (T.heard tap.old)
         (T.heard tap.new) 64) }
+    ensures noted { T.noted tap.new ≡ T.noted tap.old }
 {
     for _ in 0..MAX_TAKEN {
         let outcome = take_one(engine, stream, path, reader, tap, buf)?;
@@ -114,10 +116,11 @@ fn take_stream<F: Feed, T: RunObserver<F>>(
     buf: &mut [u8],
 ) -> Result<i64, ArriveFault>
     requires room { length buf.old ≡ 2048 }
-    ensures { OnOk result ((studio : Studio) (events : List TraceEvent) (datagrams : List (List ℕ))
+    ensures takes { OnOk result ((studio : Studio) (events : List TraceEvent) (datagrams : List (List ℕ))
         → HasSession studio engine.old events datagrams
         → TakesStream F.told studio engine.new events datagrams stream readers.old readers.new (T.heard tap.old)
         (T.heard tap.new) (length readers.old)) }
+    ensures noted { T.noted tap.new ≡ T.noted tap.old }
 {
     // The feed that allows the shortest rest decides.
     let mut most = LONGEST_REST;
@@ -138,10 +141,11 @@ fn take_own<F: Feed, T: RunObserver<F>>(
     buf: &mut [u8],
 ) -> Result<i64, ArriveFault>
     requires room { length buf.old ≡ 2048 }
-    ensures { OnOk result ((studio : Studio) (events : List TraceEvent) (datagrams : List (List ℕ))
+    ensures takes { OnOk result ((studio : Studio) (events : List TraceEvent) (datagrams : List (List ℕ))
         → HasSession studio engine.old events datagrams
         → TakesStream F.told studio engine.new events datagrams stream own.old.items own.new.items (T.heard tap.old)
         (T.heard tap.new) (length own.old.items)) }
+    ensures noted { T.noted tap.new ≡ T.noted tap.old }
 {
     take_stream(engine, stream, own.as_mut_slice(), tap, buf)
 }
@@ -154,10 +158,11 @@ pub(crate) fn take_all<F: Feed, T: RunObserver<F>>(
     buf: &mut [u8],
 ) -> Result<i64, ArriveFault>
     requires room { length buf.old ≡ 2048 }
-    ensures { OnOk result ((studio : Studio) (events : List TraceEvent) (datagrams : List (List ℕ))
+    ensures takes { OnOk result ((studio : Studio) (events : List TraceEvent) (datagrams : List (List ℕ))
         → HasSession studio engine.old events datagrams
         → TakesAll F.told studio engine.new events datagrams streams.old streams.new (T.heard tap.old)
         (T.heard tap.new) (length streams.old)) }
+    ensures noted { T.noted tap.new ≡ T.noted tap.old }
 {
     let mut most = LONGEST_REST;
     for stream in 0..streams.len() {

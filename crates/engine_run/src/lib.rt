@@ -3,7 +3,7 @@
 //! Begin with `run_engine`. It takes the `Feed`s, one per path, a `Clock`, a `Sink`, a `RunObserver`,
 //! an `IdleWait` and a `GainSource`. Each round
 //!
-//! 1. answers at most 64 requests of the `GainSource`;
+//! 1. answers at most 64 requests of the `GainSource`, and calls `changed` of the observer for each change;
 //! 2. reads the clock and sends what is due by then;
 //! 3. calls `before_wait` of the observer;
 //! 4. waits by the `IdleWait`;
@@ -16,7 +16,8 @@
 //! Once every feed has ended, the clock is read a last time, the engine is closed, and the remaining
 //! datagrams are sent. If the report is `settled`, there is one list of events for which the sink
 //! received the datagrams, the observer the arrivals, and the report the counts. They are those of
-//! the studio with the changes of gains that the `GainSource` took.
+//! the studio with the changes of gains that the `GainSource` took. The observer gets exactly these
+//! changes, also in a run that is not settled.
 //!
 //! `answer_request` answers one request by an engine, for callers that have a loop of their own.
 #![tactic(auto)]

@@ -65,11 +65,12 @@ pub(crate) fn send_rest<K: Sink>(engine: &mut Engine, sink: &mut K, counts: &mut
 pub(crate) fn settle<F: Feed, C: Clock, K: Sink, T: RunObserver<F>>(
     state: &mut RunState<F, C, K, T>,
 ) -> bool
-    ensures { IsTrue result → (studio : Studio) (all : List (List (List Answer))) (clock : List ℤ)
+    ensures done { IsTrue result → (studio : Studio) (all : List (List (List Answer))) (clock : List ℤ)
         (before : Option (List (List ℕ))) (earlier : Option (List Heard))
         → AllEnded state.old.readers.items
         → IsUnderWay F.told C.told K.handed T.heard studio all clock before earlier state.old
         → IsDone K.handed T.heard studio all clock before earlier state.new }
+    ensures noted { T.noted state.new.tap ≡ T.noted state.old.tap }
 {
     if state.engine.close().is_err() {
         return false;

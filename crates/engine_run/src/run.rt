@@ -6,7 +6,7 @@ ghost use Rattle.studio_io.specs.Balances.{Balances};
 ghost use Rattle.engine_run.specs.Runs.{IsDone, IsSettledRunWith, IsUnderWay, IsUnderWayWith};
 ghost use Rattle.engine_run.specs.Intake.{AllEnded};
 ghost use Rattle.engine_run.specs.Grouping.{path_total};
-ghost use Rattle.engine_run.specs.Observers.{Heard};
+ghost use Rattle.engine_run.specs.Observers.{HasNotedTaken, Heard};
 
 use crate::feed_reader::all_readers;
 use crate::observer::RunObserver;
@@ -38,8 +38,8 @@ pub trait IdleWait: Drop {
 /// are not asked.
 ///
 /// In each round `gains` is asked for changes of gains, until it has no request or 64 were answered. A settled run is
-/// one of the studio with exactly the changes that were taken. Pass `NoGains` for a run whose gains change only as the
-/// studio says.
+/// one of the studio with exactly the changes that were taken. `tap` is notified of exactly these, in a run that is not
+/// settled too. Pass `NoGains` for a run whose gains change only as the studio says.
 pub fn run_engine<
     R: Wait,
     F: Feed,
@@ -64,6 +64,8 @@ pub fn run_engine<
         → IsSettledRunWith studio.now (map F.told feeds.items) (C.told clock) r.0 (K.handed sink) (K.handed r.1)
         (T.heard tap) (T.heard r.2) (G.taken gains) (G.taken r.3)) }
     ensures feeds { IfOk result (λ r. r.0.settled ≡ true → length feeds.items ≡ path_total studio.now.streams) }
+    ensures noted { IfOk result
+        (λ r. HasNotedTaken (G.taken gains) (G.taken r.3) (T.noted tap) (T.noted r.2)) }
 {
     let specs = studio.streams();
     let room = ReportBuffers::new(alloc, specs)?;
@@ -100,6 +102,8 @@ fn run_rounds<R: Wait, F: Feed, C: Clock, K: Sink, T: RunObserver<F>, P: IdleWai
         → IsUnderWayWith F.told C.told K.handed T.heard studio all clock before earlier state.new
         (G.taken gains.old) (G.taken gains.new) }
     ensures ended { result ≡ true → AllEnded state.new.readers.items }
+    ensures noted { HasNotedTaken (G.taken gains.old) (G.taken gains.new)
+        (T.noted state.old.tap) (T.noted state.new.tap) }
 {
     // The first round does not rest: no feed was asked yet.
     let mut most = 0;

@@ -5,7 +5,7 @@ ghost use Rattle.studio_io.specs.Answers.{Answer};
 ghost use Rattle.studio_io.specs.Clocks.{time_with};
 ghost use Rattle.engine_run.specs.Runs.{IsTurned, IsUnderWay, IsUnderWayWith};
 ghost use Rattle.engine_run.specs.Intake.{AllEnded};
-ghost use Rattle.engine_run.specs.Observers.{Heard};
+ghost use Rattle.engine_run.specs.Observers.{HasNotedTaken, Heard};
 
 use crate::feed_reader::{FeedReader, have_all_ended};
 use crate::gain_requests::ask_source;
@@ -48,7 +48,7 @@ pub(crate) struct RunState<F, C, K, T> {
 }
 
 impl<F: Feed, C: Clock, K: Sink, T: RunObserver<F>> RunState<F, C, K, T> {
-    /// Asks the source of gains for requests, at most 64, and answers each.
+    /// Asks the source of gains for requests, at most 64, answers each, and notifies the observer of each change.
     fn ask<G: GainSource>(&mut self, source: &mut G, room: &mut [i32])
         requires room { length room.old ≡ 8192 }
         ensures on { (studio : Studio) (all : List (List (List Answer))) (clock : List ℤ)
@@ -56,8 +56,10 @@ impl<F: Feed, C: Clock, K: Sink, T: RunObserver<F>> RunState<F, C, K, T> {
             → IsUnderWay F.told C.told K.handed T.heard studio all clock before earlier self.old
             → IsUnderWayWith F.told C.told K.handed T.heard studio all clock before earlier self.new
             (G.taken source.old) (G.taken source.new) }
+        ensures noted { HasNotedTaken (G.taken source.old) (G.taken source.new)
+            (T.noted self.old.tap) (T.noted self.new.tap) }
     {
-        ask_source(&mut self.engine, source, room);
+        ask_source(&mut self.engine, source, &mut self.tap, room);
     }
 
     /// Reads the clock and sends the datagrams that are due by then.
@@ -66,6 +68,7 @@ impl<F: Feed, C: Clock, K: Sink, T: RunObserver<F>> RunState<F, C, K, T> {
             (before : Option (List (List ℕ))) (earlier : Option (List Heard))
             → IsUnderWay F.told C.told K.handed T.heard studio all clock before earlier self.old
             → IsTurned F.told C.told K.handed T.heard studio all clock before earlier self.new) }
+        ensures tap { self.new.tap ≡ self.old.tap }
     {
         let answer = self.clock.now();
         let now = greatest(self.engine.time(), answer);
@@ -79,6 +82,7 @@ impl<F: Feed, C: Clock, K: Sink, T: RunObserver<F>> RunState<F, C, K, T> {
             (before : Option (List (List ℕ))) (earlier : Option (List Heard))
             → IsTurned F.told C.told K.handed T.heard studio all clock before earlier self.old
             → IsTurned F.told C.told K.handed T.heard studio all clock before earlier self.new) }
+        ensures tap { self.new.tap ≡ self.old.tap }
     {
         if is_new {
             return Ok(());
@@ -93,6 +97,7 @@ impl<F: Feed, C: Clock, K: Sink, T: RunObserver<F>> RunState<F, C, K, T> {
             → IsTurned F.told C.told K.handed T.heard studio all clock before earlier self.old
             → IsTurned F.told C.told K.handed T.heard studio all clock before earlier self.new }
         ensures readers { self.new.readers ≡ self.old.readers }
+        ensures noted { T.noted self.new.tap ≡ T.noted self.old.tap }
     {
         self.tap.before_wait(&self.engine);
     }
@@ -105,6 +110,7 @@ impl<F: Feed, C: Clock, K: Sink, T: RunObserver<F>> RunState<F, C, K, T> {
             (before : Option (List (List ℕ))) (earlier : Option (List Heard))
             → IsTurned F.told C.told K.handed T.heard studio all clock before earlier self.old
             → IsUnderWay F.told C.told K.handed T.heard studio all clock before earlier self.new) }
+        ensures noted { T.noted self.new.tap ≡ T.noted self.old.tap }
     {
         let most = take_all(
             &mut self.engine,
@@ -136,6 +142,8 @@ impl<F: Feed, C: Clock, K: Sink, T: RunObserver<F>> RunState<F, C, K, T> {
             → IsUnderWayWith F.told C.told K.handed T.heard studio all clock before earlier self.new
             (G.taken source.old) (G.taken source.new)) }
         ensures ended { IfOk result (λ most. most ≡ None → AllEnded self.new.readers.items) }
+        ensures noted { HasNotedTaken (G.taken source.old) (G.taken source.new)
+            (T.noted self.old.tap) (T.noted self.new.tap) }
     {
         // Before the clock is read: a change that is asked for now is in force from the first block that this round
         // sends.

@@ -1,21 +1,24 @@
 //! Whole runs, in one thread and by workers, whose gains move while they go on.
-ghost use Rattle.std.specs.Prelude.{◌≡◌, ◌++◌, ◌∷◌, [], List, ℤ, true, map};
+ghost use Rattle.std.specs.Prelude.{◌≡◌, ◌++◌, ◌∷◌, [], List, ℤ, None, Some, true, map};
 
 use super::fakes::{FaultyFeed, NoRest};
 use super::workers::{gave_both, list_of, one_stream, try_open, two_packets};
-use engine_run::{NoObserver, run_engine};
+use engine_run::{NoObserver, RunObserver, run_engine};
 use gain_mix::ChangeFault;
+use path_merge::Path;
 use std::alloc::Global;
 use std::process::Abort;
 use std::sync::Wait;
 use std::sync::atomic::AtomicBool;
 use std::thread::Threads;
 use studio_config::StudioSpec;
+use studio_engine::Engine;
 use studio_io::{
     Clock, Feed, GainAction, GainAnswer, GainRequest, GainSource, MemoryClock, MemoryFeed,
     MemorySink, WorkReport,
 };
 use studio_rings::{run_mixer, run_workers_with_gains};
+use studio_session::ArriveOutcome;
 
 /// A request, the round in which it is made, and what comes of it. Gains are 65,536 for 1.
 struct Move {
@@ -313,6 +316,65 @@ fn sent_both<R: Abort>(
     assert!(rt; kept[1].as_slice() == datagrams[1], "the second");
 }
 
+/// Keeps the order of the calls that an observer gets, and the changes of gains.
+#[derive(Drop)]
+struct OrderOfCalls<'a, R: Abort> {
+    rt: &'a R,
+    alloc: Global,
+    /// A letter for each call: `d` for a datagram, `g` for a change of gains, and `c` for the close.
+    calls: Vec<u8>,
+    noted: Vec<(i64, Vec<i32>)>,
+}
+
+impl<'a, R: Abort> OrderOfCalls<'a, R> {
+    fn new(rt: &'a R, alloc: Global) -> OrderOfCalls<'a, R> {
+        OrderOfCalls {
+            rt,
+            alloc,
+            calls: Vec::new(alloc),
+            noted: Vec::new(alloc),
+        }
+    }
+
+    /// Keeps the letter of a call.
+    fn keep_letter(&mut self, letter: u8)
+        ensures noted { self.new.noted ≡ self.old.noted }
+    {
+        if self.calls.push(letter).is_err() {
+            panic!(self.rt; "no memory for a letter")
+        }
+    }
+}
+
+impl<'a, F, R: Abort> RunObserver<F> for OrderOfCalls<'a, R> {
+    ghost heard = { λ tap. None };
+
+    ghost noted = { λ tap. Some (map (λ change. (change.0, change.1.items)) tap.noted.items) };
+
+    fn arrived(
+        &mut self,
+        _engine: &Engine,
+        _stream: usize,
+        _path: Path,
+        _octets: &[u8],
+        _receipt: ArriveOutcome,
+        _feed: &F,
+    ) {
+        self.keep_letter(b'd');
+    }
+
+    fn changed(&mut self, _engine: &Engine, at: i64, gains: &[i32]) {
+        self.keep_letter(b'g');
+        keep(self.rt, self.alloc, &mut self.noted, at, gains);
+    }
+
+    fn before_wait(&mut self, _engine: &Engine) {}
+
+    fn closed(&mut self, _engine: &Engine) {
+        self.keep_letter(b'c');
+    }
+}
+
 /// Runs one stream in this thread, with a source of gains.
 fn run_alone<R: Wait + Abort, F: Feed, C: Clock, G: GainSource>(
     rt: &R,
@@ -321,16 +383,27 @@ fn run_alone<R: Wait + Abort, F: Feed, C: Clock, G: GainSource>(
     clock: C,
     gains: G,
 ) -> (WorkReport, MemorySink, G) {
+    let (report, sink, _, gains) = run_observed(rt, alloc, feeds, clock, NoObserver, gains);
+    (report, sink, gains)
+}
+
+/// Runs one stream in this thread, with an observer and a source of gains.
+fn run_observed<R: Wait + Abort, F: Feed, C: Clock, T: RunObserver<F>, G: GainSource>(
+    rt: &R,
+    alloc: Global,
+    feeds: [F; 2],
+    clock: C,
+    tap: T,
+    gains: G,
+) -> (WorkReport, MemorySink, T, G) {
     let studio = one_stream(alloc).expect(rt, "a studio");
     let feeds = list_of(rt, alloc, feeds);
     let sink = MemorySink::new(alloc);
-    let done = run_engine(
-        rt, alloc, &studio, feeds, clock, sink, NoObserver, NoRest, gains,
-    );
-    let Ok((report, sink, _, gains)) = done else {
+    let done = run_engine(rt, alloc, &studio, feeds, clock, sink, tap, NoRest, gains);
+    let Ok(done) = done else {
         panic!(rt; "there is memory")
     };
-    (report, sink, gains)
+    done
 }
 
 /// Runs a studio of one stream by workers, with a source of gains.
@@ -383,16 +456,28 @@ fn workers_take_changes_before_the_first_block(rt: HostRuntime) {
 
 // The first feed fails after each datagram, so that the packets are taken in the rounds 0 and 1. The second one fails
 // in the rounds 0 to 2, so that the run goes on to round 3. The reading of round 2 is the deadline of the first block.
-/// Requests between the blocks: the first block is not changed any more, and the second has the change for now.
+/// Requests between the blocks: the first block is not changed any more, and the second has the change for now. The
+/// observer gets each change in its place among the datagrams, and none that was refused.
 #[test]
 fn one_thread_takes_a_change_between_two_blocks(rt: HostRuntime) {
     let packets = two_packets(&rt, rt.alloc());
     let feeds = [FaultyFeed::new(0, 1, &packets), FaultyFeed::new(3, 1, &[])];
     let source = PlannedMoves::new(&rt, rt.alloc(), &SECOND_BLOCK);
     let clock = MemoryClock::new(&[0, 0, 12]);
-    let done = run_alone(&rt, rt.alloc(), feeds, clock, source);
-    let (report, sink, source) = done;
+    let tap = OrderOfCalls::new(&rt, rt.alloc());
+    let done = run_observed(&rt, rt.alloc(), feeds, clock, tap, source);
+    let (report, sink, tap, source) = done;
     sent_both(&rt, &report, &sink, &source, [&DOUBLED, &TRIPLED]);
+    assert!(&rt;
+        tap.calls.as_slice() == b"ggddgc".as_slice(),
+        "two changes, both packets, and a change"
+    );
+    assert!(&rt; tap.noted.len() == 3);
+    assert!(&rt; tap.noted[2].0 == 6, "the third is for the second block");
+    assert!(&rt;
+        tap.noted[2].1.as_slice() == [196_608i32].as_slice(),
+        "gain 3"
+    );
 }
 
 /// The mixer's worker without a source of gains: once all streams have ended, a turn that finds nothing is the last.

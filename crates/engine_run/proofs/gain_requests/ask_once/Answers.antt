@@ -8,3 +8,10 @@ returns-clause-stands g c = λ studio events datagrams s. record {
   taken = c.answer.ensures.taken c.in-Some.ensures.asks ∙ ap (λ l. l ++ changes_in c.answer_request-answer.result c.answer_request-answer.new.gains) c.next.ensures.taken;
   stands = c.answer_request-answer.ensures.stands studio events datagrams s;
 }
+
+pub returns-clause-noted : goal.returns-clause-noted
+returns-clause-noted g c = record {
+  changes = changes_in c.answer_request-answer.result c.answer_request-answer.new.gains;
+  taken = c.answer.ensures.taken c.in-Some.ensures.asks ∙ ap (λ l. l ++ changes_in c.answer_request-answer.result c.answer_request-answer.new.gains) c.next.ensures.taken;
+  noted = c.notify_change.ensures.noted;
+}

@@ -1,4 +1,4 @@
-use Rattle.std.proofs.Common.{◌≡◌, ◌<◌, length, subst, ◌∙◌, arith}
+use Rattle.std.proofs.Common.{◌≡◌, ◌<◌, length, refl, subst, ◌∙◌, arith}
 use Rattle.engine_run.specs.Intake.{TakesAll}
 use Rattle.engine_run.proofs.TakeLemmas.{all-more, all-none}
 use Rattle.engine_run.proofs.intake.take_all.Goals as goal
@@ -7,6 +7,7 @@ pub loop-stream-init : goal.loop-stream-init
 loop-stream-init g c = record {
   room = c.requires.room;
   takes = λ studio events datagrams s. all-none g.F.Feed.told studio _ events datagrams _ _ s;
+  noted = refl;
 }
 
 pub loop-stream-preserved : goal.loop-stream-preserved
@@ -20,11 +21,12 @@ loop-stream-preserved g c =
       takes = λ studio events datagrams s.
           let before = c.loop-stream.invariant.takes studio events datagrams s in
           all-more g.F.Feed.told studio c.loop-stream.engine _ events datagrams i c.args.streams.now streams c.index-streams-stream.result c.take_own.new.own _ _ _ before within
-          (c.in_ok-take_own.ensures studio _ datagrams before.stands);
+          (c.in_ok-take_own.ensures.takes studio _ datagrams before.stands);
+      noted = c.take_own.ensures.noted ∙ c.loop-stream.invariant.noted;
     }
 
-pub returns : goal.returns
-returns g c = λ studio events datagrams s.
+pub returns-clause-takes : goal.returns-clause-takes
+returns-clause-takes g c = λ studio events datagrams s.
     let end = c.loop-stream.auto.stream-end in
     let all : c.loop-stream.stream ≡ length c.args.streams.now = omega (arith, c.loop-stream-test.false, end) in
     subst (λ n. TakesAll g.F.Feed.told studio c.loop-stream.engine events datagrams c.args.streams.now c.loop-stream.streams (g.T.RunObserver.heard c.args.tap.now) (g.T.RunObserver.heard c.loop-stream.tap) n) all (c.loop-stream.invariant.takes studio events datagrams s)

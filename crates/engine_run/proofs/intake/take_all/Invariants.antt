@@ -11,4 +11,5 @@ invariant-loop-stream g l = record {
   room : length l.buf ≡ 2048;
   takes : (studio : Studio) (events : List TraceEvent) (datagrams : List (List ℕ)) → HasSession studio l.fn.engine events datagrams
       → TakesAll g.F.Feed.told studio l.engine events datagrams l.fn.streams l.streams (g.T.RunObserver.heard l.fn.tap) (g.T.RunObserver.heard l.tap) l.stream;
+  noted : g.T.RunObserver.noted l.tap ≡ g.T.RunObserver.noted l.fn.tap;
 }

@@ -6,11 +6,11 @@ use Rattle.engine_run.proofs.TakeLemmas.{takes-none}
 use Rattle.engine_run.proofs.TellLemmas.{hears_one}
 use Rattle.engine_run.proofs.intake.take_one.Goals as goal
 
-pub returns-then-reader : goal.returns-then-reader
-returns-then-reader g c = λ studio events datagrams s. takes-none g.F.Feed.told studio _ events datagrams _ _ _ _ _ 1 s (goes-nowhere g.F.Feed.told c.args.reader.now) (asks-ended g.F.Feed.told 1 c.args.reader.now c.if-reader.true)
+pub returns-then-reader-clause-takes : goal.returns-then-reader-clause-takes
+returns-then-reader-clause-takes g c = λ studio events datagrams s. takes-none g.F.Feed.told studio _ events datagrams _ _ _ _ _ 1 s (goes-nowhere g.F.Feed.told c.args.reader.now) (asks-ended g.F.Feed.told 1 c.args.reader.now c.if-reader.true)
 
-pub returns-in_ok-receipt-in-Datagram : goal.returns-in_ok-receipt-in-Datagram
-returns-in_ok-receipt-in-Datagram g c = λ studio events datagrams s.
+pub returns-in_ok-receipt-in-Datagram-clause-takes : goal.returns-in_ok-receipt-in-Datagram-clause-takes
+returns-in_ok-receipt-in-Datagram-clause-takes g c = λ studio events datagrams s.
     let stands = c.in_ok-receipt-in-Datagram.ensures.stands studio events datagrams s in (
       record {
         given = take c.in-Datagram.count c.next-answer.new.buf ∷ [];
@@ -24,17 +24,17 @@ returns-in_ok-receipt-in-Datagram g c = λ studio events datagrams s.
       refl,
     )
 
-pub returns-in-Nothing : goal.returns-in-Nothing
-returns-in-Nothing g c = λ studio events datagrams s. takes-none g.F.Feed.told studio _ events datagrams _ _ _ _ _ 1 s
+pub returns-in-Nothing-clause-takes : goal.returns-in-Nothing-clause-takes
+returns-in-Nothing-clause-takes g c = λ studio events datagrams s. takes-none g.F.Feed.told studio _ events datagrams _ _ _ _ _ 1 s
     (goes-answer g.F.Feed.told c.args.reader.now (record { feed = c.next-answer.new.self; state = c.note.new.self }) c.next-answer.new.buf _ Nothing c.in-Nothing.is c.if-reader.false c.note.ensures.noted (c.next-answer.ensures.tells c.requires.room))
     (asks-answer g.F.Feed.told c.args.reader.now (record { feed = c.next-answer.new.self; state = c.note.new.self }) c.next-answer.new.buf _ Nothing c.in-Nothing.is c.if-reader.false c.note.ensures.noted (c.next-answer.ensures.tells c.requires.room))
 
-pub returns-in-Fault : goal.returns-in-Fault
-returns-in-Fault g c = λ studio events datagrams s. takes-none g.F.Feed.told studio _ events datagrams _ _ _ _ _ 1 s
+pub returns-in-Fault-clause-takes : goal.returns-in-Fault-clause-takes
+returns-in-Fault-clause-takes g c = λ studio events datagrams s. takes-none g.F.Feed.told studio _ events datagrams _ _ _ _ _ 1 s
     (goes-answer g.F.Feed.told c.args.reader.now (record { feed = c.next-answer.new.self; state = c.note.new.self }) c.next-answer.new.buf _ Fault c.in-Fault.is c.if-reader.false c.note.ensures.noted (c.next-answer.ensures.tells c.requires.room))
     (asks-answer g.F.Feed.told c.args.reader.now (record { feed = c.next-answer.new.self; state = c.note.new.self }) c.next-answer.new.buf _ Fault c.in-Fault.is c.if-reader.false c.note.ensures.noted (c.next-answer.ensures.tells c.requires.room))
 
-pub returns-in-Ended : goal.returns-in-Ended
-returns-in-Ended g c = λ studio events datagrams s. takes-none g.F.Feed.told studio _ events datagrams _ _ _ _ _ 1 s
+pub returns-in-Ended-clause-takes : goal.returns-in-Ended-clause-takes
+returns-in-Ended-clause-takes g c = λ studio events datagrams s. takes-none g.F.Feed.told studio _ events datagrams _ _ _ _ _ 1 s
     (goes-answer g.F.Feed.told c.args.reader.now (record { feed = c.next-answer.new.self; state = c.note.new.self }) c.next-answer.new.buf _ Ended c.in-Ended.is c.if-reader.false c.note.ensures.noted (c.next-answer.ensures.tells c.requires.room))
     (asks-answer g.F.Feed.told c.args.reader.now (record { feed = c.next-answer.new.self; state = c.note.new.self }) c.next-answer.new.buf _ Ended c.in-Ended.is c.if-reader.false c.note.ensures.noted (c.next-answer.ensures.tells c.requires.room))

@@ -1,4 +1,4 @@
-use Rattle.std.proofs.Common.{◌≡◌, arith, ◌∙◌, length, ap, subst}
+use Rattle.std.proofs.Common.{◌≡◌, arith, ◌∙◌, length, ap, refl, subst}
 use Rattle.engine_run.specs.Intake.{GaveBy, Takes}
 use Rattle.engine_run.proofs.AnswerLemmas.{goes-nowhere}
 use Rattle.engine_run.proofs.AskLemmas.{asks-none}
@@ -11,20 +11,21 @@ loop-init g c = record {
   takes = λ studio events datagrams s.
       let none = takes-none g.F.Feed.told studio _ events datagrams _ _ _ _ _ 0 s (goes-nowhere g.F.Feed.told c.args.reader.now) (asks-none g.F.Feed.told c.args.reader.now) in
       (none.0, ap length none.1);
+  noted = refl;
 }
 
-pub returns-in-Fault : goal.returns-in-Fault
-returns-in-Fault g c = λ studio events datagrams s.
+pub returns-in-Fault-clause-takes : goal.returns-in-Fault-clause-takes
+returns-in-Fault-clause-takes g c = λ studio events datagrams s.
     let before = c.loop.invariant.takes studio events datagrams s in
-    let one = c.in_ok-outcome.ensures studio _ datagrams before.0.stands in
+    let one = c.in_ok-outcome.ensures.takes studio _ datagrams before.0.stands in
     let until = c.loop-test.true in
     takes-last g.F.Feed.told studio c.loop.engine _ events datagrams _ _ c.args.reader.now c.loop.reader _ _ _ _ c.loop.counter before.0 before.1 one.0 64 (omega (arith, until))
     (subst (λ o. GaveBy o one.0.given) c.in-Fault.is one.1)
 
-pub returns-in-Nothing : goal.returns-in-Nothing
-returns-in-Nothing g c = λ studio events datagrams s.
+pub returns-in-Nothing-clause-takes : goal.returns-in-Nothing-clause-takes
+returns-in-Nothing-clause-takes g c = λ studio events datagrams s.
     let before = c.loop.invariant.takes studio events datagrams s in
-    let one = c.in_ok-outcome.ensures studio _ datagrams before.0.stands in
+    let one = c.in_ok-outcome.ensures.takes studio _ datagrams before.0.stands in
     let until = c.loop-test.true in
     takes-last g.F.Feed.told studio c.loop.engine _ events datagrams _ _ c.args.reader.now c.loop.reader _ _ _ _ c.loop.counter before.0 before.1 one.0 64 (omega (arith, until))
     (subst (λ o. GaveBy o one.0.given) c.in-Nothing.is one.1)
@@ -34,13 +35,14 @@ loop-preserved g c = record {
   room = c.take_one.auto.buf ∙ c.loop.invariant.room;
   takes = λ studio events datagrams s.
       let before = c.loop.invariant.takes studio events datagrams s in
-      let one = c.in_ok-outcome.ensures studio _ datagrams before.0.stands in
+      let one = c.in_ok-outcome.ensures.takes studio _ datagrams before.0.stands in
       let gave = subst (λ o. GaveBy o one.0.given) c.in-Datagram.is one.1 in
       takes-more g.F.Feed.told studio c.loop.engine _ events datagrams _ _ c.args.reader.now c.loop.reader _ _ _ _ c.loop.counter before.0 before.1 one.0 gave;
+  noted = c.take_one.ensures.noted ∙ c.loop.invariant.noted;
 }
 
-pub returns : goal.returns
-returns g c = λ studio events datagrams s.
+pub returns-clause-takes : goal.returns-clause-takes
+returns-clause-takes g c = λ studio events datagrams s.
     let until = c.loop.auto.counter-end in
     let all : c.loop.counter ≡ 64 = omega (arith, c.loop-test.false, until) in
     subst (λ n. Takes g.F.Feed.told studio c.loop.engine events datagrams c.args.stream c.args.path c.args.reader.now c.loop.reader (g.T.RunObserver.heard c.args.tap.now) (g.T.RunObserver.heard c.loop.tap) n) all (c.loop.invariant.takes studio events datagrams s).0

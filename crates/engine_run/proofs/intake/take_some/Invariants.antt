@@ -11,4 +11,5 @@ invariant-loop g l = record {
   room : length l.buf ≡ 2048;
   takes : (studio : Studio) (events : List TraceEvent) (datagrams : List (List ℕ)) → HasSession studio l.fn.engine events datagrams
       → (t : Takes g.F.Feed.told studio l.engine events datagrams l.stream l.path l.fn.reader l.reader (g.T.RunObserver.heard l.fn.tap) (g.T.RunObserver.heard l.tap) l.counter) × (length t.given ≡ l.counter);
+  noted : g.T.RunObserver.noted l.tap ≡ g.T.RunObserver.noted l.fn.tap;
 }

@@ -11,4 +11,5 @@ invariant-loop-number g l = record {
   room : length l.buf ≡ 2048;
   takes : (studio : Studio) (events : List TraceEvent) (datagrams : List (List ℕ)) → HasSession studio l.fn.engine events datagrams
       → TakesStream g.F.Feed.told studio l.engine events datagrams l.stream l.fn.readers l.readers (g.T.RunObserver.heard l.fn.tap) (g.T.RunObserver.heard l.tap) l.number;
+  noted : g.T.RunObserver.noted l.tap ≡ g.T.RunObserver.noted l.fn.tap;
 }

@@ -3,8 +3,8 @@ use Rattle.engine_run.specs.Rounds.{events_by}
 use Rattle.engine_run.proofs.RunLemmas.{on-fine, run-ends}
 use Rattle.engine_run.proofs.output.settle.Goals as goal
 
-pub returns : goal.returns
-returns g c = λ e studio all clock before earlier ended h.
+pub returns-clause-done : goal.returns-clause-done
+returns-clause-done g c = λ e studio all clock before earlier ended h.
     let fine : is_err c.close.result ≡ false = sym c.is_err.ensures.value ∙ c.if-is_err.false in
     run-ends g.F.Feed.told g.C.Clock.told g.K.Sink.handed g.T.RunObserver.heard studio all clock before earlier c.args.state.now _ c.close.new.self h ended
     (on-fine c.close.result _ fine c.close.ensures.stands studio (events_by studio.open_at h.rounds) h.datagrams h.stands)

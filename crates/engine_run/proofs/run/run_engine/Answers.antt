@@ -5,6 +5,7 @@ use Rattle.studio_mix.specs.Changed.{with_changes}
 use Rattle.engine_run.specs.Grouping.{grouped, path_total}
 use Rattle.engine_run.specs.Rounds.{events_of}
 use Rattle.engine_run.proofs.RunLemmas.{run-begins, run-settled}
+use Rattle.engine_run.proofs.TellLemmas.{noted_same}
 use Rattle.engine_run.proofs.run.run_engine.Goals as goal
 use Rattle.engine_run.proofs.run.run_engine.Goals.{then-settle, else-settle, then-settled, else-settled}
 
@@ -33,7 +34,7 @@ returns-clause-settled g c whole =
     let rounds = c.run_rounds-ended.ensures.on both.1 studio all clock before earlier
     (run-begins told times handed heard studio all clock before earlier feeds _ _ c.streams-specs.ensures.value refl refl refl refl c.in_ok-engine.ensures.stands c.in_ok-readers.ensures.begun c.new-3.ensures) in
     let changed = with_changes studio rounds.changes in
-    let done = c.settle.ensures both.0 changed all clock before earlier (c.run_rounds-ended.ensures.ended both.1) rounds.run in
+    let done = c.settle.ensures.done both.0 changed all clock before earlier (c.run_rounds-ended.ensures.ended both.1) rounds.run in
     record {
       changes = rounds.changes;
       taken = rounds.taken;
@@ -47,3 +48,6 @@ returns-clause-feeds g c whole =
       | then-settled w ↦ subst (λ (l : List Stream). length c.args.feeds.items ≡ path_total l) c.streams-specs.ensures.value (c.in_ok-readers.ensures.fits (sym w.whole-is ∙ (sym c.in_ok-report.ensures.settled ∙ whole)))
       | else-settled w ↦ absurd (false≢true (sym w.if-settled.false ∙ (sym w.whole-is ∙ (sym c.in_ok-report.ensures.settled ∙ whole))))
     ]
+
+pub returns-clause-noted : goal.returns-clause-noted
+returns-clause-noted g c = noted_same _ _ _ _ _ c.run_rounds-ended.ensures.noted (ap g.T.RunObserver.noted c.in_ok-report.ensures.tap ∙ c.settle.ensures.noted)

@@ -1,6 +1,7 @@
 use Rattle.std.proofs.Common.{refl, ◌∙◌}
 use Rattle.studio_mix.specs.Changed.{with_changes}
 use Rattle.engine_run.proofs.GainRequestLemmas.{run-as-it-was, run-took-more}
+use Rattle.engine_run.proofs.TellLemmas.{noted_more, noted_none}
 use Rattle.engine_run.proofs.run.run_rounds.Goals as goal
 
 pub loop-init : goal.loop-init
@@ -8,6 +9,7 @@ loop-init g c = record {
   room = refl;
   gains = refl;
   on = λ studio all clock before earlier h. run-as-it-was g.F.Feed.told g.C.Clock.told g.K.Sink.handed g.T.RunObserver.heard studio all clock before earlier _ _ h;
+  noted = noted_none (g.G.GainSource.taken c.args.gains.now) (g.T.RunObserver.noted c.args.state.now.tap);
 }
 
 pub returns-in-Ok-None-clause-on : goal.returns-in-Ok-None-clause-on
@@ -27,4 +29,11 @@ loop-preserved g c = record {
       let first = c.loop.invariant.on studio all clock before earlier h in
       run-took-more g.F.Feed.told g.C.Clock.told g.K.Sink.handed g.T.RunObserver.heard studio all clock before earlier _ _ _ _ _ first
       (c.in-Ok-Some.ensures.on (with_changes studio first.changes) all clock before earlier first.run);
+  noted = noted_more _ _ _ _ _ _ c.loop.invariant.noted c.round.ensures.noted;
 }
+
+pub returns-in-Ok-None-clause-noted : goal.returns-in-Ok-None-clause-noted
+returns-in-Ok-None-clause-noted g c = noted_more _ _ _ _ _ _ c.loop.invariant.noted c.round.ensures.noted
+
+pub returns-in-Err-clause-noted : goal.returns-in-Err-clause-noted
+returns-in-Err-clause-noted g c = noted_more _ _ _ _ _ _ c.loop.invariant.noted c.round.ensures.noted

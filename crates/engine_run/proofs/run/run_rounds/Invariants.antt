@@ -2,7 +2,7 @@ use Rattle.std.proofs.Common.{◌≡◌, ℕ, ℤ, List, Option, length}
 use Rattle.studio_config.specs.Studio.{Studio}
 use Rattle.studio_io.specs.Answers.{Answer}
 use Rattle.engine_run.specs.Runs.{IsUnderWay, IsUnderWayWith}
-use Rattle.engine_run.specs.Observers.{Heard}
+use Rattle.engine_run.specs.Observers.{HasNotedTaken, Heard}
 use Rattle.engine_run.proofs.run.run_rounds.Given as goal
 
 -- the run goes on, with the changes that were taken
@@ -13,4 +13,5 @@ invariant-loop g l = record {
   on : (studio : Studio) (all : List (List (List Answer))) (clock : List ℤ) (before : Option (List (List ℕ))) (earlier : Option (List Heard))
       → IsUnderWay g.F.Feed.told g.C.Clock.told g.K.Sink.handed g.T.RunObserver.heard studio all clock before earlier l.initial.state
       → IsUnderWayWith g.F.Feed.told g.C.Clock.told g.K.Sink.handed g.T.RunObserver.heard studio all clock before earlier l.state (g.G.GainSource.taken l.initial.gains) (g.G.GainSource.taken l.gains);
+  noted : HasNotedTaken (g.G.GainSource.taken l.initial.gains) (g.G.GainSource.taken l.gains) (g.T.RunObserver.noted l.initial.state.tap) (g.T.RunObserver.noted l.state.tap);
 }

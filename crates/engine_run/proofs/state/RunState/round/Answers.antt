@@ -1,4 +1,6 @@
+use Rattle.std.proofs.Common.{ap, ◌∙◌}
 use Rattle.studio_mix.specs.Changed.{with_changes}
+use Rattle.engine_run.proofs.TellLemmas.{noted_same}
 use Rattle.engine_run.proofs.state.RunState.round.Goals as goal
 
 pub returns-then-have_all_ended-clause-on : goal.returns-then-have_all_ended-clause-on
@@ -14,3 +16,7 @@ returns-clause-on g c = λ studio all clock before earlier h.
     let turned = c.in_ok-turn.ensures.on changed all clock before earlier asked.run in
     let rested = c.in_ok-turn_if_stale.ensures.on changed all clock before earlier (c.notify_before_wait.ensures.on changed all clock before earlier turned) in
     record { changes = asked.changes; taken = asked.taken; run = c.in_ok-most.ensures.on changed all clock before earlier rested }
+
+pub returns-clause-noted : goal.returns-clause-noted
+returns-clause-noted g c = noted_same _ _ _ _ _ c.ask.ensures.noted
+    (c.take.ensures.noted ∙ (ap g.T.RunObserver.noted c.turn_if_stale.ensures.tap ∙ (c.notify_before_wait.ensures.noted ∙ ap g.T.RunObserver.noted c.turn.ensures.tap)))
