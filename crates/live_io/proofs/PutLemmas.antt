@@ -5,7 +5,7 @@ use Rattle.rtrb.specs.Ring.{known_free, sent}
 use Rattle.rtp_stream.specs.declared.stream_spec.Stream.{Stream}
 use Rattle.pcap_file.specs.Blocks.{section_block}
 use Rattle.studio_config.specs.Studio.{Studio}
-use Rattle.live_io.specs.RecordBlocks.{Puts, Sends, StaysEnded, front_blocks, path_blocks, stream_blocks}
+use Rattle.live_io.specs.RecordBlocks.{Puts, Sends, StaysEnded, front_blocks, gains_blocks, path_blocks, stream_blocks}
 use Rattle.live_io.specs.declared.record.block_producer.BlockProducer.{BlockProducer}
 
 -- the paths of the streams so far were described, and these are left
@@ -42,13 +42,16 @@ sends_block old block new (inr (ends, why)) = inr (ends.0, why)
 pub stays_more : (old mid new : BlockProducer) → StaysEnded old mid → StaysEnded mid new → StaysEnded old new
 stays_more old mid new first second e = ((second (first e).0).0, (second (first e).0).1 ∙ (first e).1)
 
--- the front of a record: its opening, and then its paths
-pub opens_by : (studio : Studio) (at : ℕ) (begun mid end : BlockProducer) → sent begun.ring ≡ [] → begun.ended ≡ false
-    → Puts begun (section_block at) mid → Sends mid (path_blocks 0 studio.streams) end → StaysEnded mid end
-    → ((end.ended ≡ false) × (sent end.ring ≡ front_blocks studio at)) ⊎ ((end.ended ≡ true) × (known_free end.ring < length (front_blocks studio at)))
-opens_by studio at begun mid end none going first rest stays =
-    elim (sends_more begun mid end (section_block at) (path_blocks 0 studio.streams) (sends_block begun (section_block at) mid first) rest stays) [
-      | inl all ↦ inl (all.0, all.1 ∙ ap (λ l. l ++ front_blocks studio at) none)
+-- the front of a record: its opening, then its paths, and then the interface for changes
+pub opens_by : (is_controlled : Bool) (studio : Studio) (at : ℕ) (begun mid described end : BlockProducer) → sent begun.ring ≡ [] → begun.ended ≡ false
+    → Puts begun (section_block at) mid → Sends mid (path_blocks 0 studio.streams) described → StaysEnded mid described
+    → Sends described (gains_blocks is_controlled) end → StaysEnded described end
+    → ((end.ended ≡ false) × (sent end.ring ≡ front_blocks is_controlled studio at)) ⊎ ((end.ended ≡ true) × (known_free end.ring < length (front_blocks is_controlled studio at)))
+opens_by is_controlled studio at begun mid described end none going first paths stays gains still =
+    let paths_are : List ℕ = path_blocks 0 studio.streams in
+    let rest = sends_more mid described end paths_are (gains_blocks is_controlled) paths gains still in
+    elim (sends_more begun mid end (section_block at) (paths_are ++ gains_blocks is_controlled) (sends_block begun (section_block at) mid first) rest (stays_more mid described end stays still)) [
+      | inl all ↦ inl (all.0, all.1 ∙ ap (λ l. l ++ front_blocks is_controlled studio at) none)
       | inr (e, inl before) ↦ absurd (let f : false ≡ true = sym going ∙ before in cc)
       | inr (e, inr room) ↦ inr (e, room)
     ]

@@ -1,9 +1,11 @@
 -- The blocks that were sent to a record's ring.
-use Rattle.std.specs.Prelude.{◌≡◌, ◌⊎◌, ◌<◌, ℕ, zero, suc, ◌+◌, List, [], ◌∷◌, ◌++◌, length, ℤ, pos, ◌+ℤ◌, Some, None, true, false}
+use Rattle.std.specs.Prelude.{◌≡◌, ◌⊎◌, ◌<◌, ℕ, zero, suc, ◌+◌, Bool, List, [], ◌∷◌, ◌++◌, length, sum_by, ℤ, pos, ◌+ℤ◌, ◌-ℤ◌, FitsSigned, Option, Some, None, true, false}
+use Rattle.std.specs.Int.{w64}
 use Rattle.std.specs.Net.Addr.{ipv4_octets}
 use Rattle.rtrb.specs.Ring.{known_free, sent}
 use Rattle.pcap_file.specs.RecordedDatagram.{ArrivalView}
-use Rattle.pcap_file.specs.Blocks.{closing_block, datagram_block, interface_block, section_block}
+use Rattle.pcap_file.specs.RecordedChange.{ChangeView}
+use Rattle.pcap_file.specs.Blocks.{change_block, closing_block, datagram_block, gains_interface_block, interface_block, section_block}
 use Rattle.pcap_file.specs.Times.{nanoseconds_in_64}
 use Rattle.pcap_file.specs.RecordedStream.{description_of}
 use Rattle.pcap_file.specs.declared.encode.recorded_stream.RecordedStream.{RecordedStream}
@@ -44,6 +46,23 @@ abbrev pub PutsPacket : ℤ → ℤ → DatagramOrigin → List ℕ → BlockPro
 PutsPacket open_at time origin octets old new =
     ((view : ArrivalView) × IsPacket open_at time origin octets view × Puts old (datagram_block view) new)
     ⊎ (Ends old new × ((old.ended ≡ true) ⊎ ((2048 < length octets) ⊎ IsPast open_at time)))
+
+-- a change of gains that the format doesn't hold: the record has no interface for it, or there are too many gains, or 64 bits
+-- don't have the nanoseconds of its time, or the instants to the time from which the gains are in force, after the opening
+abbrev pub IsUnfit : ℤ → Option ℕ → ℤ → ℤ → List ℤ → Type 0
+IsUnfit open_at interface time at gains =
+    (interface ≡ None) ⊎ ((8192 < length gains) ⊎ (IsPast open_at time ⊎ (FitsSigned w64 (at -ℤ open_at) → ⊥)))
+
+-- a change that was taken at a time before this block: from `at` on these gains are in force, counted from the opening
+abbrev pub change_from : ℤ → ℤ → ℕ → List ℤ → ChangeView
+change_from open_at at next_block gains = record { at = at -ℤ open_at; next_block = next_block; gains = gains }
+
+-- its block was put, on the interface for changes; or nothing was sent, since the record had ended, or the change doesn't fit
+abbrev pub PutsChange : ℤ → Option ℕ → ℤ → ℤ → ℕ → List ℤ → BlockProducer → BlockProducer → Type 0
+PutsChange open_at interface time at next_block gains old new =
+    ((number : ℕ) × (nanoseconds : ℕ) × (interface ≡ Some number) × IsSince open_at time nanoseconds
+    × Puts old (change_block number nanoseconds (change_from open_at at next_block gains)) new)
+    ⊎ (Ends old new × ((old.ended ≡ true) ⊎ IsUnfit open_at interface time at gains))
 
 -- a close at a time was put, or nothing was sent, since the time doesn't fit
 abbrev pub PutsClose : ℤ → ℤ → BlockProducer → BlockProducer → Type 0
@@ -91,11 +110,26 @@ LacksRoom old octets new = (new.ended ≡ true) × ((old.ended ≡ true) ⊎ (kn
 abbrev pub Sends : BlockProducer → List ℕ → BlockProducer → Type 0
 Sends old octets new = ((new.ended ≡ false) × (sent new.ring ≡ sent old.ring ++ octets)) ⊎ LacksRoom old octets new
 
--- the front of a studio's record, which was opened at a time: its opening, and its paths
-abbrev pub front_blocks : Studio → ℕ → List ℕ
-front_blocks studio at = section_block at ++ path_blocks 0 studio.streams
+-- how many paths streams have
+abbrev pub path_total : List Stream → ℕ
+path_total streams = sum_by (λ (stream : Stream). stream.paths) streams
+
+-- the interface for changes of gains is behind those of all paths, if the gains of the run can be changed
+abbrev pub gains_blocks : Bool → List ℕ
+gains_blocks true = gains_interface_block
+gains_blocks false = []
+
+-- its number
+abbrev pub gains_interface_of : Bool → List Stream → Option ℕ
+gains_interface_of true streams = Some (path_total streams)
+gains_interface_of false streams = None
+
+-- the front of a studio's record, which was opened at a time: its opening, its paths, and the interface for changes of gains, if there is one
+abbrev pub front_blocks : Bool → Studio → ℕ → List ℕ
+front_blocks is_controlled studio at = section_block at ++ (path_blocks 0 studio.streams ++ gains_blocks is_controlled)
 
 -- it was sent; or nothing more will be, since the ring was not known to have room for all of it
-abbrev pub Opens : Studio → BlockProducer → Type 0
-Opens studio end = (at : ℕ) → studio.open_at ≡ pos at
-    → ((end.ended ≡ false) × (sent end.ring ≡ front_blocks studio at)) ⊎ ((end.ended ≡ true) × (known_free end.ring < length (front_blocks studio at)))
+abbrev pub Opens : Bool → Studio → BlockProducer → Type 0
+Opens is_controlled studio end = (at : ℕ) → studio.open_at ≡ pos at
+    → ((end.ended ≡ false) × (sent end.ring ≡ front_blocks is_controlled studio at))
+    ⊎ ((end.ended ≡ true) × (known_free end.ring < length (front_blocks is_controlled studio at)))

@@ -16,9 +16,9 @@ pub record HasWritten (contents : Option (List ℕ)) (writer : RecordWriter) : T
   pub none : BeginsNone (take writer.held writer.octets.items)
   pub holds : contents ≡ Some (joined blocks)
   pub len : writer.len ≡ length (joined blocks)
-  pub datagrams : writer.datagrams ≡ datagram_count blocks
+  pub datagrams : writer.datagrams ≡ datagram_count writer.paths blocks
 
--- what came through the ring begins with these blocks, of which so many hold a datagram, and no whole block is behind them unless a
+-- what came through the ring begins with these blocks, of which so many hold a datagram of a path, and no whole block is behind them unless a
 -- write failed; a file whose octets are known holds them and nothing else, unless it could not be cut behind them
 pub record IsRecorded (contents : Option (List ℕ)) (writer : RecordWriter) (result : FileResult) : Type 0 where
   pub blocks : List (List ℕ)
@@ -26,13 +26,13 @@ pub record IsRecorded (contents : Option (List ℕ)) (writer : RecordWriter) (re
   pub rest : List ℕ
   pub came : received writer.ring ≡ joined blocks ++ rest
   pub all : result.failed ≡ false → BeginsNone rest
-  pub datagrams : result.datagrams ≡ datagram_count blocks
+  pub datagrams : result.datagrams ≡ datagram_count writer.paths blocks
   pub holds : result.is_whole ≡ true → contents ≡ Some (joined blocks)
 
--- a write of whole blocks to a file of so many octets failed: these of them are left in it, if it was cut
-pub record FailsBehind (contents contents_then : Option (List ℕ)) (len : ℕ) (octets : List ℕ) (failed : FailedWrite) : Type 0 where
+-- a write of whole blocks, of a record of so many paths, to a file of so many octets failed: these of them are left in it, if it was cut
+pub record FailsBehind (paths : ℕ) (contents contents_then : Option (List ℕ)) (len : ℕ) (octets : List ℕ) (failed : FailedWrite) : Type 0 where
   pub count : ℕ
-  pub kept : AreWhole (take count octets) failed.kept
+  pub kept : AreWhole paths (take count octets) failed.kept
   pub cut : failed.is_cut ≡ true → (held : List ℕ) → contents ≡ Some held → len ≡ length held
       → contents_then ≡ Some (held ++ take failed.kept.len octets)
 

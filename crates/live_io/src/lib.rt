@@ -11,10 +11,11 @@
 //!    its socket has, and waits by a `ReceivePace`, unless flags say which sockets are to be read. It reads its
 //!    socket as a `RetryingSocket`, which tries a socket that fails less and less often.
 //!    `UdpSink` is the `Sink` of the two sending sockets.
-//! 4. A `RecordChannel` has two ends of a ring. The thread of the run passes each datagram to its
-//!    `RecordObserver`, which pushes whole blocks and never waits. `write_record`, in another thread,
-//!    writes them to the file. If the file is too slow and the ring is full, or a write fails, the
-//!    record ends there, with a whole block. `RecordResult::state` returns its state to other threads.
+//! 4. A `RecordChannel` has two ends of a ring. The thread of the run passes each datagram and each
+//!    change of gains to its `RecordObserver`, which pushes whole blocks and never waits.
+//!    `write_record`, in another thread, writes them to the file. If the file is too slow and the ring is
+//!    full, or a write fails, the record ends there, with a whole block. `RecordResult::state` returns
+//!    its state to other threads.
 #![tactic(auto)]
 
 mod clock;

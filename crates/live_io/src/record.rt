@@ -1,10 +1,10 @@
 //! The record of a run, with its two ends, and its result. `observer` is the end in the run's thread, and `writer` that
 //! in a thread of its own. `block_producer` puts the observer's blocks into the ring between them.
-ghost use Rattle.std.specs.Prelude.{[], Some, IfOk};
-ghost use Rattle.live_io.specs.RecordBlocks.{Opens};
+ghost use Rattle.std.specs.Prelude.{◌≡◌, [], Some, IfOk};
+ghost use Rattle.live_io.specs.RecordBlocks.{Opens, gains_interface_of, path_total};
 ghost use Rattle.live_io.specs.RecordWriter.{HasWritten};
 
-use crate::record::observer::RecordObserver;
+use crate::record::observer::{RecordObserver, path_count};
 use crate::record::writer::RecordWriter;
 use pcap_file::RecordEnd;
 use rtrb::RingBuffer;
@@ -23,7 +23,7 @@ const RING_OCTETS: usize = 8 << 20;
 /// The two ends of a record, over one ring.
 #[derive(Drop)]
 pub struct RecordChannel<'a> {
-    /// The end that makes blocks of the datagrams of a run.
+    /// The end that makes blocks of the datagrams and of the changes of gains of a run.
     pub observer: RecordObserver<'a>,
     /// The end that writes these blocks to the file.
     pub writer: RecordWriter<'a>,
@@ -31,19 +31,25 @@ pub struct RecordChannel<'a> {
 
 impl<'a> RecordChannel<'a> {
     /// Returns the two ends of the record of a run of this studio, whose section header and interfaces are in the ring.
-    /// Both set their part of `recorded`. Returns `AllocError` if an allocation fails.
+    /// Only if the gains of the run can be changed while it goes on, there is an interface for their changes. Both ends
+    /// set their part of `recorded`. Returns `AllocError` if an allocation fails.
     pub fn new(
         alloc: Global,
         studio: &StudioSpec,
+        is_controlled: bool,
         recorded: &'a RecordResult,
     ) -> Result<RecordChannel<'a>, AllocError>
         ensures empty { IfOk result (λ channel. HasWritten (Some []) channel.writer) }
-        ensures opens { IfOk result (λ channel. Opens studio.now channel.observer.end) }
+        ensures opens { IfOk result (λ channel. Opens is_controlled studio.now channel.observer.end) }
+        ensures interface { IfOk result (λ channel.
+            channel.observer.gains_interface ≡ gains_interface_of is_controlled studio.now.streams) }
+        ensures paths { IfOk result (λ channel. channel.writer.paths ≡ path_total studio.now.streams) }
     {
         let (producer, consumer) = RingBuffer::new(alloc, RING_OCTETS)?;
-        let writer = RecordWriter::new(alloc, consumer, recorded)?;
+        let paths = path_count(studio.streams());
+        let writer = RecordWriter::new(alloc, consumer, paths, recorded)?;
         Ok(RecordChannel {
-            observer: RecordObserver::new(producer, studio, recorded),
+            observer: RecordObserver::new(producer, studio, is_controlled, recorded),
             writer,
         })
     }

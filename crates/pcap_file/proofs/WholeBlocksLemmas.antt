@@ -1,12 +1,11 @@
 -- The whole blocks at the start of a record's octets, block by block.
-use Rattle.std.proofs.Common.{◌≡◌, ◌≤◌, ◌<◌, ◌+◌, ℕ, List, [], ◌∷◌, ◌++◌, length, take, drop, refl, sym, ap, ◌∙◌, arith, append_assoc, append-nil, length-append, length-take, length-drop, take-append-drop, drop-drop, subst, ◌==◌, if◌then◌else◌}
-use Rattle.std.proofs.lemmas.Bool.Decides.{nat_tests}
+use Rattle.std.proofs.Common.{◌≡◌, ◌≤◌, ◌<◌, ◌+◌, ℕ, Bool, true, false, List, [], ◌∷◌, ◌++◌, length, take, drop, refl, sym, ap, ◌∙◌, arith, append_assoc, append-nil, length-append, length-take, length-drop, take-append-drop, drop-drop, subst, ◌==◌, ◌&&◌, nat_lt, if◌then◌else◌}
 use Rattle.std.specs.List.{All}
 use Rattle.std.proofs.lemmas.List.Elements.{All-nil, All-push}
 use Rattle.pcap_file.specs.declared.decode.endian.Endian.TheVariants.{Little}
 use Rattle.pcap_file.specs.declared.record_blocks.WholeBlocks.{WholeBlocks}
 use Rattle.pcap_file.specs.Octets.{number_at}
-use Rattle.pcap_file.specs.WholeBlocks.{AreWhole, BeginsNone, IsBlock, datagram_count, joined}
+use Rattle.pcap_file.specs.WholeBlocks.{AreWhole, BeginsNone, IsBlock, datagram_count, holds_datagram, joined}
 use Rattle.pcap_file.proofs.FrontLemmas.{number_front}
 
 -- the word with the length of a block is the same, whatever follows it
@@ -29,37 +28,48 @@ is_block octets len says room within =
     let same = says_front octets (take len octets) (drop len octets) (omega (arith, size, room)) (sym (take-append-drop len octets)) in
     record { room = omega (arith, size, room); says = omega (arith, says, same, size) }
 
-pub kind_front : (octets : List ℕ) (len : ℕ) → 12 ≤ len → len ≤ length octets → number_at Little 4 0 octets ≡ number_at Little 4 0 (take len octets)
-kind_front octets len room within =
+-- so is each of its first three words
+word_front : (octets : List ℕ) (len place : ℕ) → 12 ≤ len → len ≤ length octets → place + 4 ≤ 12 → number_at Little 4 place octets ≡ number_at Little 4 place (take len octets)
+word_front octets len place room within first =
     let size : length (take len octets) ≡ len = omega (arith, length-take len octets, within) in
-    ap (number_at Little 4 0) (sym (take-append-drop len octets)) ∙ number_front Little 4 0 (take len octets) (drop len octets) (omega (arith, size, room))
+    ap (number_at Little 4 place) (sym (take-append-drop len octets)) ∙ number_front Little 4 place (take len octets) (drop len octets) (omega (arith, size, room, first))
+
+pub datagram_front : (octets : List ℕ) (len paths : ℕ) → 12 ≤ len → len ≤ length octets → holds_datagram paths octets ≡ holds_datagram paths (take len octets)
+datagram_front octets len paths room within =
+    ap (λ k. (k == 6) && nat_lt (number_at Little 4 8 octets) paths) (word_front octets len 0 room within (omega arith))
+    ∙ ap (λ k. (number_at Little 4 0 (take len octets) == 6) && nat_lt k paths) (word_front octets len 8 room within (omega arith))
 
 -- these blocks are the first of octets, and so many hold a datagram
-pub record HasPassed (octets : List ℕ) (found : WholeBlocks) : Type 0 where
+pub record HasPassed (paths : ℕ) (octets : List ℕ) (found : WholeBlocks) : Type 0 where
   pub blocks : List (List ℕ)
   pub every : All IsBlock blocks
   pub are : octets ≡ joined blocks ++ drop found.len octets
   pub len : found.len ≡ length (joined blocks)
   pub within : found.len ≤ length octets
-  pub datagrams : found.datagrams ≡ datagram_count blocks
+  pub datagrams : found.datagrams ≡ datagram_count paths blocks
   pub few : found.datagrams ≤ found.len
 
-pub none_passed : (octets : List ℕ) → HasPassed octets (record { len = 0; datagrams = 0 })
-none_passed octets = record { blocks = []; every = All-nil IsBlock; are = refl; len = refl; within = omega arith; datagrams = refl; few = omega arith }
+pub none_passed : (paths : ℕ) (octets : List ℕ) → HasPassed paths octets (record { len = 0; datagrams = 0 })
+none_passed paths octets = record { blocks = []; every = All-nil IsBlock; are = refl; len = refl; within = omega arith; datagrams = refl; few = omega arith }
 
 concat_push : (blocks : List (List ℕ)) (block : List ℕ) → joined (blocks ++ block ∷ []) ≡ joined blocks ++ block
 concat_push [] block = append-nil block
 concat_push (b ∷ blocks) block = ap (λ l. b ++ l) (concat_push blocks block) ∙ sym (append_assoc b (joined blocks) block)
 
-count_push : (blocks : List (List ℕ)) (block : List ℕ) → datagram_count (blocks ++ block ∷ []) ≡ datagram_count blocks + datagram_count (block ∷ [])
-count_push [] block = omega arith
-count_push (b ∷ blocks) block = omega (arith, count_push blocks block)
+count_push : (paths : ℕ) (blocks : List (List ℕ)) (block : List ℕ) → datagram_count paths (blocks ++ block ∷ []) ≡ datagram_count paths blocks + datagram_count paths (block ∷ [])
+count_push paths [] block = omega arith
+count_push paths (b ∷ blocks) block = omega (arith, count_push paths blocks block)
+
+-- a block counts once at most
+one_at_most : (b : Bool) → (if b then 1 else 0) ≤ 1
+one_at_most true = omega arith
+one_at_most false = omega arith
 
 -- one block more
-pub passed_more : (octets : List ℕ) (found after : WholeBlocks) (n : ℕ) → HasPassed octets found
+pub passed_more : (paths : ℕ) (octets : List ℕ) (found after : WholeBlocks) (n : ℕ) → HasPassed paths octets found
     → IsBlock (take n (drop found.len octets)) → n ≤ length (drop found.len octets) → after.len ≡ found.len + n
-    → after.datagrams ≡ found.datagrams + datagram_count (take n (drop found.len octets) ∷ []) → HasPassed octets after
-passed_more octets found after n p is within longer counted =
+    → after.datagrams ≡ found.datagrams + datagram_count paths (take n (drop found.len octets) ∷ []) → HasPassed paths octets after
+passed_more paths octets found after n p is within longer counted =
     let left : List ℕ = drop found.len octets in
     let block : List ℕ = take n left in
     let size : length block ≡ n = omega (arith, length-take n left, within) in
@@ -72,13 +82,13 @@ passed_more octets found after n p is within longer counted =
           ∙ ap (λ l. l ++ drop after.len octets) (sym (concat_push p.blocks block));
       len = omega (arith, longer, p.len, size, length-append (joined p.blocks) block, ap length (concat_push p.blocks block));
       within = omega (arith, longer, within, p.within, length-drop found.len octets);
-      datagrams = counted ∙ ap (λ k. k + datagram_count (block ∷ [])) p.datagrams ∙ sym (count_push p.blocks block);
-      few = grind (arith, nat_tests, counted, longer, p.few, is.room, size);
+      datagrams = counted ∙ ap (λ k. k + datagram_count paths (block ∷ [])) p.datagrams ∙ sym (count_push paths p.blocks block);
+      few = omega (arith, counted, longer, p.few, is.room, size, one_at_most (holds_datagram paths block));
     }
 
 -- none begins behind them
-pub passed_all : (octets : List ℕ) (found : WholeBlocks) → HasPassed octets found → BeginsNone (drop found.len octets) → AreWhole octets found
-passed_all octets found p none = record {
+pub passed_all : (paths : ℕ) (octets : List ℕ) (found : WholeBlocks) → HasPassed paths octets found → BeginsNone (drop found.len octets) → AreWhole paths octets found
+passed_all paths octets found p none = record {
   blocks = p.blocks;
   rest = drop found.len octets;
   every = p.every;
@@ -89,15 +99,17 @@ passed_all octets found p none = record {
 }
 
 -- the same as a turn of the loop finds it: `left` is a slice of what is behind the blocks so far
-pub passed_turn : (octets left : List ℕ) (found after : WholeBlocks) (n kind : ℕ) → left ≡ drop found.len octets → HasPassed octets found
-    → IsBlock (take n left) → n ≤ length left → after.len ≡ found.len + n → kind ≡ number_at Little 4 0 (take n left)
-    → after.datagrams ≡ found.datagrams + (if kind == 6 then 1 else 0) → HasPassed octets after
-passed_turn octets left found after n kind is p block within longer kinds counted =
-    passed_more octets found after n p (subst (λ l. IsBlock (take n l)) is block) (omega (arith, within, ap length is)) longer
-    (counted ∙ ap (λ k. found.datagrams + k) (ap (λ (k : ℕ). if k == 6 then 1 else 0) (kinds ∙ ap (λ l. number_at Little 4 0 (take n l)) is) ∙ omega arith))
+pub passed_turn : (paths : ℕ) (octets left : List ℕ) (found after : WholeBlocks) (n : ℕ) (is_datagram : Bool) → left ≡ drop found.len octets → HasPassed paths octets found
+    → IsBlock (take n left) → n ≤ length left → after.len ≡ found.len + n → is_datagram ≡ holds_datagram paths (take n left)
+    → after.datagrams ≡ found.datagrams + (if is_datagram then 1 else 0) → HasPassed paths octets after
+passed_turn paths octets left found after n is_datagram is p block within longer holds counted =
+    passed_more paths octets found after n p (subst (λ l. IsBlock (take n l)) is block) (omega (arith, within, ap length is)) longer
+    (counted ∙ ap (λ k. found.datagrams + k) (ap (λ (b : Bool). if b then 1 else 0) (holds ∙ ap (λ l. holds_datagram paths (take n l)) is) ∙ omega arith))
 
-pub counts_one : (kind count : ℕ) → kind ≡ 6 → count + 1 ≡ count + (if kind == 6 then 1 else 0)
-counts_one kind count is = grind (arith, nat_tests, is)
+pub counts_one : (b : Bool) (count : ℕ) → b ≡ true → count + 1 ≡ count + (if b then 1 else 0)
+counts_one true count is = refl
+counts_one false count is = absurd cc
 
-pub counts_none : (kind count : ℕ) → (kind ≡ 6 → ⊥) → count ≡ count + (if kind == 6 then 1 else 0)
-counts_none kind count not = grind (arith, nat_tests, not)
+pub counts_none : (b : Bool) (count : ℕ) → b ≡ false → count ≡ count + (if b then 1 else 0)
+counts_none false count is = omega arith
+counts_none true count is = absurd cc

@@ -1,5 +1,5 @@
 -- The whole blocks at the start of a record's octets.
-use Rattle.std.specs.Prelude.{◌≡◌, ◌≤◌, ℕ, ◌+◌, List, [], ◌∷◌, ◌++◌, length, ◌==◌, if◌then◌else◌}
+use Rattle.std.specs.Prelude.{◌≡◌, ◌≤◌, ℕ, ◌+◌, nat_lt, Bool, ◌&&◌, List, [], ◌∷◌, ◌++◌, length, ◌==◌, if◌then◌else◌}
 use Rattle.std.specs.List.{All}
 use Rattle.pcap_file.specs.declared.decode.endian.Endian.TheVariants.{Little}
 use Rattle.pcap_file.specs.declared.record_blocks.WholeBlocks.{WholeBlocks}
@@ -19,18 +19,22 @@ abbrev pub joined : List (List ℕ) → List ℕ
 joined [] = []
 joined (block ∷ blocks) = block ++ joined blocks
 
--- the number of enhanced packets among blocks, each of which holds a datagram
-abbrev pub datagram_count : List (List ℕ) → ℕ
-datagram_count [] = 0
-datagram_count (block ∷ blocks) = (if number_at Little 4 0 block == 6 then 1 else 0) + datagram_count blocks
+-- a block holds a datagram of a path, where the paths are the first so many interfaces: it is an enhanced packet on one of them
+abbrev pub holds_datagram : ℕ → List ℕ → Bool
+holds_datagram paths block = (number_at Little 4 0 block == 6) && nat_lt (number_at Little 4 8 block) paths
+
+-- how many blocks hold one
+abbrev pub datagram_count : ℕ → List (List ℕ) → ℕ
+datagram_count paths [] = 0
+datagram_count paths (block ∷ blocks) = (if holds_datagram paths block then 1 else 0) + datagram_count paths blocks
 
 -- octets are blocks, one after another, and a rest with which no block begins; this is the length of the blocks, and so many hold
--- a datagram
-pub record AreWhole (octets : List ℕ) (found : WholeBlocks) : Type 0 where
+-- a datagram of one of so many paths
+pub record AreWhole (paths : ℕ) (octets : List ℕ) (found : WholeBlocks) : Type 0 where
   pub blocks : List (List ℕ)
   pub rest : List ℕ
   pub every : All IsBlock blocks
   pub are : octets ≡ joined blocks ++ rest
   pub none : BeginsNone rest
   pub len : found.len ≡ length (joined blocks)
-  pub datagrams : found.datagrams ≡ datagram_count blocks
+  pub datagrams : found.datagrams ≡ datagram_count paths blocks

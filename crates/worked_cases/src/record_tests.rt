@@ -1,5 +1,6 @@
-//! The tests of a live run's record: `record` has its octets, `octets` the calls that write and read them, and `marks`
-//! the times that its blocks give.
+//! The tests of a live run's record: `record` has its octets, `octets` the calls that write and read them, `changes`
+//! those of changes of gains, and `marks` the times that its blocks give.
+mod changes;
 mod marks;
 mod octets;
 mod record;

@@ -1,12 +1,20 @@
 //! The end of a ring into which the blocks of a record are put, each as a whole or not at all.
 ghost use Rattle.std.specs.Prelude.{◌≡◌, ◌≤◌, length, take, false};
+ghost use Rattle.pcap_file.specs.RecordedChange.{change_view};
 ghost use Rattle.pcap_file.specs.RecordedDatagram.{arrival_view};
-ghost use Rattle.pcap_file.specs.Blocks.{closing_block, datagram_block, interface_block, section_block};
+ghost use Rattle.pcap_file.specs.Blocks.{
+  change_block,
+  closing_block,
+  datagram_block,
+  gains_interface_block,
+  interface_block,
+  section_block,
+};
 ghost use Rattle.live_io.specs.RecordBlocks.{Puts, StaysEnded};
 
 use pcap_file::{
-    MAX_BLOCK_LEN, RecordedDatagram, write_interface, write_packet, write_section_header,
-    write_statistics,
+    MAX_BLOCK_LEN, RecordedChange, RecordedDatagram, write_change, write_gains_interface,
+    write_interface, write_packet, write_section_header, write_statistics,
 };
 use rtrb::Producer;
 
@@ -53,6 +61,15 @@ impl BlockProducer {
         self.put(len)
     }
 
+    /// Puts the description of the interface of the run's changes of gains.
+    pub(crate) fn put_gains_interface(&mut self)
+        ensures puts { Puts self.old gains_interface_block self.new }
+        ensures ended { StaysEnded self.old self.new }
+    {
+        let len = write_gains_interface(&mut self.block);
+        self.put(len)
+    }
+
     /// Puts the packet block of a datagram.
     pub(crate) fn put_datagram(&mut self, arrival: &RecordedDatagram<'_>)
         requires few { length arrival.now.octets.now ≤ 2048 }
@@ -60,6 +77,17 @@ impl BlockProducer {
         ensures ended { StaysEnded self.old self.new }
     {
         let len = write_packet(arrival, &mut self.block);
+        self.put(len)
+    }
+
+    /// Puts the packet block of a change of gains.
+    pub(crate) fn put_change(&mut self, change: &RecordedChange<'_>)
+        requires few { length change.now.gains.now ≤ 8192 }
+        ensures puts { Puts self.old
+            (change_block change.now.interface change.now.nanoseconds (change_view change.now)) self.new }
+        ensures ended { StaysEnded self.old self.new }
+    {
+        let len = write_change(change, &mut self.block);
         self.put(len)
     }
 
@@ -75,7 +103,7 @@ impl BlockProducer {
     /// Puts the first so many octets of the buffer as one block, if the ring has room for all of them. The first block
     /// without room ends the record.
     fn put(&mut self, len: usize)
-        requires within { len ≤ 2108 }
+        requires within { len ≤ 32844 }
         ensures puts { Puts self.old (take len self.old.block) self.new }
         ensures ended { StaysEnded self.old self.new }
     {

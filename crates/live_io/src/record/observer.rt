@@ -1,17 +1,24 @@
-//! The observer of a run, which makes a record of the datagrams that the run takes.
-ghost use Rattle.std.specs.Prelude.{◌≡◌, ◌⊎◌, ◌≤◌, ◌<◌, ◌+◌, ◌^◌, ℕ, [], length, IfSome, None, pos, true};
+//! The observer of a run, which makes a record of the datagrams and of the changes of gains that the run takes.
+ghost use Rattle.std.specs.Prelude.{◌≡◌, ◌⊎◌, ◌≤◌, ◌<◌, ◌+◌, ◌^◌, ℕ, [], length, IfSome, None, Some, false, pos, true};
 ghost use Rattle.rtrb.specs.Ring.{sent};
+ghost use Rattle.pcap_file.specs.RecordedChange.{change_view};
 ghost use Rattle.pcap_file.specs.RecordedDatagram.{arrival_view};
 ghost use Rattle.live_io.specs.RecordBlocks.{
   IsPacket,
   IsPast,
   IsSince,
+  IsUnfit,
   Opens,
+  PutsChange,
   PutsClose,
   PutsPacket,
   Sends,
   StaysEnded,
+  change_from,
+  gains_blocks,
+  gains_interface_of,
   path_blocks,
+  path_total,
   recorded_of,
   row_blocks,
   stream_blocks,
@@ -19,7 +26,10 @@ ghost use Rattle.live_io.specs.RecordBlocks.{
 
 use crate::record::RecordResult;
 use crate::record::block_producer::BlockProducer;
-use pcap_file::{MAX_DATAGRAM_LEN, RecordEnd, RecordedDatagram, RecordedStream, nanoseconds_after};
+use pcap_file::{
+    MAX_DATAGRAM_LEN, MAX_RECORDED_GAINS, RecordEnd, RecordedChange, RecordedDatagram,
+    RecordedStream, nanoseconds_after,
+};
 use rtp_stream::StreamSpec;
 use rtp_wire::Enc;
 use rtrb::Producer;
@@ -41,7 +51,7 @@ pub struct DatagramOrigin {
 }
 
 /// The observer that makes the blocks of a record, and counts the datagrams. The record ends before the first block
-/// that cannot be written: if the ring is full, the datagram is too long, or its time does not fit 64 bits.
+/// that cannot be written: if the ring is full, the datagram is too long, or a time does not fit 64 bits.
 #[derive(Drop)]
 pub struct RecordObserver<'a> {
     end: BlockProducer,
@@ -49,6 +59,8 @@ pub struct RecordObserver<'a> {
     recorded: &'a RecordResult,
     /// The studio's opening time, in sampling instants.
     open_at: i64,
+    /// The number of the interface for changes of gains, if the gains of the run can be changed.
+    gains_interface: Option<u32>,
     /// The number of datagrams that arrived, also those after the record's end.
     received: u64,
 }
@@ -62,14 +74,16 @@ impl<'r> RecordObserver<'r> {
     }
 
     /// Returns the observer of a run of this studio, and puts the start of the record into the ring: the studio's
-    /// opening time and its paths.
+    /// opening time, its paths, and an interface for changes of gains if these can be changed.
     pub(crate) fn new(
         ring: Producer<u8>,
         studio: &StudioSpec,
+        is_controlled: bool,
         recorded: &'r RecordResult,
     ) -> RecordObserver<'r>
         requires fresh { sent ring ≡ [] }
-        ensures opens { Opens studio.now result.end }
+        ensures opens { Opens is_controlled studio.now result.end }
+        ensures interface { result.gains_interface ≡ gains_interface_of is_controlled studio.now.streams }
         ensures open_at { result.open_at ≡ studio.now.open_at }
         ensures none { result.received ≡ 0 }
     {
@@ -77,10 +91,13 @@ impl<'r> RecordObserver<'r> {
         let mut end = BlockProducer::new(ring);
         end.put_opening(opening_of(open_at));
         put_streams(&mut end, studio.streams());
+        let paths = path_count(studio.streams());
+        let gains_interface = put_gains_interface(&mut end, is_controlled, paths);
         RecordObserver {
             end,
             recorded,
             open_at,
+            gains_interface,
             received: 0,
         }
     }
@@ -99,6 +116,30 @@ impl<'r> RecordObserver<'r> {
         match self.arrival(time, octets, origin) {
             Some(arrival) => {
                 self.end.put_datagram(&arrival);
+                self.report_if_slow();
+            }
+            None => {
+                self.end.ended = true;
+                self.recorded.set_end(RecordEnd::Unfit);
+            }
+        }
+    }
+
+    /// Puts the packet block of a change of gains that was taken at `time`, when the block of number `next_block` was
+    /// next: from `at` on these gains are in force, row by row. Both times are in sampling instants. A change is not
+    /// counted. It does not wait: if the block cannot be put, the record ends.
+    pub fn changed(&mut self, time: i64, at: i64, next_block: u64, gains: &[i32])
+        ensures puts { PutsChange self.old.open_at self.old.gains_interface time at next_block gains.now
+            self.old.end self.new.end }
+        ensures ended { self.old.end.ended ≡ true → self.new.end.ended ≡ true }
+        ensures received { self.new.received ≡ self.old.received }
+    {
+        if self.end.ended {
+            return;
+        }
+        match self.change(time, at, next_block, gains) {
+            Some(change) => {
+                self.end.put_change(&change);
                 self.report_if_slow();
             }
             None => {
@@ -161,6 +202,36 @@ impl<'r> RecordObserver<'r> {
         })
     }
 
+    /// Returns a change of gains that was taken at `time` as it is recorded, or `None` if it cannot be written.
+    fn change<'a>(
+        &self,
+        time: i64,
+        at: i64,
+        next_block: u64,
+        gains: &'a [i32],
+    ) -> Option<RecordedChange<'a>>
+        ensures few { IfSome result (λ change. length change.gains.now ≤ 8192) }
+        ensures unfit { result ≡ None → IsUnfit self.now.open_at self.now.gains_interface time at gains.now }
+        ensures interface { IfSome result (λ change. self.now.gains_interface ≡ Some change.interface) }
+        ensures since { IfSome result (λ change. IsSince self.now.open_at time change.nanoseconds) }
+        ensures view { IfSome result
+            (λ change. change_view change ≡ change_from self.now.open_at at next_block gains.now) }
+    {
+        if gains.len() > MAX_RECORDED_GAINS {
+            return None;
+        }
+        let interface = self.gains_interface?;
+        let nanoseconds = self.nanoseconds(time)?;
+        let at = at.checked_sub(self.open_at)?;
+        Some(RecordedChange {
+            interface,
+            nanoseconds,
+            at,
+            next_block,
+            gains,
+        })
+    }
+
     /// Returns the nanoseconds from the opening to `time`, or `None` if `time` is before the opening or 64 bits do not
     /// hold them.
     fn nanoseconds(&self, time: i64) -> Option<u64>
@@ -178,6 +249,33 @@ fn opening_of(open_at: i64) -> u64
 {
     // A studio's opening time is not below 0, so the 0 is never used.
     u64::try_from(open_at).unwrap_or(0)
+}
+
+/// Returns the number of paths that the streams have.
+pub(crate) fn path_count(streams: &[StreamSpec]) -> u32
+    requires few { length streams.now ≤ 16 }
+    ensures { result ≡ path_total streams.now }
+{
+    let mut count = 0;
+    for number in 0..streams.len() {
+        count += u32::from(streams[number].paths());
+    }
+    count
+}
+
+/// Puts the description of the interface for changes of gains, if these can be changed. Returns its number, which is
+/// that of all paths.
+fn put_gains_interface(end: &mut BlockProducer, is_controlled: bool, paths: u32) -> Option<u32>
+    ensures sends { Sends end.old (gains_blocks is_controlled) end.new }
+    ensures ended { StaysEnded end.old end.new }
+    ensures put { is_controlled ≡ true → result ≡ Some paths }
+    ensures none { is_controlled ≡ false → result ≡ None }
+{
+    if !is_controlled {
+        return None;
+    }
+    end.put_gains_interface();
+    Some(paths)
 }
 
 /// Puts the descriptions of all paths of the streams.

@@ -55,18 +55,23 @@ pub struct RecordWriter<'a> {
     len: u64,
     /// The number of datagrams that were written.
     datagrams: u64,
+    /// The number of paths, whose interfaces are the first. A packet on another one is a change of gains.
+    paths: u32,
     /// The result of the record, in which the number of datagrams so far is set.
     recorded: &'a RecordResult,
 }
 
 impl<'a> RecordWriter<'a> {
-    /// Returns the writer from a ring to an empty file. Returns `AllocError` if an allocation fails.
+    /// Returns the writer from a ring to an empty file, of the record of a run with so many paths. Returns `AllocError`
+    /// if an allocation fails.
     pub(crate) fn new(
         alloc: Global,
         ring: Consumer<u8>,
+        paths: u32,
         recorded: &'a RecordResult,
     ) -> Result<RecordWriter<'a>, AllocError>
         ensures fresh { IfOk result (λ writer. received ring ≡ [] → HasWritten (Some []) writer) }
+        ensures paths { IfOk result (λ writer. writer.paths ≡ paths) }
     {
         let mut octets = Vec::with_capacity(alloc, BUFFER_OCTETS)?;
         octets.resize(BUFFER_OCTETS, 0)?;
@@ -76,6 +81,7 @@ impl<'a> RecordWriter<'a> {
             held: 0,
             len: 0,
             datagrams: 0,
+            paths,
             recorded,
         })
     }
@@ -94,7 +100,7 @@ impl<'a> RecordWriter<'a> {
         let held = self.held.min(octets.len());
         let taken = self.ring.pop_partial_slice(&mut octets[held..]);
         let end = held + taken;
-        let blocks = whole_blocks(&octets[..end]);
+        let blocks = whole_blocks(&octets[..end], self.paths);
         let Some(len) = end_of(self.len, blocks.len) else {
             return Err(FileResult {
                 datagrams: self.datagrams,
@@ -102,7 +108,7 @@ impl<'a> RecordWriter<'a> {
                 is_whole: true,
             });
         };
-        if let Err(failed) = append_blocks(file, self.len, &octets[..blocks.len]) {
+        if let Err(failed) = append_blocks(file, self.paths, self.len, &octets[..blocks.len]) {
             return Err(FileResult {
                 datagrams: self.datagrams.saturating_add(failed.kept.datagrams),
                 failed: true,
@@ -128,18 +134,23 @@ impl<'a> RecordWriter<'a> {
     }
 }
 
-/// Writes whole blocks to the end of a file of `len` octets. If a write fails, it cuts the file behind the last whole
-/// block that was written.
-fn append_blocks<D: RecordFile>(file: &mut D, len: u64, octets: &[u8]) -> Result<(), FailedWrite>
+/// Writes whole blocks, of a record of so many paths, to the end of a file of `len` octets. If a write fails, it cuts
+/// the file behind the last whole block that was written.
+fn append_blocks<D: RecordFile>(
+    file: &mut D,
+    paths: u32,
+    len: u64,
+    octets: &[u8],
+) -> Result<(), FailedWrite>
     ensures ok { OnOk result (Appends (D.Write.contents file.old) (D.Write.contents file.new) octets.now) }
     ensures failed { IfErr result
-        (FailsBehind (D.Write.contents file.old) (D.Write.contents file.new) len octets.now) }
+        (FailsBehind paths (D.Write.contents file.old) (D.Write.contents file.new) len octets.now) }
 {
     let done = write_front(file, octets);
     if done == octets.len() {
         return Ok(());
     }
-    let kept = whole_blocks(&octets[..done]);
+    let kept = whole_blocks(&octets[..done], paths);
     let is_cut = match end_of(len, kept.len) {
         Some(end) => cut_to(file, end),
         None => false,

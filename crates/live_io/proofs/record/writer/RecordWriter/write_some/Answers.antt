@@ -28,10 +28,10 @@ returns-in-Err-clause-failed g c = λ w.
     let held : take self.held self.octets.items ≡ take h old =
     sym (take_min self.held self.octets.items) ∙ (ap (λ n. take n self.octets.items) (ap (λ (l : List ℕ). min self.held (length l)) (sym was) ∙ sym least) ∙ ap (take h) (sym was)) in
     let same = same_front b (h + t) now within in
-    part_recorded self _ _ _ b (take (h + t) now) c.in-Err.failed _ w
+    part_recorded self _ _ _ b (take (h + t) now) c.in-Err.failed _ w refl
     (got.1 ∙ (ap (λ l. l ++ take t fresh) (w.came ∙ ap (λ l. joined w.blocks ++ l) held) ∙ (append_assoc (joined w.blocks) (take h old) (take t fresh)
     ∙ ap (λ l. joined w.blocks ++ l) (sym (front old fresh h t b hl tl bl)))))
-    (subst (λ l. FailsBehind (g.D.Write.contents c.args.file.now) (g.D.Write.contents c.append_blocks.new.file) self.len l c.in-Err.failed) same c.in-Err.ensures.failed)
+    (subst (λ l. FailsBehind self.paths (g.D.Write.contents c.args.file.now) (g.D.Write.contents c.append_blocks.new.file) self.len l c.in-Err.failed) same c.in-Err.ensures.failed)
     (omega (arith, c.in-Some.ensures.sum, c.in-Some.ensures.small)) (let l = length-take b (take (h + t) now) in omega (arith, l)) c.saturating_add.ensures refl refl
 
 pub returns-clause-written : goal.returns-clause-written
@@ -61,7 +61,7 @@ returns-clause-written g c = λ w.
     let same = same_front b (h + t) now within in
     let done = joined w.blocks in
     let tail : List ℕ = take (h + t - b) (with_items self.octets c.copy_within.new.self).items in
-    more_written self _ _ _ _ (take (h + t) now) c.whole_blocks-blocks.ensures.whole w
+    more_written self _ _ _ _ (take (h + t) now) c.whole_blocks-blocks.ensures.whole w refl
     (got.1 ∙ (ap (λ l. l ++ take t fresh) (w.came ∙ ap (λ l. done ++ l) held) ∙ (append_assoc done (take h old) (take t fresh)
     ∙ (ap (λ l. done ++ l) (sym whole ∙ ap (λ l. take b now ++ take (h + t - b) l) (sym c.copy_within.ensures.after ∙ sym items)) ∙ sym (append_assoc done _ _))))
     ∙ ap (λ l. (done ++ l) ++ tail) same)
