@@ -135,6 +135,9 @@ pub struct LiveArgs<'a> {
     pub control: Option<&'a str>,
     /// The path of the mix's WAV file, if one is asked for.
     pub wav: Option<&'a str>,
+    /// The number of minutes after which a new WAV file begins, if the mix is divided. Its files are named by `wav` and
+    /// the time.
+    pub wav_minutes: Option<u64>,
     /// The path of the mix's raw PCM, if it is asked for; `-` is standard output.
     pub pcm: Option<&'a str>,
 }

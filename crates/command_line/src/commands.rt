@@ -15,6 +15,9 @@ const MAX_LATENCY: i64 = 65_536;
 /// The greatest number of seconds from one report of a live run's counts to the next.
 const MAX_SECONDS: i64 = 4_294_967_295;
 
+/// The greatest number of minutes of a WAV file: a day.
+const MAX_MINUTES: i64 = 1440;
+
 // More than 2^64 nanoseconds have, so that every step of a capture's time can be allowed.
 /// The greatest number of seconds that a capture's time may step forward.
 const MAX_GAP: i64 = 18_446_744_074;
@@ -200,6 +203,12 @@ const LIVE: &[ArgSpec] = &[
         name: "wav",
         help: "Write the mix to this new WAV file while it is sent",
         ..FILE
+    },
+    ArgSpec {
+        name: "wav-minutes",
+        help: "Begin a new WAV file each N minutes, from 1 to 1440, with the UTC time of its first sample in its name and in a bext chunk; needs --wav",
+        kind: ArgKind::Option(ArgAction::Set, &["N"], ValueParser::Signed(1, MAX_MINUTES)),
+        relation: ArgRelation::Needs("wav"),
     },
     ArgSpec {
         name: "pcm",

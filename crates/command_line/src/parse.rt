@@ -170,6 +170,7 @@ fn live_args<'a>(matches: &ArgMatches<'a>) -> LiveArgs<'a> {
         verbose: matches.get_flag("verbose"),
         control: matches.get_str("control"),
         wav: matches.get_str("wav"),
+        wav_minutes: matches.get_one::<u64>("wav-minutes"),
         pcm: matches.get_str("pcm"),
     }
 }

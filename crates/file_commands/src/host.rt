@@ -5,10 +5,10 @@ ghost use Rattle.wav_file.specs.File.{Holds};
 
 use crate::fault::CommandFault;
 use pcap_file::{RecordFault, RecordFile};
-use std::alloc::Global;
+use std::alloc::{AllocError, Global};
 use std::io::{Read, Write};
 use studio_run::ReadFault;
-use wav_file::{CreateFile, FileFault, LiveWavFault, LiveWavFile, Overwrite, PcmFault, PcmOutput};
+use wav_file::{CreateFile, FileFault, Overwrite, PcmFault, PcmOutput, WavFiles};
 
 /// The host of the commands: the types of its standard streams, and its files by their paths. The program implements it
 /// over the system's files.
@@ -32,8 +32,8 @@ pub trait Host {
     /// The file of a live run's record.
     type Record: RecordFile + Send + Drop;
 
-    /// The WAV file of a live run's mix.
-    type Audio: LiveWavFile + Send + Drop;
+    /// The WAV files of a live run's mix.
+    type Audio: WavFiles + Send + Drop;
 
     /// The output of a live run's raw PCM.
     type Pcm: PcmOutput + Send + Drop;
@@ -58,10 +58,15 @@ pub trait Host {
     fn create_record(&self, path: &str) -> Result<Self::Record, RecordFault>
         ensures empty { IfOk result (λ file. RecordHolds (Self.Record.Write.contents file) []) };
 
-    /// Creates the empty WAV file of a live run's mix at a path at which nothing is. Returns `Exists` if something is
-    /// there, which stays as it is, and `NotCreated` if the file cannot be created for another reason.
-    fn create_wav(&self, path: &str) -> Result<Self::Audio, LiveWavFault>
-        ensures empty { IfOk result (λ file. Holds (Self.Audio.Write.contents file) []) };
+    /// Returns the WAV files of a live run's mix, none of which is created yet: one at this path, or, if the time of
+    /// the first sample is given, one after another, each with its own time in its name. Returns `AllocError` if an
+    /// allocation fails.
+    fn wav_files(
+        &self,
+        alloc: Global,
+        path: &str,
+        begins: Option<u64>,
+    ) -> Result<Self::Audio, AllocError>;
 
     /// Opens the output of a live run's raw PCM: standard output if there is no path, or else the FIFO at the path, or
     /// a file that is created there. Does not wait for a reader. Returns `Exists` if something is there that is no

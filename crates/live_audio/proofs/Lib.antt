@@ -1,2 +1,3 @@
 pub mod AudioLemmas
 pub mod PcmLemmas
+pub mod PartLemmas

@@ -1,4 +1,5 @@
 pub mod AudioWriter
+pub mod Parts
 pub mod PcmTap
 pub mod PcmWriter
 pub mod Room

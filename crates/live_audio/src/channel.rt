@@ -4,8 +4,10 @@ ghost use Rattle.rtrb.specs.Ring.{IsPair, known_free, sent};
 ghost use Rattle.rtp_stream.specs.declared.stream_spec.Stream.{Stream};
 ghost use Rattle.wav_file.specs.MixSamples.{output_format};
 ghost use Rattle.live_audio.specs.AudioWriter.{IsFresh};
+ghost use Rattle.live_audio.specs.Parts.{plan_of};
 ghost use Rattle.live_audio.specs.Room.{room_for};
 
+use crate::parts::AudioParts;
 use crate::result::AudioResult;
 use crate::room::ring_octets;
 use crate::tap::AudioTap;
@@ -19,16 +21,17 @@ use studio_config::StudioSpec;
 pub struct AudioChannel<'a> {
     /// The end that takes the samples of the mix.
     pub tap: AudioTap<'a>,
-    /// The end that writes them to the file.
+    /// The end that writes them to the files.
     pub writer: AudioWriter<'a>,
 }
 
 impl<'a> AudioChannel<'a> {
-    /// Returns the two ends of the audio of a run of this studio. Both set their part of `audio`. Returns `AllocError`
-    /// if an allocation fails.
+    /// Returns the two ends of the audio of a run of this studio, which is divided into `parts`, or is one file. Both
+    /// set their part of `audio`. Returns `AllocError` if an allocation fails.
     pub fn new(
         alloc: Global,
         studio: &StudioSpec,
+        parts: Option<AudioParts>,
         audio: &'a AudioResult,
     ) -> Result<AudioChannel<'a>, AllocError>
         ensures pair { IfOk result (λ channel. IsPair channel.tap.ring channel.writer.ring) }
@@ -38,13 +41,14 @@ impl<'a> AudioChannel<'a> {
             → slice_get studio.now.streams place ≡ Some stream
             → room_for (output_format studio.now.output) stream.latency ≤ known_free channel.tap.ring) }
         ensures fresh { IfOk result (λ channel. IsFresh studio.now.output channel.writer) }
+        ensures plan { IfOk result (λ channel. channel.writer.plan ≡ plan_of studio.now.output parts) }
     {
         let output = studio.output();
         let room = ring_octets(format_of(output), studio.streams());
         let (producer, consumer) = RingBuffer::new(alloc, room)?;
         Ok(AudioChannel {
             tap: AudioTap::new(producer, audio),
-            writer: AudioWriter::new(consumer, output, audio),
+            writer: AudioWriter::new(consumer, output, parts, audio),
         })
     }
 }

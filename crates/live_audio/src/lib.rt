@@ -8,8 +8,11 @@
 //! 3. `write_audio`, in another thread, writes the samples to the file as they come, in order, from the
 //!    first block on. Each second of audio it renews the sizes in the header, so that a file that a
 //!    power failure cuts plays to its last second.
-//! 4. The file ends with a whole block, whatever ended it. `AudioResult::state` returns its state to
-//!    other threads.
+//! 4. With `AudioParts` the audio goes to one file after another, of so many whole blocks each. Each has a
+//!    `bext` chunk with the time of its first sample, and no block is left out or written twice between
+//!    two of them.
+//! 5. The last file ends with a whole block, whatever ended it. `AudioResult::state` returns the state of
+//!    the audio to other threads.
 //!
 //! Raw PCM goes the same way to a `PcmOutput`, by the ends of a `PcmChannel` and `write_pcm`. Its
 //! reader may be slow: a block for which the ring has no room is left out as a whole and counted, and
@@ -19,6 +22,7 @@
 #![tactic(auto)]
 
 mod channel;
+mod parts;
 mod pcm_channel;
 mod pcm_result;
 mod pcm_tap;
@@ -31,6 +35,7 @@ mod tap;
 mod writer;
 
 pub use channel::AudioChannel;
+pub use parts::AudioParts;
 pub use pcm_channel::PcmChannel;
 pub use pcm_result::{PcmResult, PcmState};
 pub use pcm_tap::PcmTap;

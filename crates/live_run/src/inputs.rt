@@ -1,6 +1,6 @@
 //! The inputs of a live run.
 
-use live_audio::{AudioResult, PcmResult};
+use live_audio::{AudioParts, AudioResult, PcmResult};
 use live_io::{RecordResult, SocketConfig};
 use status_page::StreamName;
 use std::time::Duration;
@@ -16,6 +16,8 @@ pub struct LiveInputs<'a> {
     pub recorded: &'a RecordResult,
     /// The result of the mix's WAV file, which the run sets if there is one.
     pub audio: &'a AudioResult,
+    /// The division of the mix into WAV files, if it is divided.
+    pub parts: Option<AudioParts>,
     /// The result of the mix's raw PCM, which the run sets if there is one.
     pub pcm: &'a PcmResult,
     /// The reading of the system's monotonic clock at the studio's opening time, if it could be read.

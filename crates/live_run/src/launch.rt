@@ -14,8 +14,8 @@ use crate::status::{OpenStatus, open_status};
 use crate::supervisor::stop_flags::StopFlags;
 use crate::workers::run_in_workers;
 use live_audio::{
-    AudioChannel, AudioResult, AudioTap, AudioTaps, AudioWriter, PcmChannel, PcmResult, PcmTap,
-    PcmWriter, write_audio, write_pcm,
+    AudioChannel, AudioTap, AudioTaps, AudioWriter, PcmChannel, PcmResult, PcmTap, PcmWriter,
+    write_audio, write_pcm,
 };
 use live_io::{LiveOptions, RecordChannel, RecordResult, RunPeriod, Sockets, open_sockets};
 use live_status::{GainLink, Meter, PageDesk, PageThread, RunGains, StatusInputs};
@@ -30,7 +30,7 @@ use std::thread::Threads;
 use std::time::Clock;
 use studio_config::StudioSpec;
 use studio_io::WorkReport;
-use wav_file::{CreateLiveWav, CreatePcm, LiveWavFile, PcmOutput};
+use wav_file::{CreateLiveWav, CreatePcm, PcmOutput, WavFiles};
 
 /// The parts of a run that is ready to start, in addition to its studio.
 #[derive(Drop)]
@@ -41,11 +41,12 @@ struct PreparedRun<'a, R: Wait + Clock, E, D> {
     recording: RecordOutput<'a, D>,
 }
 
-/// A WAV file that was created: the end of the audio that writes it, and the file.
+/// The WAV files of a run: the end of the audio that writes them, and the first one, which was created.
 #[derive(Drop)]
-struct OpenAudio<'a, A> {
+struct OpenAudio<'a, A: WavFiles> {
     writer: AudioWriter<'a>,
-    file: A,
+    files: A,
+    file: A::File,
 }
 
 /// An output of raw PCM that was opened: the end of the audio that writes it, and the output.
@@ -105,7 +106,7 @@ struct OpenRun<'a, R: Wait + Clock, E> {
 
 /// The files of a run: its record, and the outputs of its mix with the taps that fill them, each if it is wanted.
 #[derive(Drop)]
-struct RunFiles<'a, D, A, B> {
+struct RunFiles<'a, D, A: WavFiles, B> {
     recording: RecordOutput<'a, D>,
     taps: AudioTaps<'a>,
     audio: Option<OpenAudio<'a, A>>,
@@ -181,7 +182,7 @@ fn create_files<'a, P: CreateRecord + CreateLiveWav + CreatePcm>(
     ensures early { IfErr result IsEarly }
 {
     let recording = recording_of(alloc, studio, inputs.recorded, record)?;
-    let (wav_tap, audio) = audio_of(alloc, studio, inputs.audio, wav)?;
+    let (wav_tap, audio) = audio_of(alloc, studio, inputs, wav)?;
     let (pcm_tap, piped) = pcm_of(alloc, studio, inputs.pcm, pcm)?;
     Ok(RunFiles {
         recording,
@@ -200,7 +201,7 @@ fn run_open<
     R: Threads + Wait + Sync + Clock,
     E: Write + Send + Drop,
     D: RecordFile + Send + Drop,
-    A: LiveWavFile + Send + Drop,
+    A: WavFiles + Send + Drop,
     B: PcmOutput + Send + Drop,
 >(
     rt: &'a R,
@@ -253,12 +254,12 @@ fn run_open<
     Ok(report)
 }
 
-/// Creates the WAV file of a run, if one is wanted, and returns the end for the run's thread and the end that writes
-/// with the file. Takes its memory before it creates the file.
+/// Creates the first WAV file of a run, if one is wanted, and returns the end for the run's thread and the end that
+/// writes with the files. Takes its memory before it creates the file.
 fn audio_of<'a, P: CreateLiveWav>(
     alloc: Global,
     studio: &StudioSpec,
-    audio: &'a AudioResult,
+    inputs: LiveInputs<'a>,
     wav: Option<&P>,
 ) -> Result<(Option<AudioTap<'a>>, Option<OpenAudio<'a, P::Audio>>), LiveFault>
     ensures early { IfErr result IsEarly }
@@ -266,10 +267,23 @@ fn audio_of<'a, P: CreateLiveWav>(
     let Some(wav) = wav else {
         return Ok((None, None));
     };
-    let AudioChannel { tap, writer } = AudioChannel::new(alloc, studio, audio)?;
-    let file = wav.create_wav()?;
-    audio.begin();
-    Ok((Some(tap), Some(OpenAudio { writer, file })))
+    let AudioChannel { tap, writer } = AudioChannel::new(
+        alloc,
+        studio,
+        inputs.parts,
+        inputs.audio,
+    )?;
+    let mut files = wav.wav_files(alloc)?;
+    let file = files.first()?;
+    inputs.audio.begin();
+    Ok((
+        Some(tap),
+        Some(OpenAudio {
+            writer,
+            files,
+            file,
+        }),
+    ))
 }
 
 /// Opens the output of a run's raw PCM, if one is wanted, and returns the end for the run's thread and the end that
@@ -300,7 +314,7 @@ fn run_with_pcm<
     R: Threads + Wait + Sync + Clock,
     E: Write + Send + Drop,
     D: RecordFile + Send + Drop,
-    A: LiveWavFile + Send + Drop,
+    A: WavFiles + Send + Drop,
     B: PcmOutput + Send + Drop,
 >(
     rt: &'a R,
@@ -326,7 +340,7 @@ fn run_with_pcm_thread<
     R: Threads + Wait + Sync + Clock,
     E: Write + Send + Drop,
     D: RecordFile + Send + Drop,
-    A: LiveWavFile + Send + Drop,
+    A: WavFiles + Send + Drop,
     B: PcmOutput + Send + Drop,
 >(
     rt: &'a R,
@@ -358,13 +372,13 @@ fn run_with_pcm_thread<
     ran
 }
 
-/// Runs a studio, with the writer of its WAV file in another thread if there is a file.
+/// Runs a studio, with the writer of its WAV files in another thread if there are any.
 fn run_with_files<
     'a,
     R: Threads + Wait + Sync + Clock,
     E: Write + Send + Drop,
     D: RecordFile + Send + Drop,
-    A: LiveWavFile + Send + Drop,
+    A: WavFiles + Send + Drop,
 >(
     rt: &'a R,
     alloc: Global,
@@ -388,7 +402,7 @@ fn run_with_audio<
     R: Threads + Wait + Sync + Clock,
     E: Write + Send + Drop,
     D: RecordFile + Send + Drop,
-    A: LiveWavFile + Send + Drop,
+    A: WavFiles + Send + Drop,
 >(
     rt: &'a R,
     alloc: Global,
@@ -404,9 +418,13 @@ fn run_with_audio<
     let (_written, ran) = with_scoped_thread(
         rt,
         move || {
-            let OpenAudio { writer, file } = audio;
-            let (mut writer, mut file) = (writer, file);
-            write_audio(rt, &mut writer, &mut file)
+            let OpenAudio {
+                writer,
+                files,
+                file,
+            } = audio;
+            let (mut writer, mut files, mut file) = (writer, files, file);
+            write_audio(rt, &mut writer, &mut files, &mut file)
         },
         move || -> Result<WorkReport, LiveFault>
             requires sync { IsSync R.row }

@@ -1,6 +1,7 @@
 //! The explanations that `live --verbose` writes below the fault of a device: what could not be opened or read, and the
 //! system's error.
 use crate::fault::ProgramFault;
+use crate::wav_files::part_path;
 use command_line::LiveArgs;
 use live_io::UnopenedSocket;
 use live_run::LiveFault;
@@ -68,17 +69,18 @@ pub(crate) trait SystemErrors {
     fn last_error(&self) -> i32;
 }
 
-/// Returns the fault of a live run, explained if it is one of a device and there is more to say. Returns `AllocError`
-/// if an allocation fails.
+/// Returns the fault of a live run, explained if it is one of a device and there is more to say. `begins` is the time
+/// of the first WAV file, if its name has it. Returns `AllocError` if an allocation fails.
 pub(crate) fn explained<R: Net, H: SystemErrors>(
     rt: &R,
     alloc: Global,
     host: &H,
     args: LiveArgs<'_>,
+    begins: Option<u64>,
     fault: ProgramFault,
 ) -> Result<ProgramFault, AllocError> {
     match fault {
-        ProgramFault::Live(fault) => match explanation_of(rt, alloc, host, args, fault)? {
+        ProgramFault::Live(fault) => match explanation_of(rt, alloc, host, args, begins, fault)? {
             Some(why) => Ok(ProgramFault::LiveExplained(fault, why)),
             None => Ok(ProgramFault::Live(fault)),
         },
@@ -97,13 +99,14 @@ fn explanation_of<R: Net, H: SystemErrors>(
     alloc: Global,
     host: &H,
     args: LiveArgs<'_>,
+    begins: Option<u64>,
     fault: LiveFault,
 ) -> Result<Option<Explanation>, AllocError> {
     match fault {
         LiveFault::RecordExists => at_path(alloc, args.record, Reason::Exists),
         LiveFault::Record => at_path(alloc, args.record, Reason::System(host.last_error())),
-        LiveFault::WavExists => at_path(alloc, args.wav, Reason::Exists),
-        LiveFault::Wav => at_path(alloc, args.wav, Reason::System(host.last_error())),
+        LiveFault::WavExists => at_wav(alloc, args.wav, begins, Reason::Exists),
+        LiveFault::Wav => { at_wav(alloc, args.wav, begins, Reason::System(host.last_error())) }
         LiveFault::PcmExists => at_path(alloc, args.pcm, Reason::Exists),
         LiveFault::Pcm => at_path(alloc, args.pcm, Reason::System(host.last_error())),
         LiveFault::Page => Ok(args.options.page.map(|port| page_explanation(rt, port))),
@@ -121,6 +124,21 @@ fn at_path(
     match path {
         Some(path) => Ok(Some(Explanation::File(String::from_str(alloc, path)?, reason))),
         None => Ok(None),
+    }
+}
+
+/// Returns the explanation of the first WAV file, if there is a path. `begins` is its time, if its name has it.
+fn at_wav(
+    alloc: Global,
+    path: Option<&str>,
+    begins: Option<u64>,
+    reason: Reason,
+) -> Result<Option<Explanation>, AllocError> {
+    match (path, begins) {
+        (Some(path), Some(at)) => {
+            Ok(Some(Explanation::File(part_path(alloc, path, at)?, reason)))
+        }
+        _ => at_path(alloc, path, reason),
     }
 }
 

@@ -5,7 +5,7 @@ use crate::run_files::{RunFiles, files_of};
 use crate::token_file::{TokenFiles, token_of};
 use command_line::LiveArgs;
 use file_commands::{CommandFault, Host, output_result, parse_studio, table_in};
-use live_audio::{AudioResult, PcmResult};
+use live_audio::{AudioParts, AudioResult, PcmResult};
 use live_io::{
     InheritedSockets, LivePorts, RecordResult, RunHealth, SocketConfig, TaiOffset, TaiTime,
     UnexpectedSources, tai_now, unopened_socket,
@@ -24,6 +24,9 @@ use studio_config::StudioSpec;
 use toml::Value;
 use wav_file::PcmEnd;
 
+/// The number of sampling instants in a minute.
+const MINUTE_INSTANTS: u64 = 2_880_000;
+
 /// A studio, and the reading of the system's monotonic clock at its opening time, if that clock could be read.
 #[derive(Drop)]
 struct OpenedStudio {
@@ -32,9 +35,9 @@ struct OpenedStudio {
 }
 
 /// Runs the studio of a configuration's octets over sockets, and writes its report to `output`. If counts are asked for
-/// while it runs, they go to `faults`. Files are the host's. Returns the first fault: of the configuration, of the
-/// offset or the time of `--clock`, of the token's file, of a missing port or an inherited socket, of the run's files,
-/// or of the run. With `--verbose` that of a device is explained.
+/// while it runs, they go to `faults`. Files are the host's. Returns the first fault: of the clock that times the WAV
+/// files, of the configuration, of the offset or the time of `--clock`, of the token's file, of a missing port or an
+/// inherited socket, of the run's files, or of the run. With `--verbose` that of a device is explained.
 pub(crate) fn run_live<
     R: Threads + Wait + Sync + Net + Clock + RandomSource + Env + AllocGlobal,
     H: Host + TokenFiles + SystemErrors,
@@ -47,8 +50,10 @@ pub(crate) fn run_live<
     faults: &mut H::Stderr,
     host: &H,
 ) -> Result<(), ProgramFault> {
-    match load_and_run(rt, alloc, config, args, output, faults, host) {
-        Err(fault) if args.verbose => Err(explained(rt, alloc, host, args, fault)?),
+    let parts = wav_parts(rt, args)?;
+    let begins = parts.map(|parts| parts.at);
+    match load_and_run(rt, alloc, config, args, parts, output, faults, host) {
+        Err(fault) if args.verbose => Err(explained(rt, alloc, host, args, begins, fault)?),
         ran => ran,
     }
 }
@@ -62,6 +67,7 @@ fn load_and_run<
     alloc: Global,
     config: &[u8],
     args: LiveArgs<'_>,
+    parts: Option<AudioParts>,
     output: &mut H::Stdout,
     faults: &mut H::Stderr,
     host: &H,
@@ -70,7 +76,7 @@ fn load_and_run<
     let token = token_of(alloc, host, args.control)?;
     let loaded = load_inputs(rt, alloc, &opened.studio, config, args.listen_fds)?;
     // The run creates its files once its sockets are bound. A file that is there already is refused before that.
-    let files = files_of(host, args)?;
+    let files = files_of(alloc, host, args, parts.map(|parts| parts.at))?;
     // Two calls, since the report goes to standard error if the samples go to standard output.
     if args.is_pcm_stdout() {
         let mut report = host.stderr();
@@ -80,6 +86,7 @@ fn load_and_run<
             &opened,
             &loaded,
             files,
+            parts,
             token,
             args,
             &mut report,
@@ -87,7 +94,7 @@ fn load_and_run<
         );
     }
     run_loaded(
-        rt, alloc, &opened, &loaded, files, token, args, output, faults,
+        rt, alloc, &opened, &loaded, files, parts, token, args, output, faults,
     )
 }
 
@@ -102,6 +109,7 @@ fn run_loaded<
     opened: &OpenedStudio,
     loaded: &LoadedInputs,
     files: RunFiles<'_, '_, H>,
+    parts: Option<AudioParts>,
     token: Option<Token>,
     args: LiveArgs<'_>,
     output: &mut W,
@@ -121,6 +129,7 @@ fn run_loaded<
         names: loaded.names.as_slice(),
         recorded: &recorded,
         audio: &audio,
+        parts,
         pcm: &pcm,
         began: opened.began,
     };
@@ -306,6 +315,22 @@ fn open_studio<R: Clock>(
 fn present_tai<R: Clock>(rt: &R, word: &str) -> Result<TaiTime, ProgramFault> {
     match tai_now(rt, offset_of(word)?) {
         Some(present) => Ok(present),
+        None => Err(ProgramFault::Clock),
+    }
+}
+
+/// Returns the division of the mix into WAV files, if it is divided, with the present time for its first sample.
+fn wav_parts<R: Clock>(rt: &R, args: LiveArgs<'_>) -> Result<Option<AudioParts>, ProgramFault> {
+    let Some(minutes) = args.wav_minutes else {
+        return Ok(None);
+    };
+    // An offset of 0 seconds gives the time of day in UTC.
+    let present = tai_now(rt, TaiOffset::Seconds(0)).and_then(|now| u64::try_from(now.at).ok());
+    match present {
+        Some(at) => Ok(Some(AudioParts {
+            at,
+            instants: minutes.saturating_mul(MINUTE_INSTANTS),
+        })),
         None => Err(ProgramFault::Clock),
     }
 }

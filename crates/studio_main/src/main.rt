@@ -5,9 +5,9 @@
 //! over files, and `live_command` the live command, whose files are those of `run_files`. A
 //! `ProgramFault` has the line and the exit status of every fault, and `explanation` what `--verbose`
 //! adds to it. `SystemHost` opens files by path, `pcm_output` the output of raw PCM, and `token_file`
-//! reads the token for the control of gains. `std_fds` opens the standard descriptors that are closed,
-//! before anything else. `terminal_help` has the help for a start by hand: without words, and behind a
-//! fault.
+//! reads the token for the control of gains. `wav_files` has the WAV files of a live run. `std_fds`
+//! opens the standard descriptors that are closed, before anything else. `terminal_help` has the help
+//! for a start by hand: without words, and behind a fault.
 #![tactic(auto)]
 
 mod explanation;
@@ -19,6 +19,7 @@ mod run_files;
 mod std_fds;
 mod terminal_help;
 mod token_file;
+mod wav_files;
 
 use crate::explanation::SystemErrors;
 use crate::fault::ProgramFault;
@@ -26,9 +27,10 @@ use crate::pcm_output::SystemPcm;
 use crate::program::run;
 use crate::std_fds::open_missing_fds;
 use crate::token_file::{TokenFiles, open_private};
+use crate::wav_files::SystemWavFiles;
 use file_commands::{CommandFault, Host};
 use pcap_file::{RecordEnd, RecordFault, RecordFile};
-use std::alloc::Global;
+use std::alloc::{AllocError, Global};
 use std::env::Args;
 use std::io::{ErrorKind, Seek, SeekFrom, Stderr, Stdin, Stdout, Write};
 use std::os::unix::fs::MetadataExt;
@@ -37,11 +39,11 @@ use std::rt::Env;
 use std::sync::atomic::{AtomicI32, Ordering};
 use std::{env, fs, io};
 use studio_run::{ReadFault, read_octets};
-use wav_file::{FileFault, LiveWavFault, LiveWavFile, PcmFault, SeekFile, WavEnd};
+use wav_file::{FileFault, PcmFault, SeekFile};
 
 /// The system as the host of the commands.
 #[derive(Clone, Copy)]
-struct SystemHost<'a> {
+pub(crate) struct SystemHost<'a> {
     rt: &'a HostRuntime,
     /// The system's number of the error of the last file of a live run that could not be created, opened or read; 0 if
     /// there was none.
@@ -51,7 +53,7 @@ struct SystemHost<'a> {
 
 impl SystemHost<'_> {
     /// Keeps the number of an error, and returns its kind.
-    fn note(&self, error: &io::Error) -> ErrorKind {
+    pub(crate) fn note(&self, error: &io::Error) -> ErrorKind {
         self.error
             .store(error.raw_os_error().unwrap_or(0), Ordering::SeqCst);
         error.kind()
@@ -64,7 +66,7 @@ impl SystemErrors for SystemHost<'_> {
     }
 }
 
-impl Host for SystemHost<'_> {
+impl<'a> Host for SystemHost<'a> {
     type Stdin = Stdin;
 
     type Stdout = Stdout;
@@ -77,7 +79,7 @@ impl Host for SystemHost<'_> {
 
     type Record = SystemRecord;
 
-    type Audio = SystemAudio;
+    type Audio = SystemWavFiles<'a>;
 
     type Pcm = SystemPcm;
 
@@ -120,17 +122,13 @@ impl Host for SystemHost<'_> {
         }
     }
 
-    fn create_wav(&self, path: &str) -> Result<SystemAudio, LiveWavFault> {
-        match fs::File::create_new(self.rt, path) {
-            Ok(file) => Ok(SystemAudio {
-                file,
-                faults: self.rt.stderr(),
-            }),
-            Err(error) => match self.note(&error) {
-                ErrorKind::AlreadyExists => Err(LiveWavFault::Exists),
-                _ => Err(LiveWavFault::NotCreated),
-            },
-        }
+    fn wav_files(
+        &self,
+        alloc: Global,
+        path: &str,
+        begins: Option<u64>,
+    ) -> Result<SystemWavFiles<'a>, AllocError> {
+        SystemWavFiles::new(*self, alloc, path, begins)
     }
 
     fn create_pcm(&self, path: Option<&str>) -> Result<SystemPcm, PcmFault> {
@@ -202,50 +200,6 @@ impl RecordFile for SystemRecord {
             self.faults,
             "device: record {end}, after {datagrams} datagrams"
         );
-    }
-}
-
-/// The WAV file of a live run's mix, which reports its end on standard error.
-#[derive(Drop)]
-struct SystemAudio {
-    file: fs::File,
-    faults: Stderr,
-}
-
-impl Write for SystemAudio {
-    fn write(&mut self, buf: &[u8]) -> io::Result<usize> {
-        self.file.write(buf)
-    }
-
-    fn flush(&mut self) -> io::Result<()> {
-        self.file.flush()
-    }
-}
-
-impl LiveWavFile for SystemAudio {
-    // No contract can say what a device holds.
-    ghost synced = { λ _. Unit {0} };
-
-    fn sync(&mut self) -> io::Result<()> {
-        self.file.sync_data()
-    }
-
-    fn overwrite(&mut self, octets: &[u8]) -> io::Result<()> {
-        self.file.seek(SeekFrom::Start(0))?;
-        self.file.write_all(octets)?;
-        self.file.seek(SeekFrom::End(0))?;
-        Ok(())
-    }
-
-    fn cut(&mut self, len: u64) -> io::Result<()> {
-        self.file.set_len(len)?;
-        self.file.seek(SeekFrom::Start(len))?;
-        Ok(())
-    }
-
-    fn report(&mut self, end: WavEnd, blocks: u64) {
-        // A line that cannot be written is lost, as a fault's line is.
-        let _ = writeln!(self.faults, "device: wav {end}, after {blocks} blocks");
     }
 }
 

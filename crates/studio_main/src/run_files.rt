@@ -1,16 +1,20 @@
 //! The files of a live run: the paths at which it creates them, and the faults of these paths.
 use crate::fault::ProgramFault;
+use crate::wav_files::part_path;
 use command_line::LiveArgs;
 use file_commands::{Host, is_one_file};
 use live_run::LiveFault;
 use pcap_file::{CreateRecord, RecordFault};
-use wav_file::{CreateLiveWav, CreatePcm, LiveWavFault, PcmFault};
+use std::alloc::{AllocError, Global};
+use wav_file::{CreateLiveWav, CreatePcm, PcmFault};
 
 /// A path of the host's files, at which a run creates a file.
 #[derive(Clone, Copy)]
 pub(crate) struct RunPath<'h, 'p, H> {
     host: &'h H,
     path: &'p str,
+    /// The time of the first sample of the WAV files, if each has its time in its name.
+    begins: Option<u64>,
 }
 
 /// The paths at which a run creates its files, each if it is asked for.
@@ -32,8 +36,8 @@ impl<H: Host> CreateRecord for RunPath<'_, '_, H> {
 impl<H: Host> CreateLiveWav for RunPath<'_, '_, H> {
     type Audio = H::Audio;
 
-    fn create_wav(&self) -> Result<H::Audio, LiveWavFault> {
-        self.host.create_wav(self.path)
+    fn wav_files(&self, alloc: Global) -> Result<H::Audio, AllocError> {
+        self.host.wav_files(alloc, self.path, self.begins)
     }
 }
 
@@ -50,22 +54,44 @@ fn file_of(path: &str) -> Option<&str> {
     if path == "-" { None } else { Some(path) }
 }
 
-/// Returns the paths of the files that are asked for. Returns a fault if something is at one of them, other than a FIFO
-/// for raw PCM, or two of them are one file.
+/// Returns the paths of the files that are asked for. `begins` is the time of the first sample, if each WAV file has
+/// its time in its name. Returns a fault if something is at one of them, other than a FIFO for raw PCM, if two of them
+/// are one file, or if an allocation fails.
 pub(crate) fn files_of<'h, 'p, H: Host>(
+    alloc: Global,
     host: &'h H,
     args: LiveArgs<'p>,
+    begins: Option<u64>,
 ) -> Result<RunFiles<'h, 'p, H>, ProgramFault> {
-    let pcm = args.pcm.and_then(file_of);
-    refuse_one_place(host, args.record, args.wav, "--record and --wav")?;
-    refuse_one_place(host, args.record, pcm, "--record and --pcm")?;
-    refuse_one_place(host, args.wav, pcm, "--wav and --pcm")?;
-    refuse_pcm(host, pcm)?;
+    match (args.wav, begins) {
+        (Some(path), Some(at)) => {
+            let first = part_path(alloc, path, at)?;
+            refuse_files(host, args, Some(first.as_str()))?;
+        }
+        _ => refuse_files(host, args, args.wav)?,
+    }
+    let place = |path| RunPath { host, path, begins };
     Ok(RunFiles {
-        record: place_of(host, args.record, LiveFault::RecordExists)?,
-        wav: place_of(host, args.wav, LiveFault::WavExists)?,
-        pcm: args.pcm.map(|path| RunPath { host, path }),
+        record: args.record.map(place),
+        wav: args.wav.map(place),
+        pcm: args.pcm.map(place),
     })
+}
+
+/// Refuses files that are asked for if something is at one of them, other than a FIFO for raw PCM, or two of them are
+/// one file. `wav` is the path of the first WAV file.
+fn refuse_files<H: Host>(
+    host: &H,
+    args: LiveArgs<'_>,
+    wav: Option<&str>,
+) -> Result<(), ProgramFault> {
+    let pcm = args.pcm.and_then(file_of);
+    refuse_one_place(host, args.record, wav, "--record and --wav")?;
+    refuse_one_place(host, args.record, pcm, "--record and --pcm")?;
+    refuse_one_place(host, wav, pcm, "--wav and --pcm")?;
+    refuse_pcm(host, pcm)?;
+    refuse_taken(host, args.record, LiveFault::RecordExists)?;
+    refuse_taken(host, wav, LiveFault::WavExists)
 }
 
 /// Refuses two files that are one, which `words` names by their options.
@@ -94,15 +120,14 @@ fn refuse_pcm<H: Host>(host: &H, path: Option<&str>) -> Result<(), ProgramFault>
     }
 }
 
-/// Returns the path of a file that is asked for. Returns this fault if something is there.
-fn place_of<'h, 'p, H: Host>(
-    host: &'h H,
-    path: Option<&'p str>,
+/// Refuses a path with this fault if something is there.
+fn refuse_taken<H: Host>(
+    host: &H,
+    path: Option<&str>,
     exists: LiveFault,
-) -> Result<Option<RunPath<'h, 'p, H>>, ProgramFault> {
+) -> Result<(), ProgramFault> {
     match path {
         Some(path) if host.has(path) => Err(ProgramFault::Live(exists)),
-        Some(path) => Ok(Some(RunPath { host, path })),
-        None => Ok(None),
+        _ => Ok(()),
     }
 }

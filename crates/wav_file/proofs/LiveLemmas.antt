@@ -6,9 +6,9 @@ use Rattle.std.specs.Io.KnownBytes.{Appends}
 use Rattle.rtp_wire.specs.declared.encoding.Enc.{Enc}
 use Rattle.rtp_wire.specs.declared.encoding.Enc.TheVariants.{L16, L24}
 use Rattle.rtp_wire.specs.Sample.{octets_per_sample}
-use Rattle.wav_file.specs.Header.{header_octets}
-use Rattle.wav_file.specs.File.{Overwrites, OverwritesPart, WavState, pad_octets, wav_octets}
-use Rattle.wav_file.specs.LiveFile.{HasData, IsCut, KeepsData, header_over}
+use Rattle.wav_file.specs.Header.{header_with}
+use Rattle.wav_file.specs.File.{Overwrites, OverwritesPart, pad_octets}
+use Rattle.wav_file.specs.LiveFile.{HasData, IsCut, KeepsData, LiveState, header_over, live_octets}
 use Rattle.wav_file.specs.Samples.{little_16, little_24, little_samples}
 
 -- octets of a known file, after a write, a cut, and a write over the first ones
@@ -41,22 +41,22 @@ known_whole b xs ys is =
     (length ys, all, is ∙ ap (λ l. Some (l ++ drop (length ys) xs)) (sym (take_all (length ys) ys all)))
 
 -- the header has its room
-pub fits_head : (head octets rest new : List ℕ) → length head ≡ 80 → length new ≡ 80 → length new ≤ length (head ++ octets ++ rest)
-fits_head head octets rest new size same =
+pub fits_head : (size_of : ℕ) (head octets rest new : List ℕ) → length head ≡ size_of → length new ≡ size_of → length new ≤ length (head ++ octets ++ rest)
+fits_head size_of head octets rest new size same =
     let first = length-append (head ++ octets) rest in
     let second = length-append head octets in
     omega (arith, first, second, size, same)
 
 -- the new header is over the old one
-pub data_renewed : (a b : Option (List ℕ)) (wav : WavState) (head octets rest new : List ℕ) → HasData a wav head octets rest → new ≡ header_octets wav.format wav.count → length new ≡ 80
+pub data_renewed : (a b : Option (List ℕ)) (wav : LiveState) (head octets rest new : List ℕ) → HasData a wav head octets rest → new ≡ header_with wav.format wav.chunk wav.count → length new ≡ 80 + length wav.chunk
     → ((xs : List ℕ) → a ≡ Some xs → length new ≤ length xs → b ≡ Some (new ++ drop (length new) xs))
-    → HasData b wav (header_octets wav.format (length octets)) octets rest
+    → HasData b wav (header_with wav.format wav.chunk (length octets)) octets rest
 data_renewed a b wav head octets rest new d is size put =
-    let same : new ≡ header_octets wav.format (length octets) = is ∙ ap (header_octets wav.format) d.count in
+    let same : new ≡ header_with wav.format wav.chunk (length octets) = is ∙ ap (header_with wav.format wav.chunk) d.count in
     let behind : drop (length new) (head ++ octets ++ rest) ≡ octets ++ rest =
     ap (drop (length new)) (append_assoc head octets rest) ∙ drop_at head (octets ++ rest) (length new) (d.size ∙ sym size) in
     record {
-      holds = put (head ++ octets ++ rest) d.holds (fits_head head octets rest new d.size size)
+      holds = put (head ++ octets ++ rest) d.holds (fits_head (80 + length wav.chunk) head octets rest new d.size size)
           ∙ ap (λ l. Some (new ++ l)) behind
           ∙ ap Some (sym (append_assoc new octets rest))
           ∙ ap (λ h. Some (h ++ octets ++ rest)) same;
@@ -65,39 +65,39 @@ data_renewed a b wav head octets rest new d is size put =
     }
 
 -- a header over a part of another
-over_length : (n : ℕ) (xs ys : List ℕ) → length xs ≡ 80 → length ys ≡ 80 → length (take n xs ++ drop n ys) ≡ 80
-over_length n xs ys one other =
+over_length : (n size_of : ℕ) (xs ys : List ℕ) → length xs ≡ size_of → length ys ≡ size_of → length (take n xs ++ drop n ys) ≡ size_of
+over_length n size_of xs ys one other =
     let all = length-append (take n xs) (drop n ys) in
     let front = length-take n xs in
     let back = length-drop n ys in
     omega (arith, all, front, back, one, other)
 
-data_over : (b : Option (List ℕ)) (wav : WavState) (head octets rest new : List ℕ) (n : ℕ) → n ≤ 80 → length head ≡ 80 → wav.count ≡ length octets
-    → new ≡ header_octets wav.format (length octets) → length new ≡ 80 → b ≡ Some (take n new ++ drop n (head ++ octets ++ rest))
-    → HasData b wav (header_over wav.format (length octets) n head) octets rest
+data_over : (b : Option (List ℕ)) (wav : LiveState) (head octets rest new : List ℕ) (n : ℕ) → n ≤ 80 + length wav.chunk → length head ≡ 80 + length wav.chunk → wav.count ≡ length octets
+    → new ≡ header_with wav.format wav.chunk (length octets) → length new ≡ 80 + length wav.chunk → b ≡ Some (take n new ++ drop n (head ++ octets ++ rest))
+    → HasData b wav (header_over wav.format wav.chunk (length octets) n head) octets rest
 data_over b wav head octets rest new n few first count same size at = record {
   holds = at
       ∙ ap (λ l. Some (take n new ++ l)) (ap (drop n) (append_assoc head octets rest) ∙ drop-append-le n head (octets ++ rest) (omega (arith, few, first)))
       ∙ ap Some (sym (append_assoc (take n new) (drop n head) (octets ++ rest)))
       ∙ ap Some (sym (append_assoc (take n new ++ drop n head) octets rest))
       ∙ ap (λ h. Some ((take n h ++ drop n head) ++ octets ++ rest)) same;
-  size = over_length n (header_octets wav.format (length octets)) head (ap length (sym same) ∙ size) first;
+  size = over_length n (80 + length wav.chunk) (header_with wav.format wav.chunk (length octets)) head (ap length (sym same) ∙ size) first;
   count = count;
 }
 
 -- some of it is
-pub data_broken : (a b : Option (List ℕ)) (wav : WavState) (head octets rest new : List ℕ) → HasData a wav head octets rest → new ≡ header_octets wav.format wav.count → length new ≡ 80
+pub data_broken : (a b : Option (List ℕ)) (wav : LiveState) (head octets rest new : List ℕ) → HasData a wav head octets rest → new ≡ header_with wav.format wav.chunk wav.count → length new ≡ 80 + length wav.chunk
     → ((xs : List ℕ) → a ≡ Some xs → length new ≤ length xs → (n : ℕ) × (n ≤ length new) × (b ≡ Some (take n new ++ drop n xs)))
-    → (n : ℕ) × HasData b wav (header_over wav.format (length octets) n head) octets rest
+    → (n : ℕ) × HasData b wav (header_over wav.format wav.chunk (length octets) n head) octets rest
 data_broken a b wav head octets rest new d is size put =
-    let same : new ≡ header_octets wav.format (length octets) = is ∙ ap (header_octets wav.format) d.count in
+    let same : new ≡ header_with wav.format wav.chunk (length octets) = is ∙ ap (header_with wav.format wav.chunk) d.count in
     let got : (n : ℕ) × (n ≤ length new) × (b ≡ Some (take n new ++ drop n (head ++ octets ++ rest))) =
-    put (head ++ octets ++ rest) d.holds (fits_head head octets rest new d.size size) in
+    put (head ++ octets ++ rest) d.holds (fits_head (80 + length wav.chunk) head octets rest new d.size size) in
     let few = got.1 in
     (got.0, data_over b wav head octets rest new got.0 (omega (arith, few, size)) d.size d.count same size got.2)
 
 -- octets were added behind the data
-pub data_more : (a b : Option (List ℕ)) (wav : WavState) (head octets rest more : List ℕ) → HasData a wav head octets rest → Appends a b more → HasData b wav head octets (rest ++ more)
+pub data_more : (a b : Option (List ℕ)) (wav : LiveState) (head octets rest more : List ℕ) → HasData a wav head octets rest → Appends a b more → HasData b wav head octets (rest ++ more)
 data_more a b wav head octets rest more d added = record {
   holds = known_more a b (head ++ octets ++ rest) more d.holds added ∙ ap Some (append_assoc (head ++ octets) rest more);
   size = d.size;
@@ -105,7 +105,7 @@ data_more a b wav head octets rest more d added = record {
 }
 
 -- the file was cut behind them
-pub data_cut : (a b : Option (List ℕ)) (wav : WavState) (head octets rest : List ℕ) (len : ℕ) → HasData a wav head octets rest → len ≡ 80 + wav.count → IsCut a b len → HasData b wav head octets []
+pub data_cut : (a b : Option (List ℕ)) (wav : LiveState) (head octets rest : List ℕ) (len : ℕ) → HasData a wav head octets rest → len ≡ 80 + length wav.chunk + wav.count → IsCut a b len → HasData b wav head octets []
 data_cut a b wav head octets rest len d is cut =
     let start = d.size in
     let some = d.count in
@@ -119,21 +119,21 @@ data_cut a b wav head octets rest len d is cut =
     }
 
 -- the file is whole
-pub data_whole : (a : Option (List ℕ)) (wav : WavState) (octets : List ℕ) → HasData a wav (header_octets wav.format (length octets)) octets (pad_octets (length octets)) → a ≡ Some (wav_octets wav.format octets)
+pub data_whole : (a : Option (List ℕ)) (wav : LiveState) (octets : List ℕ) → HasData a wav (header_with wav.format wav.chunk (length octets)) octets (pad_octets (length octets)) → a ≡ Some (live_octets wav.format wav.chunk octets)
 data_whole a wav octets d = d.holds
 
-pub keeps : (a : Option (List ℕ)) (wav : WavState) (head octets rest : List ℕ) → HasData a wav head octets rest → KeepsData a wav octets
+pub keeps : (a : Option (List ℕ)) (wav : LiveState) (head octets rest : List ℕ) → HasData a wav head octets rest → KeepsData a wav octets
 keeps a wav head octets rest d = record { head = head; rest = rest; held = d }
 
 -- samples were added to the data, and are counted
-pub data_pushed : (a b : Option (List ℕ)) (wav then : WavState) (head octets more : List ℕ) → HasData a wav head octets [] → Appends a b more → then.count ≡ wav.count + length more → HasData b then head (octets ++ more) []
-data_pushed a b wav then head octets more d added counted =
+pub data_pushed : (a b : Option (List ℕ)) (wav then : LiveState) (head octets more : List ℕ) → HasData a wav head octets [] → Appends a b more → then.chunk ≡ wav.chunk → then.count ≡ wav.count + length more → HasData b then head (octets ++ more) []
+data_pushed a b wav then head octets more d added same counted =
     let some = d.count in
     let sum = length-append octets more in
     record {
       holds = known_more a b (head ++ octets ++ []) more d.holds added
           ∙ ap Some (ap (λ l. l ++ more) (append-nil (head ++ octets)) ∙ append_assoc head octets more ∙ sym (append-nil (head ++ (octets ++ more))));
-      size = d.size;
+      size = d.size ∙ ap (λ l. 80 + length l) (sym same);
       count = omega (arith, counted, some, sum);
     }
 

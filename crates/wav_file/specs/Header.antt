@@ -1,5 +1,5 @@
 -- The head of a WAV file: RIFF WAVE (Microsoft), and RF64 where 32 bits don't hold its size (EBU Tech 3306).
-use Rattle.std.specs.Prelude.{ℕ, ◌+◌, ◌-◌, ◌*◌, ◌/◌, ◌%◌, ◌^◌, Bool, List, ◌++◌, codes, nat_le, if◌then◌else◌}
+use Rattle.std.specs.Prelude.{ℕ, ◌+◌, ◌-◌, ◌*◌, ◌/◌, ◌%◌, ◌^◌, Bool, List, ◌++◌, length, codes, nat_le, [], if◌then◌else◌}
 use Rattle.byteorder.specs.Endian.{little_bytes}
 use Rattle.rtp_wire.specs.Sample.{octets_per_sample}
 use Rattle.wav_file.specs.declared.header.WavFormat.{WavFormat}
@@ -8,27 +8,27 @@ use Rattle.wav_file.specs.declared.header.WavFormat.{WavFormat}
 abbrev pub frame_length : WavFormat → ℕ
 frame_length format = format.channels * octets_per_sample format.enc
 
--- the octets behind the file's size, where its data has so many: 72 of the head, the data, and one more where those are odd
-abbrev pub riff_size : ℕ → ℕ
-riff_size count = 72 + count + count % 2
+-- the octets behind the file's size, where its data has so many: 72 of the head, those of a chunk more, the data, and one more where those are odd
+abbrev pub riff_size : ℕ → ℕ → ℕ
+riff_size more count = 72 + more + count + count % 2
 
 -- 32 bits don't hold it
-abbrev pub is_long : ℕ → Bool
-is_long count = nat_le (2 ^ 32) (riff_size count)
+abbrev pub is_long : ℕ → ℕ → Bool
+is_long more count = nat_le (2 ^ 32) (riff_size more count)
 
 -- a size of 32 bits; of a long file all ones
-abbrev pub size_octets : ℕ → ℕ → List ℕ
-size_octets count size = little_bytes 4 (if is_long count then 2 ^ 32 - 1 else size)
+abbrev pub size_octets : ℕ → ℕ → ℕ → List ℕ
+size_octets more count size = little_bytes 4 (if is_long more count then 2 ^ 32 - 1 else size)
 
 -- a chunk of 28 octets that has the sizes of all and of the data, and the sampling instants; no table follows
 abbrev pub room_chunk : List ℕ → ℕ → ℕ → ℕ → List ℕ
 room_chunk name all count frames = name ++ (little_bytes 4 28 ++ little_bytes 8 all ++ little_bytes 8 count ++ little_bytes 8 frames ++ little_bytes 4 0)
 
 -- the sizes of a long file; otherwise room for them
-abbrev pub room_octets : WavFormat → ℕ → List ℕ
-room_octets format count =
-    if is_long count
-    then room_chunk (codes "ds64") (riff_size count) count (count / frame_length format)
+abbrev pub room_octets : WavFormat → ℕ → ℕ → List ℕ
+room_octets format more count =
+    if is_long more count
+    then room_chunk (codes "ds64") (riff_size more count) count (count / frame_length format)
     else room_chunk (codes "JUNK") 0 0 0
 
 -- the chunk of the format: linear PCM, 48,000 sampling instants a second
@@ -37,8 +37,12 @@ format_octets format =
     codes "fmt " ++ little_bytes 4 16 ++ little_bytes 2 1 ++ little_bytes 2 format.channels ++ little_bytes 4 48000
     ++ little_bytes 4 (48000 * frame_length format) ++ little_bytes 2 (frame_length format) ++ little_bytes 2 (8 * octets_per_sample format.enc)
 
--- the 80 octets before data of so many
+-- the octets before data of so many, with a chunk more before that of the format
+abbrev pub header_with : WavFormat → List ℕ → ℕ → List ℕ
+header_with format chunk count =
+    (if is_long (length chunk) count then codes "RF64" else codes "RIFF") ++ size_octets (length chunk) count (riff_size (length chunk) count) ++ codes "WAVE"
+    ++ room_octets format (length chunk) count ++ chunk ++ format_octets format ++ codes "data" ++ size_octets (length chunk) count count
+
+-- the 80 octets before data of so many, without such a chunk
 abbrev pub header_octets : WavFormat → ℕ → List ℕ
-header_octets format count =
-    (if is_long count then codes "RF64" else codes "RIFF") ++ size_octets count (riff_size count) ++ codes "WAVE"
-    ++ room_octets format count ++ format_octets format ++ codes "data" ++ size_octets count count
+header_octets format count = header_with format [] count

@@ -4,7 +4,7 @@ ghost use Rattle.std.specs.Prelude.{◌≡◌, ◌+◌, ◌++◌, ◌^◌, ◌<�
 ghost use Rattle.wav_file.specs.Header.{
   frame_length,
   format_octets,
-  header_octets,
+  header_with,
   is_long,
   riff_size,
   room_chunk,
@@ -34,40 +34,54 @@ impl WavFormat {
     }
 }
 
-/// The octets of a header, up to the data.
-type Header = ArrayVec<u8, 80>;
+/// The octets of a header, up to the data: 80, and those of a `bext` chunk.
+type Header = ArrayVec<u8, 690>;
 
-/// Returns the header of a file with `count` octets of data.
-pub(crate) fn header_octets(format: WavFormat, count: u64) -> Header
-    requires { count < 2 ^ 63 }
-    ensures head { result.items ≡ header_octets format count }
-    ensures length { array_vec_len result ≡ 80 }
+/// Returns the header of a file with `count` octets of data. `chunk` is a chunk more before the format, or empty.
+// Behind the room for `ds64`, which has to be the first chunk of a long file.
+pub(crate) fn header_octets(format: WavFormat, chunk: &[u8], count: u64) -> Header
+    requires count { count < 2 ^ 63 }
+    requires chunk { length chunk.now ≤ 610 }
+    ensures head { result.items ≡ header_with format chunk.now count }
+    ensures length { array_vec_len result ≡ 80 + length chunk.now }
 {
+    let more = chunk.len() as u64;
     let mut head = Header::new();
-    push(&mut head, if is_long(count) { b"RF64" } else { b"RIFF" });
-    push_size(&mut head, count, riff_size(count));
+    push(
+        &mut head,
+        if is_long(more, count) {
+            b"RF64"
+        } else {
+            b"RIFF"
+        },
+    );
+    push_size(&mut head, more, count, riff_size(more, count));
     push(&mut head, b"WAVE");
-    push_ds64_or_junk(&mut head, format, count);
+    push_ds64_or_junk(&mut head, format, more, count);
+    push(&mut head, chunk);
     push_format(&mut head, format);
     push(&mut head, b"data");
-    push_size(&mut head, count, count);
+    push_size(&mut head, more, count, count);
     head
 }
 
-/// Returns the file's size: the number of octets behind this field, with one more after data of an odd length.
-fn riff_size(count: u64) -> u64
-    requires { count < 2 ^ 63 }
-    ensures { result ≡ riff_size count }
+/// Returns the file's size: the number of octets behind this field, `more` of which are a chunk more, with one more
+/// after data of an odd length.
+fn riff_size(more: u64, count: u64) -> u64
+    requires count { count < 2 ^ 63 }
+    requires more { more ≤ 610 }
+    ensures { result ≡ riff_size more count }
 {
-    72 + count + count % 2
+    72 + more + count + count % 2
 }
 
 /// Returns true if the file's size doesn't fit 32 bits.
-fn is_long(count: u64) -> bool
-    requires { count < 2 ^ 63 }
-    ensures { result ≡ is_long count }
+fn is_long(more: u64, count: u64) -> bool
+    requires count { count < 2 ^ 63 }
+    requires more { more ≤ 610 }
+    ensures { result ≡ is_long more count }
 {
-    riff_size(count) >= 4_294_967_296
+    riff_size(more, count) >= 4_294_967_296
 }
 
 /// Returns the number of sampling instants in so many octets.
@@ -82,7 +96,7 @@ fn frames_in(format: WavFormat, count: u64) -> u64
 
 /// Appends octets.
 fn push(head: &mut Header, octets: &[u8])
-    requires { array_vec_len head.old + length octets.now ≤ 80 }
+    requires { array_vec_len head.old + length octets.now ≤ 690 }
     ensures items { head.new.items ≡ head.old.items ++ octets.now }
     ensures length { array_vec_len head.new ≡ array_vec_len head.old + length octets.now }
 {
@@ -93,14 +107,15 @@ fn push(head: &mut Header, octets: &[u8])
 }
 
 /// Appends a size of 32 bits: all ones in a long file, whose `ds64` chunk has it.
-fn push_size(head: &mut Header, count: u64, size: u64)
-    requires room { array_vec_len head.old + 4 ≤ 80 }
+fn push_size(head: &mut Header, more: u64, count: u64, size: u64)
+    requires room { array_vec_len head.old + 4 ≤ 690 }
     requires count { count < 2 ^ 63 }
-    requires size { size ≤ riff_size count }
-    ensures items { head.new.items ≡ head.old.items ++ size_octets count size }
+    requires more { more ≤ 610 }
+    requires size { size ≤ riff_size more count }
+    ensures items { head.new.items ≡ head.old.items ++ size_octets more count size }
     ensures length { array_vec_len head.new ≡ array_vec_len head.old + 4 }
 {
-    let size = if is_long(count) {
+    let size = if is_long(more, count) {
         u32::MAX
     } else {
         size as u32
@@ -110,17 +125,18 @@ fn push_size(head: &mut Header, count: u64, size: u64)
 
 /// Appends the chunk with the sizes of a long file, or one of the same length that is ignored.
 // The file's length isn't known when its header is first written. `JUNK` keeps the room for `ds64`.
-fn push_ds64_or_junk(head: &mut Header, format: WavFormat, count: u64)
-    requires room { array_vec_len head.old + 36 ≤ 80 }
+fn push_ds64_or_junk(head: &mut Header, format: WavFormat, more: u64, count: u64)
+    requires room { array_vec_len head.old + 36 ≤ 690 }
     requires count { count < 2 ^ 63 }
-    ensures items { head.new.items ≡ head.old.items ++ room_octets format count }
+    requires more { more ≤ 610 }
+    ensures items { head.new.items ≡ head.old.items ++ room_octets format more count }
     ensures length { array_vec_len head.new ≡ array_vec_len head.old + 36 }
 {
-    if is_long(count) {
+    if is_long(more, count) {
         push_sizes(
             head,
             b"ds64",
-            riff_size(count),
+            riff_size(more, count),
             count,
             frames_in(format, count),
         );
@@ -131,7 +147,7 @@ fn push_ds64_or_junk(head: &mut Header, format: WavFormat, count: u64)
 
 /// Appends a chunk of this name, with the sizes of a long file and its number of sampling instants.
 fn push_sizes(head: &mut Header, name: &[u8; 4], all: u64, count: u64, frames: u64)
-    requires room { array_vec_len head.old + 36 ≤ 80 }
+    requires room { array_vec_len head.old + 36 ≤ 690 }
     ensures items { head.new.items ≡ head.old.items ++ room_chunk name.now all count frames }
     ensures length { array_vec_len head.new ≡ array_vec_len head.old + 36 }
 {
@@ -146,7 +162,7 @@ fn push_sizes(head: &mut Header, name: &[u8; 4], all: u64, count: u64, frames: u
 
 /// Appends the chunk of the format.
 fn push_format(head: &mut Header, format: WavFormat)
-    requires { array_vec_len head.old + 24 ≤ 80 }
+    requires { array_vec_len head.old + 24 ≤ 690 }
     ensures items { head.new.items ≡ head.old.items ++ format_octets format }
     ensures length { array_vec_len head.new ≡ array_vec_len head.old + 24 }
 {

@@ -10,19 +10,22 @@
 //!   file beyond 4 GiB, `push` the samples of a payload, and `finish` the sizes. If `push` fails,
 //!   call `finish_partial`: it sets the sizes to those of the whole payloads before.
 //!
-//! - A live run writes a `LiveWavFile`, which a `CreateLiveWav` makes. Its sizes are renewed while it
-//!   grows, by `WavWriter::renew`, in an order that a power failure can cut anywhere.
+//! - A live run writes `WavFiles`, one after another, which a `CreateLiveWav` makes, by a `LiveWav`. The
+//!   sizes of a file are renewed while it grows, in an order that a power failure can cut anywhere. A
+//!   `bext_chunk` says the time of its first sample.
 //! - It also writes raw PCM to a `PcmOutput`, which a `CreatePcm` makes, by `to_little_endian`.
 //!
 //! The caller keeps the file, an `Overwrite`. `SeekFile` makes one of any file that seeks.
 //! `WavWriter` does not allocate.
 #![tactic(auto)]
 
+mod bext;
 mod fault;
 mod files;
 mod header;
 mod live_file;
 mod live_pcm;
+mod live_wav;
 mod mix_wav;
 mod samples;
 mod stream_events;
@@ -30,11 +33,13 @@ mod stream_track;
 mod stream_wav;
 mod writer;
 
+pub use bext::{BextChunk, bext_chunk, time_stamp};
 pub use fault::{FileFault, StreamWavFault, WavRunFault};
 pub use files::{CreateFile, Overwrite, SeekFile};
 pub use header::WavFormat;
-pub use live_file::{CreateLiveWav, LiveWavFault, LiveWavFile, WavEnd};
+pub use live_file::{CreateLiveWav, LiveWavFault, LiveWavFile, WavEnd, WavFiles};
 pub use live_pcm::{CreatePcm, PcmEnd, PcmFault, PcmOutput, PcmRoom};
+pub use live_wav::LiveWav;
 pub use mix_wav::{play_to_wav, write_mix_wav};
 pub use samples::to_little_endian;
 pub use stream_events::StreamWav;

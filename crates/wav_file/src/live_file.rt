@@ -1,8 +1,9 @@
 //! The file of audio that is written live: its creation, its sizes, and the cut of its end.
-ghost use Rattle.std.specs.Prelude.{◌≡◌, [], IfOk, OnOk, OnErr};
-ghost use Rattle.wav_file.specs.File.{Holds, Overwrites, OverwritesPart};
-ghost use Rattle.wav_file.specs.LiveFile.{IsCut};
+ghost use Rattle.std.specs.Prelude.{◌≡◌, [], ℕ, List, Option, IfOk, OnOk, OnErr};
+ghost use Rattle.wav_file.specs.File.{Becomes, Holds, Overwrites, OverwritesPart};
+ghost use Rattle.wav_file.specs.LiveFile.{Closes, IsCut};
 
+use std::alloc::{AllocError, Global};
 use std::io;
 use std::io::Write;
 use thiserror::Error;
@@ -55,13 +56,35 @@ pub trait LiveWavFile: Write {
         ensures { Self.contents self.new ≡ Self.contents self.old };
 }
 
-/// A creator of a live run's WAV file. A run creates it once all that can fail before it did not.
-pub trait CreateLiveWav {
-    /// The type of the file.
-    type Audio: LiveWavFile + Send + Drop;
+/// The files of a live run's audio, one after another. Each but the first is created when the one before it is whole.
+pub trait WavFiles {
+    /// The type of a file.
+    type File: LiveWavFile + Send + Drop;
 
-    /// Creates an empty file where nothing is. Returns `Exists` if something is there, which stays as it is, and
+    /// The octets of the files that were closed, in order, if they are known.
+    ghost closed: { Self → Option (List (List ℕ)) };
+
+    /// Creates the first file, where nothing is. Returns `Exists` if something is there, which stays as it is, and
     /// `NotCreated` if the file cannot be created for another reason.
-    fn create_wav(&self) -> Result<Self::Audio, LiveWavFault>
-        ensures empty { IfOk result (λ file. Holds (Self.Audio.Write.contents file) []) };
+    fn first(&mut self) -> Result<Self::File, LiveWavFault>
+        ensures empty { IfOk result (λ file. Holds (Self.File.Write.contents file) []) };
+
+    /// Creates an empty file where nothing is, whose first sample is of this time, in sampling instants since 1970 in
+    /// UTC, and closes the one before it. Returns an error as `first` does. The file before it stays open then.
+    fn next(&mut self, file: &mut Self::File, at: u64) -> Result<(), LiveWavFault>
+        ensures empty { OnOk result
+            (Becomes (Self.File.Write.contents file.old) (Self.File.Write.contents file.new) []) }
+        ensures closes { OnOk result
+            (Closes (closed self.old) (closed self.new) (Self.File.Write.contents file.old)) }
+        ensures same { OnErr result (Self.File.Write.contents file.new ≡ Self.File.Write.contents file.old) }
+        ensures kept { OnErr result (closed self.new ≡ closed self.old) };
+}
+
+/// A creator of a live run's WAV files. A run creates the first of them once all that can fail before it did not.
+pub trait CreateLiveWav {
+    /// The type of the files.
+    type Audio: WavFiles + Send + Drop;
+
+    /// Returns the files, none of which is created yet. Returns `AllocError` if an allocation fails.
+    fn wav_files(&self, alloc: Global) -> Result<Self::Audio, AllocError>;
 }

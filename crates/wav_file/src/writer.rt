@@ -1,27 +1,21 @@
 //! The writer of a WAV file.
-ghost use Rattle.std.specs.Prelude.{◌≡◌, ◌+◌, ◌≤◌, ◌++◌, ℕ, List, [], Some, length, take, drop, OnOk, OnErr, IfOk};
+ghost use Rattle.std.specs.Prelude.{◌≡◌, ◌+◌, ◌≤◌, ◌++◌, ℕ, List, [], length, take, OnOk, OnErr, IfOk};
 ghost use Rattle.std.specs.Io.KnownBytes.{Appends};
 ghost use Rattle.wav_file.specs.Samples.{little_samples};
 ghost use Rattle.wav_file.specs.Header.{header_octets};
 ghost use Rattle.wav_file.specs.PartFile.{BecomesPart, HasPrefix};
 ghost use Rattle.wav_file.specs.File.{Becomes, IsBegun, pad_octets, silent_octets, wav_octets};
-ghost use Rattle.wav_file.specs.LiveFile.{HasData, KeepsData, header_over};
 
 use crate::files::Overwrite;
 use crate::header::{WavFormat, header_octets};
-use crate::live_file::LiveWavFile;
 use crate::samples::to_little_endian;
-use std::io;
 use std::io::Write;
 use std::marker::Model;
 use thiserror::Error;
 
 /// The greatest number of octets of data to which more are added.
 // With a payload more it stays below 2^63, as a header requires.
-const MAX_DATA_OCTETS: u64 = 1 << 62;
-
-/// The number of octets of a header.
-const HEADER_OCTETS: u64 = 80;
+pub(crate) const MAX_DATA_OCTETS: u64 = 1 << 62;
 
 /// The greatest number of octets of silence that are written at once: those of the longest payload.
 const MAX_ZEROS: usize = 1440;
@@ -35,9 +29,6 @@ pub struct WavFault;
 ///
 /// `push` and `push_silence` write samples. Call `finish` after the last of them, or `finish_partial` after one that
 /// failed. Until then the header has the sizes of an empty file.
-///
-/// A file that is written live is a `LiveWavFile`. `renew` sets its sizes while samples are still to come. Call
-/// `finish_synced` after the last of them, or `cut_and_finish` after a call that failed.
 #[derive(Debug, Drop)]
 pub struct WavWriter {
     format: WavFormat,
@@ -64,7 +55,7 @@ impl WavWriter {
             × Appends (W.contents writer.old) (W.contents writer.new) (take n (header_octets format 0))) }
         ensures empty { IfOk result (λ wav. wav ≡ record { format = format; count = 0 }) }
     {
-        write_octets(writer, header_octets(format, 0).as_slice())?;
+        write_octets(writer, header_octets(format, &[], 0).as_slice())?;
         Ok(WavWriter { format, count: 0 })
     }
 
@@ -138,69 +129,8 @@ impl WavWriter {
         ensures fault { OnErr result ((octets rest : List ℕ) → IsBegun (W.Write.contents writer.old) self octets rest
             → BecomesPart (W.Write.contents writer.old) (W.Write.contents writer.new) self.format octets rest) }
     {
-        let head = header_octets(self.format, self.count);
+        let head = header_octets(self.format, &[], self.count);
         match writer.overwrite(head.as_slice()) {
-            Ok(()) => Ok(()),
-            Err(_) => Err(WavFault),
-        }
-    }
-
-    /// Returns the number of octets of data.
-    pub fn data_len(&self) -> u64
-        ensures { result ≡ self.now.count }
-    {
-        self.count
-    }
-
-    /// Sets the sizes in the header of a file that is written live to those of the data so far. Waits until the data
-    /// are on the device, writes the sizes, and waits until these are too. Returns an error if one of these fails.
-    pub fn renew<W: LiveWavFile>(&self, writer: &mut W) -> Result<(), WavFault>
-        ensures ok { OnOk result ((head octets rest : List ℕ)
-            → HasData (W.Write.contents writer.old) self.now head octets rest
-            → HasData (W.Write.contents writer.new) self.now (header_octets self.now.format (length octets)) octets
-            rest) }
-        ensures synced { OnOk result (W.synced writer.new) }
-        ensures fault { OnErr result ((head octets rest : List ℕ)
-            → HasData (W.Write.contents writer.old) self.now head octets rest → (n : ℕ)
-            × HasData (W.Write.contents writer.new) self.now (header_over self.now.format (length octets) n head)
-            octets rest) }
-    {
-        let sizes = header_octets(self.format, self.count);
-        match put_header(writer, sizes.as_slice()) {
-            Ok(()) => Ok(()),
-            Err(_) => Err(WavFault),
-        }
-    }
-
-    /// Finishes a file that is written live: an octet more behind data of an odd length, and the sizes, as `renew` sets
-    /// them. Returns an error if a write fails. The data stay then.
-    pub fn finish_synced<W: LiveWavFile>(self, writer: &mut W) -> Result<(), WavFault>
-        ensures ok { OnOk result ((head octets : List ℕ)
-            → HasData (W.Write.contents writer.old) self head octets []
-            → W.Write.contents writer.new ≡ Some (wav_octets self.format octets)) }
-        ensures synced { OnOk result (W.synced writer.new) }
-        ensures fault { OnErr result ((head octets : List ℕ)
-            → HasData (W.Write.contents writer.old) self head octets []
-            → KeepsData (W.Write.contents writer.new) self octets) }
-    {
-        let padded = self.pad(writer);
-        // The samples are whole without the octet behind them, so their sizes are written in any case.
-        self.renew(writer)?;
-        padded
-    }
-
-    /// Cuts a file that is written live behind its data, after a failed call, and finishes it. Returns an error if it
-    /// cannot be cut or a write fails.
-    pub fn cut_and_finish<W: LiveWavFile>(self, writer: &mut W) -> Result<(), WavFault>
-        ensures ok { OnOk result ((head octets rest : List ℕ)
-            → HasData (W.Write.contents writer.old) self head octets rest
-            → W.Write.contents writer.new ≡ Some (wav_octets self.format octets)) }
-        ensures synced { OnOk result (W.synced writer.new) }
-    {
-        let cut = writer.cut(HEADER_OCTETS + self.count);
-        // The sizes are written in any case: they leave out what could not be cut.
-        self.finish_synced(writer)?;
-        match cut {
             Ok(()) => Ok(()),
             Err(_) => Err(WavFault),
         }
@@ -221,7 +151,7 @@ impl WavWriter {
 }
 
 /// Writes all octets. After an error a prefix of them was written.
-fn write_octets<W: Write>(writer: &mut W, octets: &[u8]) -> Result<(), WavFault>
+pub(crate) fn write_octets<W: Write>(writer: &mut W, octets: &[u8]) -> Result<(), WavFault>
     ensures ok { OnOk result (Appends (W.contents writer.old) (W.contents writer.new) octets.now) }
     ensures fault { OnErr result ((n : ℕ)
         × Appends (W.contents writer.old) (W.contents writer.new) (take n octets.now)) }
@@ -234,20 +164,4 @@ fn write_octets<W: Write>(writer: &mut W, octets: &[u8]) -> Result<(), WavFault>
         }
     }
     Ok(())
-}
-
-/// Writes a header over the first octets of a file once all of the file is on its device, and waits until the header is
-/// too.
-fn put_header<W: LiveWavFile>(writer: &mut W, head: &[u8]) -> io::Result<()>
-    ensures ok { OnOk result ((octets : List ℕ) → W.Write.contents writer.old ≡ Some octets
-        → length head.now ≤ length octets
-        → W.Write.contents writer.new ≡ Some (head.now ++ drop (length head.now) octets)) }
-    ensures synced { OnOk result (W.synced writer.new) }
-    ensures fault { OnErr result ((octets : List ℕ) → W.Write.contents writer.old ≡ Some octets
-        → length head.now ≤ length octets → (n : ℕ) × (n ≤ length head.now)
-        × (W.Write.contents writer.new ≡ Some (take n head.now ++ drop n octets))) }
-{
-    writer.sync()?;
-    writer.overwrite(head)?;
-    writer.sync()
 }

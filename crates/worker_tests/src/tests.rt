@@ -4,6 +4,7 @@ mod fakes;
 mod gain_moves;
 mod holding;
 mod memory;
+mod parts;
 mod rings;
 mod stats;
 mod threads;

@@ -6,6 +6,6 @@ use Rattle.live_audio.proofs.writer.AudioWriter.finish.Goals as goal
 
 pub returns : goal.returns
 returns g c = λ written none.
-    let file : AudioFile = record { octets = c.data_len-octets.result; is_all = true; is_whole = c.finish_file-is_whole.result } in
-    subst (λ held. IsWritten held c.args.self.now file) (sym c.report_end.ensures)
-    (finished _ _ c.args.self.now c.args.wav file c.data_len-octets.ensures refl c.finish_file-is_whole.ensures written none)
+    let file : AudioFile = record { blocks = c.args.self.now.blocks; is_all = true; is_whole = c.finish_file-is_whole.result } in
+    subst (λ held. IsWritten (g.F.WavFiles.closed c.args.files.now) held c.args.self.now file) (sym c.report_end.ensures)
+    (finished _ _ _ c.args.self.now c.args.parts.now file refl (λ _. none) c.finish_file-is_whole.ensures written)

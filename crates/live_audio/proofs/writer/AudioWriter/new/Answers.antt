@@ -9,5 +9,6 @@ returns-clause-fresh c = λ none. record {
   format = c.format_of.ensures.value;
   block = behind_header _ _ c.datagram_len.ensures.value;
   some = subst (λ f. 0 < frame_length f) (sym c.format_of.ensures.value) (some_octets c.args.output.now.enc c.args.output.now.channels c.format_of.ensures.sound.some_channels);
-  sized = refl;
+  parts = c.plan_of.ensures.some;
+  counted = refl;
 }

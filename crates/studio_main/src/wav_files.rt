@@ -1,0 +1,129 @@
+//! The WAV files of a live run's mix: their names, their creation, and the file that is written.
+use crate::SystemHost;
+use std::alloc::{AllocError, Global};
+use std::io::{ErrorKind, Seek, SeekFrom, Stderr, Write};
+use std::{fs, io, str};
+use wav_file::{LiveWavFault, LiveWavFile, WavEnd, WavFiles, time_stamp};
+
+/// Returns the path of the file whose first sample is of this time, in sampling instants since 1970 in UTC: for
+/// `night.wav` or `night` as `night-20261128T174501Z.wav`. Returns `AllocError` if an allocation fails.
+pub(crate) fn part_path(alloc: Global, path: &str, at: u64) -> Result<String, AllocError> {
+    let stem = path.strip_suffix(".wav").unwrap_or(path);
+    let stamp = time_stamp(at);
+    // A stamp is ASCII.
+    let stamp = str::from_utf8(stamp.as_slice()).unwrap_or("");
+    format!(in alloc; "{stem}-{stamp}.wav")
+}
+
+/// The WAV files of a live run's mix, at a path or at paths with their times.
+#[derive(Drop)]
+pub(crate) struct SystemWavFiles<'a> {
+    host: SystemHost<'a>,
+    alloc: Global,
+    path: String,
+    /// The time of the first sample, if each file has its time in its name.
+    begins: Option<u64>,
+}
+
+impl<'a> SystemWavFiles<'a> {
+    /// Returns the files at a path, none of which is created yet.
+    pub(crate) fn new(
+        host: SystemHost<'a>,
+        alloc: Global,
+        path: &str,
+        begins: Option<u64>,
+    ) -> Result<SystemWavFiles<'a>, AllocError> {
+        Ok(SystemWavFiles {
+            host,
+            alloc,
+            path: String::from_str(alloc, path)?,
+            begins,
+        })
+    }
+
+    /// Creates the file whose first sample is of this time.
+    fn create_part(&self, at: u64) -> Result<SystemAudio, LiveWavFault> {
+        match part_path(self.alloc, self.path.as_str(), at) {
+            Ok(path) => create_audio(self.host, path.as_str()),
+            Err(_) => Err(LiveWavFault::NotCreated),
+        }
+    }
+}
+
+impl WavFiles for SystemWavFiles<'_> {
+    type File = SystemAudio;
+
+    // No contract can say what the system keeps.
+    ghost closed = { λ _. None };
+
+    fn first(&mut self) -> Result<SystemAudio, LiveWavFault> {
+        match self.begins {
+            Some(at) => self.create_part(at),
+            None => create_audio(self.host, self.path.as_str()),
+        }
+    }
+
+    fn next(&mut self, file: &mut SystemAudio, at: u64) -> Result<(), LiveWavFault> {
+        // Not for a run of one file, which has room for more blocks than a run has.
+        *file = self.create_part(at)?;
+        Ok(())
+    }
+}
+
+/// Creates the empty file at a path at which nothing is.
+fn create_audio(host: SystemHost<'_>, path: &str) -> Result<SystemAudio, LiveWavFault> {
+    match fs::File::create_new(host.rt, path) {
+        Ok(file) => Ok(SystemAudio {
+            file,
+            faults: host.rt.stderr(),
+        }),
+        Err(error) => match host.note(&error) {
+            ErrorKind::AlreadyExists => Err(LiveWavFault::Exists),
+            _ => Err(LiveWavFault::NotCreated),
+        },
+    }
+}
+
+/// The WAV file of a live run's mix, which reports its end on standard error.
+#[derive(Drop)]
+pub(crate) struct SystemAudio {
+    file: fs::File,
+    faults: Stderr,
+}
+
+impl Write for SystemAudio {
+    fn write(&mut self, buf: &[u8]) -> io::Result<usize> {
+        self.file.write(buf)
+    }
+
+    fn flush(&mut self) -> io::Result<()> {
+        self.file.flush()
+    }
+}
+
+impl LiveWavFile for SystemAudio {
+    // No contract can say what a device holds.
+    ghost synced = { λ _. Unit {0} };
+
+    fn sync(&mut self) -> io::Result<()> {
+        self.file.sync_data()
+    }
+
+    fn overwrite(&mut self, octets: &[u8]) -> io::Result<()> {
+        self.file.seek(SeekFrom::Start(0))?;
+        self.file.write_all(octets)?;
+        self.file.seek(SeekFrom::End(0))?;
+        Ok(())
+    }
+
+    fn cut(&mut self, len: u64) -> io::Result<()> {
+        self.file.set_len(len)?;
+        self.file.seek(SeekFrom::Start(len))?;
+        Ok(())
+    }
+
+    fn report(&mut self, end: WavEnd, blocks: u64) {
+        // A line that cannot be written is lost, as a fault's line is.
+        let _ = writeln!(self.faults, "device: wav {end}, after {blocks} blocks");
+    }
+}
