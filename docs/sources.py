@@ -259,6 +259,7 @@ CASE_PLACES = {
     "Workers": [f"{WORKERS}/tests/{name}.rt" for name in ("workers", "holding", "memory")],
     "One thread": [f"{WORKERS}/tests/alone.rt"],
     "Gains that move during a run": [f"{WORKERS}/tests/gain_moves.rt"],
+    "WAV files of a divided mix": [f"{WORKERS}/tests/parts.rt"],
     "Records and statistics": [f"{RECEPTION}/{name}.rt" for name in ("record_tests/octets", "record_tests/changes", "record_tests/marks", "tally_tests", "drift_tests")],
     "Sockets and the clock": [f"{RECEPTION}/socket_tests.rt"],
     "The page": [f"{PAGE}/tests/{name}.rt" for name in ("texts", "requests", "controls", "sockets")],

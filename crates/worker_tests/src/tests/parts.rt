@@ -156,8 +156,8 @@ fn a_file_that_cannot_be_created_ends_the_audio(rt: HostRuntime) {
     has_blocks(&rt, &file, &[60, 80, 100], 175_728_018);
 }
 
-/// Writes a mix of seven blocks to files of twenty sampling instants, which have three whole blocks of six. `most` files
-/// can be created. Returns the result, the files that are closed and the last one.
+/// Writes a mix of seven blocks to files of twenty sampling instants, which have three whole blocks of six. `most`
+/// files can be created. Returns the result, the files that are closed and the last one.
 fn written<R: Abort + Wait>(
     rt: &R,
     alloc: Global,
