@@ -1,4 +1,5 @@
-//! The launch of a live run, by workers or in one thread, with its page in another thread.
+//! The launch of a live run, by workers or in one thread. `side_tasks` has what other threads do next to it: they write
+//! its audio and serve its page.
 ghost use Rattle.std.specs.Prelude.{◌≡◌, is_some, IfOk, IfErr};
 ghost use Rattle.std.specs.Thread.{IsSync};
 ghost use Rattle.live_run.specs.RunResult.{IsEarly, IsRunOf};
@@ -7,18 +8,16 @@ use crate::context::RunContext;
 use crate::fault::LiveFault;
 use crate::gain_control::{GainControl, open_control};
 use crate::inputs::LiveInputs;
-use crate::scoped_thread::with_scoped_thread;
+use crate::launch::side_tasks::{OpenAudio, OpenPcm};
+use crate::scoped_thread::with_side_tasks;
 use crate::shown_health::ShownHealth;
 use crate::single_thread::{OpenRecord, RecordOutput, run_in_one_thread};
 use crate::status::{OpenStatus, open_status};
 use crate::supervisor::stop_flags::StopFlags;
 use crate::workers::run_in_workers;
-use live_audio::{
-    AudioChannel, AudioTap, AudioTaps, AudioWriter, PcmChannel, PcmResult, PcmTap, PcmWriter,
-    write_audio, write_pcm,
-};
+use live_audio::{AudioChannel, AudioTap, AudioTaps, PcmChannel, PcmResult, PcmTap};
 use live_io::{LiveOptions, RecordChannel, RecordResult, RunPeriod, Sockets, open_sockets};
-use live_status::{GainLink, Meter, PageDesk, PageThread, RunGains, StatusInputs};
+use live_status::{GainLink, Meter, PageDesk, RunGains, StatusInputs};
 use pcap_file::{CreateRecord, RecordFile};
 use status_page::Token;
 use std::alloc::Global;
@@ -32,6 +31,8 @@ use studio_config::StudioSpec;
 use studio_io::WorkReport;
 use wav_file::{CreateLiveWav, CreatePcm, PcmOutput, WavFiles};
 
+mod side_tasks;
+
 /// The parts of a run that is ready to start, in addition to its studio.
 #[derive(Drop)]
 struct PreparedRun<'a, R: Wait + Clock, E, D> {
@@ -39,21 +40,6 @@ struct PreparedRun<'a, R: Wait + Clock, E, D> {
     sockets: Sockets<'a>,
     context: RunContext<'a, R, E>,
     recording: RecordOutput<'a, D>,
-}
-
-/// The WAV files of a run: the end of the audio that writes them, and the first one, which was created.
-#[derive(Drop)]
-struct OpenAudio<'a, A: WavFiles> {
-    writer: AudioWriter<'a>,
-    files: A,
-    file: A::File,
-}
-
-/// An output of raw PCM that was opened: the end of the audio that writes it, and the output.
-#[derive(Drop)]
-struct OpenPcm<'a, D> {
-    writer: PcmWriter<'a>,
-    output: D,
 }
 
 /// The state that the threads of a run share.
@@ -248,7 +234,19 @@ fn run_open<
         },
         recording,
     };
-    let report = run_with_pcm(rt, alloc, studio, parts, serving, audio, piped)?;
+    // The tasks end with the run, at whose end its ends of their rings are dropped.
+    let report = with_side_tasks(
+        rt,
+        piped,
+        audio,
+        serving,
+        move || -> Result<WorkReport, LiveFault>
+            requires sync { IsSync R.row }
+            ensures run { IfOk result
+                (IsRunOf parts.entry.one_thread (is_some parts.entry.context.gains) studio.entry.now) }
+            ensures early { IfErr result IsEarly }
+        { run_prepared(rt, alloc, studio, parts) },
+    )?;
     inputs.audio.set_sent(report.blocks);
     inputs.pcm.set_sent(report.blocks);
     Ok(report)
@@ -308,156 +306,6 @@ fn pcm_of<'a, P: CreatePcm>(
     Ok((Some(tap), Some(OpenPcm { writer, output })))
 }
 
-/// Runs a studio, with the writer of its raw PCM in another thread, if there is raw PCM.
-fn run_with_pcm<
-    'a,
-    R: Threads + Wait + Sync + Clock,
-    E: Write + Send + Drop,
-    D: RecordFile + Send + Drop,
-    A: WavFiles + Send + Drop,
-    B: PcmOutput + Send + Drop,
->(
-    rt: &'a R,
-    alloc: Global,
-    studio: &'a StudioSpec,
-    parts: PreparedRun<'a, R, E, D>,
-    page: Option<PageThread<PageDesk<'a, R>>>,
-    audio: Option<OpenAudio<'a, A>>,
-    piped: Option<OpenPcm<'a, B>>,
-) -> Result<WorkReport, LiveFault>
-    ensures run { IfOk result (IsRunOf parts.entry.one_thread (is_some parts.entry.context.gains) studio.now) }
-    ensures early { IfErr result IsEarly }
-{
-    match piped {
-        Some(piped) => run_with_pcm_thread(rt, alloc, studio, parts, page, audio, piped),
-        None => run_with_files(rt, alloc, studio, parts, page, audio),
-    }
-}
-
-/// Runs a studio, with the writer of its raw PCM in another thread, which ends with the run.
-fn run_with_pcm_thread<
-    'a,
-    R: Threads + Wait + Sync + Clock,
-    E: Write + Send + Drop,
-    D: RecordFile + Send + Drop,
-    A: WavFiles + Send + Drop,
-    B: PcmOutput + Send + Drop,
->(
-    rt: &'a R,
-    alloc: Global,
-    studio: &'a StudioSpec,
-    parts: PreparedRun<'a, R, E, D>,
-    page: Option<PageThread<PageDesk<'a, R>>>,
-    audio: Option<OpenAudio<'a, A>>,
-    piped: OpenPcm<'a, B>,
-) -> Result<WorkReport, LiveFault>
-    ensures run { IfOk result (IsRunOf parts.entry.one_thread (is_some parts.entry.context.gains) studio.now) }
-    ensures early { IfErr result IsEarly }
-{
-    // The writer ends once the tap, which the run's sink holds, was dropped with it. It sets the result itself.
-    let (_written, ran) = with_scoped_thread(
-        rt,
-        move || {
-            let OpenPcm { writer, output } = piped;
-            let (mut writer, mut output) = (writer, output);
-            write_pcm(rt, &mut writer, &mut output)
-        },
-        move || -> Result<WorkReport, LiveFault>
-            requires sync { IsSync R.row }
-            ensures run { IfOk result
-                (IsRunOf parts.entry.one_thread (is_some parts.entry.context.gains) studio.entry.now) }
-            ensures early { IfErr result IsEarly }
-        { run_with_files(rt, alloc, studio, parts, page, audio) },
-    )?;
-    ran
-}
-
-/// Runs a studio, with the writer of its WAV files in another thread if there are any.
-fn run_with_files<
-    'a,
-    R: Threads + Wait + Sync + Clock,
-    E: Write + Send + Drop,
-    D: RecordFile + Send + Drop,
-    A: WavFiles + Send + Drop,
->(
-    rt: &'a R,
-    alloc: Global,
-    studio: &'a StudioSpec,
-    parts: PreparedRun<'a, R, E, D>,
-    page: Option<PageThread<PageDesk<'a, R>>>,
-    audio: Option<OpenAudio<'a, A>>,
-) -> Result<WorkReport, LiveFault>
-    ensures run { IfOk result (IsRunOf parts.entry.one_thread (is_some parts.entry.context.gains) studio.now) }
-    ensures early { IfErr result IsEarly }
-{
-    match audio {
-        Some(audio) => run_with_audio(rt, alloc, studio, parts, page, audio),
-        None => run_with_status(rt, alloc, studio, parts, page),
-    }
-}
-
-/// Runs a studio, with the writer of its audio in another thread, which ends with the run.
-fn run_with_audio<
-    'a,
-    R: Threads + Wait + Sync + Clock,
-    E: Write + Send + Drop,
-    D: RecordFile + Send + Drop,
-    A: WavFiles + Send + Drop,
->(
-    rt: &'a R,
-    alloc: Global,
-    studio: &'a StudioSpec,
-    parts: PreparedRun<'a, R, E, D>,
-    page: Option<PageThread<PageDesk<'a, R>>>,
-    audio: OpenAudio<'a, A>,
-) -> Result<WorkReport, LiveFault>
-    ensures run { IfOk result (IsRunOf parts.entry.one_thread (is_some parts.entry.context.gains) studio.now) }
-    ensures early { IfErr result IsEarly }
-{
-    // The writer ends once the tap, which the run's sink holds, was dropped with it. It sets the result itself.
-    let (_written, ran) = with_scoped_thread(
-        rt,
-        move || {
-            let OpenAudio {
-                writer,
-                files,
-                file,
-            } = audio;
-            let (mut writer, mut files, mut file) = (writer, files, file);
-            write_audio(rt, &mut writer, &mut files, &mut file)
-        },
-        move || -> Result<WorkReport, LiveFault>
-            requires sync { IsSync R.row }
-            ensures run { IfOk result
-                (IsRunOf parts.entry.one_thread (is_some parts.entry.context.gains) studio.entry.now) }
-            ensures early { IfErr result IsEarly }
-        { run_with_status(rt, alloc, studio, parts, page) },
-    )?;
-    ran
-}
-
-/// Runs a studio, with the page's server in another thread if there is a page.
-fn run_with_status<
-    'a,
-    R: Threads + Wait + Sync + Clock,
-    E: Write + Send + Drop,
-    D: RecordFile + Send + Drop,
->(
-    rt: &'a R,
-    alloc: Global,
-    studio: &'a StudioSpec,
-    parts: PreparedRun<'a, R, E, D>,
-    page: Option<PageThread<PageDesk<'a, R>>>,
-) -> Result<WorkReport, LiveFault>
-    ensures run { IfOk result (IsRunOf parts.entry.one_thread (is_some parts.entry.context.gains) studio.now) }
-    ensures early { IfErr result IsEarly }
-{
-    match page {
-        Some(page) => run_with_page(rt, alloc, studio, parts, page),
-        None => run_prepared(rt, alloc, studio, parts),
-    }
-}
-
 /// Creates the record of a run, if one is wanted, with the place for its result. Takes its memory before it creates the
 /// file.
 fn recording_of<'a, P: CreateRecord>(
@@ -481,36 +329,6 @@ fn recording_of<'a, P: CreateRecord>(
         record: Some(OpenRecord { channel, file }),
         recorded,
     })
-}
-
-/// Runs a studio, with the page's server in another thread, which ends with the run.
-fn run_with_page<
-    'a,
-    R: Threads + Wait + Sync + Clock,
-    E: Write + Send + Drop,
-    D: RecordFile + Send + Drop,
->(
-    rt: &'a R,
-    alloc: Global,
-    studio: &'a StudioSpec,
-    parts: PreparedRun<'a, R, E, D>,
-    page: PageThread<PageDesk<'a, R>>,
-) -> Result<WorkReport, LiveFault>
-    ensures run { IfOk result (IsRunOf parts.entry.one_thread (is_some parts.entry.context.gains) studio.now) }
-    ensures early { IfErr result IsEarly }
-{
-    // The server ends once the run's end of the snapshots' ring was dropped, as it is at the end of `run_prepared`.
-    let (_, ran) = with_scoped_thread(
-        rt,
-        move || page.serve(rt),
-        move || -> Result<WorkReport, LiveFault>
-            requires sync { IsSync R.row }
-            ensures run { IfOk result
-                (IsRunOf parts.entry.one_thread (is_some parts.entry.context.gains) studio.entry.now) }
-            ensures early { IfErr result IsEarly }
-        { run_prepared(rt, alloc, studio, parts) },
-    )?;
-    ran
 }
 
 /// Runs a studio in one thread or by workers, as its parts say. Only a run in one thread has a record.

@@ -1,5 +1,5 @@
-//! Running a function in another thread for as long as a call lasts.
-ghost use Rattle.std.specs.Prelude.{IfOk, IfErr};
+//! Functions and tasks that another thread runs for as long as a call lasts.
+ghost use Rattle.std.specs.Prelude.{◌⊎◌, IfOk, IfErr, Ok, Err};
 ghost use Rattle.live_run.specs.RunResult.{IsEarly};
 
 use crate::fault::LiveFault;
@@ -38,4 +38,66 @@ pub(crate) fn with_scoped_thread<
             Ok((other.join(rt), ran))
         },
     )
+}
+
+/// A task that is done next to a run, and ends with it.
+pub(crate) trait SideTask<R> {
+    /// Does the task until the run has ended. It blocks the calling thread.
+    fn complete(self, rt: &R);
+}
+
+/// Calls `run` in this thread, with each of the tasks that there is in a thread of its own, and returns the result of
+/// `run` once all have ended. Returns `LiveFault::Thread` if a thread cannot be started; then `run` is not called.
+pub(crate) fn with_side_tasks<
+    'a,
+    R: Threads + Wait + Sync,
+    A: SideTask<R> + Send + Drop + 'a,
+    B: SideTask<R> + Send + Drop + 'a,
+    C: SideTask<R> + Send + Drop + 'a,
+    G: FnOnce() -> Result<O, LiveFault> + Drop,
+    O: Drop,
+>(rt: &'a R, one: Option<A>, two: Option<B>, three: Option<C>, run: G) -> Result<O, LiveFault>
+    requires run { G.pre run }
+    ensures ran { IfOk result (λ value. G.post run (Ok value)) }
+    ensures early { IfErr result (λ fault. IsEarly fault ⊎ G.post run (Err fault)) }
+{
+    with_side_task(
+        rt,
+        one,
+        move || -> Result<O, LiveFault>
+            requires run { G.pre run }
+            ensures ran { IfOk result (λ value. G.post run (Ok value)) }
+            ensures early { IfErr result (λ fault. IsEarly fault ⊎ G.post run (Err fault)) }
+        {
+            with_side_task(
+                rt,
+                two,
+                move || -> Result<O, LiveFault>
+                    requires run { G.pre run }
+                    ensures ran { IfOk result (λ value. G.post run (Ok value)) }
+                    ensures early { IfErr result (λ fault. IsEarly fault ⊎ G.post run (Err fault)) }
+                { with_side_task(rt, three, run) },
+            )
+        },
+    )
+}
+
+/// Calls `run` in this thread, with the task in a new one if there is a task, and returns the result of `run` once both
+/// have ended. Returns `LiveFault::Thread` if no thread can be started; then `run` is not called.
+pub(crate) fn with_side_task<
+    'a,
+    R: Threads + Wait + Sync,
+    S: SideTask<R> + Send + Drop + 'a,
+    G: FnOnce() -> Result<O, LiveFault> + Drop,
+    O: Drop,
+>(rt: &'a R, task: Option<S>, run: G) -> Result<O, LiveFault>
+    requires run { G.pre run }
+    ensures ran { IfOk result (λ value. G.post run (Ok value)) }
+    ensures early { IfErr result (λ fault. IsEarly fault ⊎ G.post run (Err fault)) }
+{
+    let Some(task) = task else {
+        return run();
+    };
+    let ((), ran) = with_scoped_thread(rt, move || task.complete(rt), run)?;
+    ran
 }

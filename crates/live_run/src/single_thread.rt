@@ -7,7 +7,7 @@ ghost use Rattle.live_run.specs.RunResult.{IsEarly, IsRunOf};
 use crate::context::RunContext;
 use crate::fault::LiveFault;
 use crate::path_watch::PathWatch;
-use crate::scoped_thread::with_scoped_thread;
+use crate::scoped_thread::{SideTask, with_side_task};
 use crate::single_thread::engine_io::{SingleThreadRun, prepare_engine_io};
 use crate::single_thread::observer::LiveObserver;
 use crate::single_thread::socket_wait::ready_flags;
@@ -72,7 +72,7 @@ pub(crate) fn run_in_one_thread<
         keep_sources(sockets.receiving.as_mut_slice());
     }
     let ready = ready_flags(alloc, sockets.receiving.len())?;
-    let (record, writer) = ends_of(record);
+    let (record, task) = ends_of(record);
     let run = prepare_run(
         rt,
         alloc,
@@ -83,10 +83,16 @@ pub(crate) fn run_in_one_thread<
         record,
         recorded,
     )?;
-    match writer {
-        Some((writer, file)) => run_recorded(rt, alloc, studio, run, writer, file),
-        None => run.run(rt, alloc, studio),
-    }
+    // The task ends once the observer's end of the ring was dropped, as it is at the end of the run.
+    with_side_task(
+        rt,
+        task,
+        move || -> Result<WorkReport, LiveFault>
+            requires sync { IsSync R.row }
+            ensures run { IfOk result (IsRunOf true (is_some run.entry.io.gains) studio.entry.now) }
+            ensures early { IfErr result IsEarly }
+        { run.run(rt, alloc, studio) },
+    )
 }
 
 /// Returns a run that is ready to start, with its observer and the inputs of its supervisor. All memory is allocated
@@ -142,14 +148,30 @@ fn keep_sources(receivers: &mut [Receiver<'_>]) {
     }
 }
 
-/// Returns the end of a record in the run's thread, and the writer of its file with that file, if there is a record.
+/// The task that writes a record: the record's end that does, and the file.
+#[derive(Drop)]
+struct RecordTask<'a, D> {
+    writer: RecordWriter<'a>,
+    file: D,
+}
+
+impl<R: Wait, D: RecordFile + Drop> SideTask<R> for RecordTask<'_, D> {
+    fn complete(self, rt: &R) {
+        let RecordTask { writer, file } = self;
+        let (mut writer, mut file) = (writer, file);
+        // The writer itself sets the record's result.
+        let _written = write_record(rt, &mut writer, &mut file);
+    }
+}
+
+/// Returns the end of a record in the run's thread, and the task that writes its file, if there is a record.
 fn ends_of<'a, D: Drop>(
     record: Option<OpenRecord<'a, D>>,
-) -> (Option<RecordObserver<'a>>, Option<(RecordWriter<'a>, D)>) {
+) -> (Option<RecordObserver<'a>>, Option<RecordTask<'a, D>>) {
     match record {
         Some(OpenRecord { channel, file }) => {
             let RecordChannel { observer, writer } = channel;
-            (Some(observer), Some((writer, file)))
+            (Some(observer), Some(RecordTask { writer, file }))
         }
         None => (None, None),
     }
@@ -195,38 +217,4 @@ impl<R: Threads + Wait + Sync + Clock, E: Write + Send + Drop> SupervisedRun<'_,
             { io.run(rt, alloc, studio, observer, recorded) },
         )?
     }
-}
-
-/// Runs an engine with its supervisor, and the writer of the record in another thread.
-fn run_recorded<
-    'a,
-    R: Threads + Wait + Sync + Clock,
-    E: Write + Send + Drop,
-    D: RecordFile + Send + Drop,
->(
-    rt: &'a R,
-    alloc: Global,
-    studio: &StudioSpec,
-    run: SupervisedRun<'a, R, E>,
-    writer: RecordWriter<'a>,
-    file: D,
-) -> Result<WorkReport, LiveFault>
-    ensures run { IfOk result (IsRunOf true (is_some run.entry.io.gains) studio.now) }
-    ensures early { IfErr result IsEarly }
-{
-    // The writer ends once the observer's end of the ring was dropped, as it is at the end of the run.
-    // The writer itself sets the record's result.
-    let (_written, ran) = with_scoped_thread(
-        rt,
-        move || {
-            let (mut writer, mut file) = (writer, file);
-            write_record(rt, &mut writer, &mut file)
-        },
-        move || -> Result<WorkReport, LiveFault>
-            requires sync { IsSync R.row }
-            ensures run { IfOk result (IsRunOf true (is_some run.entry.io.gains) studio.entry.now) }
-            ensures early { IfErr result IsEarly }
-        { run.run(rt, alloc, studio) },
-    )?;
-    ran
 }
