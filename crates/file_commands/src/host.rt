@@ -1,18 +1,17 @@
 //! The host of the commands: its standard streams, and its files by their paths.
 ghost use Rattle.std.specs.Prelude.{IfOk, []};
-ghost use Rattle.pcap_file.specs.RecordFile.{Holds as RecordHolds};
 ghost use Rattle.wav_file.specs.File.{Holds};
 
 use crate::fault::CommandFault;
-use pcap_file::{RecordFault, RecordFile};
-use std::alloc::{AllocError, Global};
+use std::alloc::Global;
 use std::io::{Read, Write};
 use studio_run::ReadFault;
-use wav_file::{CreateFile, FileFault, Overwrite, PcmFault, PcmOutput, WavFiles};
+use wav_file::{CreateFile, FileFault, Overwrite};
 
 /// The host of the commands: the types of its standard streams, and its files by their paths. The program implements it
 /// over the system's files.
-// One trait, so that a command has one type parameter: each bound that a call passes on costs time to prove.
+// One trait, so that a command has one type parameter: each bound that a call passes on costs time to prove. So it has
+// only what commands over files need.
 pub trait Host {
     /// Standard input.
     type Stdin: Read;
@@ -29,15 +28,6 @@ pub trait Host {
     /// A file that is written: a WAV file or a chart.
     type Target: Overwrite + Drop;
 
-    /// The file of a live run's record.
-    type Record: RecordFile + Send + Drop;
-
-    /// The WAV files of a live run's mix.
-    type Audio: WavFiles + Send + Drop;
-
-    /// The output of a live run's raw PCM.
-    type Pcm: PcmOutput + Send + Drop;
-
     /// Opens the file at a path for reading, from its start. Returns `ReadFault::Memory` if an allocation fails, and
     /// `ReadFault::Device` if the file cannot be opened.
     fn open(&self, path: &str) -> Result<Self::Source, ReadFault>;
@@ -49,35 +39,6 @@ pub trait Host {
     /// Creates an empty file at a path, or empties the one that is there. Returns `FileFault::NotCreated` if it cannot.
     fn create(&self, path: &str) -> Result<Self::Target, FileFault>
         ensures empty { IfOk result (λ file. Holds (Self.Target.Write.contents file) []) };
-
-    /// Returns true if there is anything at a path, a link too.
-    fn has(&self, path: &str) -> bool;
-
-    /// Creates the empty file of a record at a path at which nothing is. Returns `Exists` if something is there, which
-    /// stays as it is, and `NotCreated` if the file cannot be created for another reason.
-    fn create_record(&self, path: &str) -> Result<Self::Record, RecordFault>
-        ensures empty { IfOk result (λ file. RecordHolds (Self.Record.Write.contents file) []) };
-
-    /// Returns the WAV files of a live run's mix, none of which is created yet: one at this path, or, if the time of
-    /// the first sample is given, one after another, each with its own time in its name. Returns `AllocError` if an
-    /// allocation fails.
-    fn wav_files(
-        &self,
-        alloc: Global,
-        path: &str,
-        begins: Option<u64>,
-    ) -> Result<Self::Audio, AllocError>;
-
-    /// Opens the output of a live run's raw PCM: standard output if there is no path, or else the FIFO at the path, or
-    /// a file that is created there. Does not wait for a reader. Returns `Exists` if something is there that is no
-    /// FIFO, which stays as it is, and `NotCreated` if the output cannot be opened.
-    fn create_pcm(&self, path: Option<&str>) -> Result<Self::Pcm, PcmFault>;
-
-    /// Returns true if there is a FIFO at a path, also by links.
-    fn is_fifo(&self, path: &str) -> bool;
-
-    /// Returns standard error once more.
-    fn stderr(&self) -> Self::Stderr;
 
     /// Returns true if two paths lead to one file, also by links.
     fn is_same_file(&self, one: &str, other: &str) -> bool;

@@ -1,10 +1,11 @@
 //! The command `live`: a live run, from a configuration to its report and the lines after it.
-use crate::explanation::{Explanation, SystemErrors, explained};
+use crate::explanation::{Explanation, explained};
 use crate::fault::ProgramFault;
+use crate::live_host::LiveHost;
 use crate::run_files::{RunFiles, files_of};
-use crate::token_file::{TokenFiles, token_of};
+use crate::token_file::token_of;
 use command_line::LiveArgs;
-use file_commands::{CommandFault, Host, output_result, parse_studio, table_in};
+use file_commands::{CommandFault, output_result, parse_studio, table_in};
 use live_audio::{AudioParts, AudioResult, PcmResult};
 use live_io::{
     InheritedSockets, LivePorts, RecordResult, RunHealth, SocketConfig, TaiOffset, TaiTime,
@@ -40,7 +41,7 @@ struct OpenedStudio {
 /// inherited socket, of the run's files, or of the run. With `--verbose` that of a device is explained.
 pub(crate) fn run_live<
     R: Threads + Wait + Sync + Net + Clock + RandomSource + Env + AllocGlobal,
-    H: Host + TokenFiles + SystemErrors,
+    H: LiveHost,
 >(
     rt: &R,
     alloc: Global,
@@ -61,7 +62,7 @@ pub(crate) fn run_live<
 /// Runs the studio of a configuration's octets as `run_live` does. Only the fault of a socket is explained.
 fn load_and_run<
     R: Threads + Wait + Sync + Net + Clock + RandomSource + Env + AllocGlobal,
-    H: Host + TokenFiles,
+    H: LiveHost,
 >(
     rt: &R,
     alloc: Global,
@@ -101,7 +102,7 @@ fn load_and_run<
 /// Runs a studio with its inputs, and with the files that are asked for. Writes the report and the lines after it.
 fn run_loaded<
     R: Threads + Wait + Sync + Net + Clock + RandomSource + Env + AllocGlobal,
-    H: Host,
+    H: LiveHost,
     W: Write,
 >(
     rt: &R,

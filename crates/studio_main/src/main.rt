@@ -2,17 +2,18 @@
 //!
 //! `main` collects the words of the command line. `run` is the whole after that: it parses the words
 //! by `command_line`, runs the command, and returns the exit status. `file_commands` runs a command
-//! over files, and `live_command` the live command, whose files are those of `run_files`. A
-//! `ProgramFault` has the line and the exit status of every fault, and `explanation` what `--verbose`
-//! adds to it. `SystemHost` opens files by path, `pcm_output` the output of raw PCM, and `token_file`
-//! reads the token for the control of gains. `wav_files` has the WAV files of a live run. `std_fds`
-//! opens the standard descriptors that are closed, before anything else. `terminal_help` has the help
-//! for a start by hand: without words, and behind a fault.
+//! over files, and `live_command` the live command, whose files are those of `run_files` on a
+//! `LiveHost`. A `ProgramFault` has the line and the exit status of every fault, and `explanation` what
+//! `--verbose` adds to it. `SystemHost` opens files by path, `pcm_output` the output of raw PCM, and
+//! `token_file` reads the token for the control of gains. `wav_files` has the WAV files of a live run.
+//! `std_fds` opens the standard descriptors that are closed, before anything else. `terminal_help` has
+//! the help for a start by hand: without words, and behind a fault.
 #![tactic(auto)]
 
 mod explanation;
 mod fault;
 mod live_command;
+mod live_host;
 mod pcm_output;
 mod program;
 mod run_files;
@@ -23,6 +24,7 @@ mod wav_files;
 
 use crate::explanation::SystemErrors;
 use crate::fault::ProgramFault;
+use crate::live_host::LiveHost;
 use crate::pcm_output::SystemPcm;
 use crate::program::run;
 use crate::std_fds::open_missing_fds;
@@ -66,7 +68,7 @@ impl SystemErrors for SystemHost<'_> {
     }
 }
 
-impl<'a> Host for SystemHost<'a> {
+impl Host for SystemHost<'_> {
     type Stdin = Stdin;
 
     type Stdout = Stdout;
@@ -76,12 +78,6 @@ impl<'a> Host for SystemHost<'a> {
     type Source = fs::File;
 
     type Target = SeekFile<fs::File>;
-
-    type Record = SystemRecord;
-
-    type Audio = SystemWavFiles<'a>;
-
-    type Pcm = SystemPcm;
 
     fn open(&self, path: &str) -> Result<fs::File, ReadFault> {
         match fs::open(self.rt, path) {
@@ -103,6 +99,21 @@ impl<'a> Host for SystemHost<'a> {
             Err(_) => Err(FileFault::NotCreated),
         }
     }
+
+    fn is_same_file(&self, one: &str, other: &str) -> bool {
+        match (fs::metadata(self.rt, one), fs::metadata(self.rt, other)) {
+            (Ok(one), Ok(other)) => one.dev() == other.dev() && one.ino() == other.ino(),
+            _ => false,
+        }
+    }
+}
+
+impl<'a> LiveHost for SystemHost<'a> {
+    type Record = SystemRecord;
+
+    type Audio = SystemWavFiles<'a>;
+
+    type Pcm = SystemPcm;
 
     fn has(&self, path: &str) -> bool {
         // Not `exists`, which follows a link: a link that leads nowhere is refused by `create_record` too.
@@ -147,13 +158,6 @@ impl<'a> Host for SystemHost<'a> {
 
     fn stderr(&self) -> Stderr {
         self.rt.stderr()
-    }
-
-    fn is_same_file(&self, one: &str, other: &str) -> bool {
-        match (fs::metadata(self.rt, one), fs::metadata(self.rt, other)) {
-            (Ok(one), Ok(other)) => one.dev() == other.dev() && one.ino() == other.ino(),
-            _ => false,
-        }
     }
 }
 

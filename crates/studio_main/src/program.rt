@@ -1,9 +1,8 @@
 //! The program: from the words of its command line to its exit status, with help, the version and usage faults.
-use crate::explanation::SystemErrors;
 use crate::fault::ProgramFault;
 use crate::live_command::run_live;
+use crate::live_host::LiveHost;
 use crate::terminal_help::{write_hint, write_terminal_help};
-use crate::token_file::TokenFiles;
 use clap::Error;
 use clap::error::ErrorKind;
 use command_line::{CliCommand, FileCommand, parse_args};
@@ -24,7 +23,7 @@ use std::time::Clock;
 /// `output`, and the line of a fault to `faults`. Files are the host's.
 pub(crate) fn run<
     R: Threads + Wait + Sync + Net + Clock + RandomSource + Env + AllocGlobal,
-    H: Host + TokenFiles + SystemErrors,
+    H: LiveHost,
 >(
     rt: &R,
     alloc: Global,
@@ -68,10 +67,7 @@ fn report_usage<W: Write, E: Write>(error: &Error, output: &mut W, faults: &mut 
 }
 
 /// Runs the command that the words ask for.
-fn dispatch<
-    R: Threads + Wait + Sync + Net + Clock + RandomSource + Env + AllocGlobal,
-    H: Host + TokenFiles + SystemErrors,
->(
+fn dispatch<R: Threads + Wait + Sync + Net + Clock + RandomSource + Env + AllocGlobal, H: LiveHost>(
     rt: &R,
     alloc: Global,
     command: CliCommand<'_>,

@@ -1,5 +1,6 @@
 //! The files of a live run: the paths at which it creates them, and the faults of these paths.
 use crate::fault::ProgramFault;
+use crate::live_host::LiveHost;
 use crate::wav_files::part_path;
 use command_line::LiveArgs;
 use file_commands::{Host, is_one_file};
@@ -25,7 +26,7 @@ pub(crate) struct RunFiles<'h, 'p, H> {
     pub(crate) pcm: Option<RunPath<'h, 'p, H>>,
 }
 
-impl<H: Host> CreateRecord for RunPath<'_, '_, H> {
+impl<H: LiveHost> CreateRecord for RunPath<'_, '_, H> {
     type File = H::Record;
 
     fn create(&self) -> Result<H::Record, RecordFault> {
@@ -33,7 +34,7 @@ impl<H: Host> CreateRecord for RunPath<'_, '_, H> {
     }
 }
 
-impl<H: Host> CreateLiveWav for RunPath<'_, '_, H> {
+impl<H: LiveHost> CreateLiveWav for RunPath<'_, '_, H> {
     type Audio = H::Audio;
 
     fn wav_files(&self, alloc: Global) -> Result<H::Audio, AllocError> {
@@ -41,7 +42,7 @@ impl<H: Host> CreateLiveWav for RunPath<'_, '_, H> {
     }
 }
 
-impl<H: Host> CreatePcm for RunPath<'_, '_, H> {
+impl<H: LiveHost> CreatePcm for RunPath<'_, '_, H> {
     type Pcm = H::Pcm;
 
     fn create_pcm(&self) -> Result<H::Pcm, PcmFault> {
@@ -57,7 +58,7 @@ fn file_of(path: &str) -> Option<&str> {
 /// Returns the paths of the files that are asked for. `begins` is the time of the first sample, if each WAV file has
 /// its time in its name. Returns a fault if something is at one of them, other than a FIFO for raw PCM, if two of them
 /// are one file, or if an allocation fails.
-pub(crate) fn files_of<'h, 'p, H: Host>(
+pub(crate) fn files_of<'h, 'p, H: LiveHost>(
     alloc: Global,
     host: &'h H,
     args: LiveArgs<'p>,
@@ -80,7 +81,7 @@ pub(crate) fn files_of<'h, 'p, H: Host>(
 
 /// Refuses files that are asked for if something is at one of them, other than a FIFO for raw PCM, or two of them are
 /// one file. `wav` is the path of the first WAV file.
-fn refuse_files<H: Host>(
+fn refuse_files<H: LiveHost>(
     host: &H,
     args: LiveArgs<'_>,
     wav: Option<&str>,
@@ -111,7 +112,7 @@ fn refuse_one_place<H: Host>(
 }
 
 /// Refuses a path of raw PCM at which something is that is no FIFO.
-fn refuse_pcm<H: Host>(host: &H, path: Option<&str>) -> Result<(), ProgramFault> {
+fn refuse_pcm<H: LiveHost>(host: &H, path: Option<&str>) -> Result<(), ProgramFault> {
     match path {
         Some(path) if host.has(path) && !host.is_fifo(path) => {
             Err(ProgramFault::Live(LiveFault::PcmExists))
@@ -121,7 +122,7 @@ fn refuse_pcm<H: Host>(host: &H, path: Option<&str>) -> Result<(), ProgramFault>
 }
 
 /// Refuses a path with this fault if something is there.
-fn refuse_taken<H: Host>(
+fn refuse_taken<H: LiveHost>(
     host: &H,
     path: Option<&str>,
     exists: LiveFault,
