@@ -54,9 +54,11 @@ bin/darbexum-live bin/darbexum-sdp: bin/%: %
 run:
 	@examples/run
 
-# The scripts drive the program that the gate has built: side by side, but for those that a busy machine would disturb.
+# The scripts drive the program that the gate has built, four side by side.
 program := crates/studio_main/out/studio_main
 scripts := memory/check tests/captures tests/sdp tests/package tests/library diff/run $(addprefix examples/,check faults statuses blocks wav chart)
+# Live runs wait for most of their time. Three of them leave a processor free, so that none is disturbed. The longest begin first.
+live := senders loopback page desk library control sockets networks faders
 
 try:
 	@gate/try
@@ -66,20 +68,21 @@ test:
 	docs/check
 	gate/progress rt ci $(ANEW)
 	$(MAKE) -j4 --no-print-directory PROVED=--proved $(addsuffix .ran,$(scripts))
-	tests/loopback $(program)
-	tests/sockets $(program)
-	tests/page $(program)
-	tests/faders
-	tests/control $(program)
-	tests/desk $(program)
-	tests/networks $(program)
-	tests/senders $(program)
-	tests/library $(program) live
+	$(MAKE) -j3 -O --no-print-directory $(addsuffix .live,$(live))
 	@cat bin/gate-time
 	@echo "gate: pages, proofs, edits, tests, examples, faults, statuses, blocks, WAV files, charts, captures, SDP files, package, library, engine, memory, live runs, pages, faders, control, a desk, networks and senders passed in $$(( ($$(date +%s) - $$(cat bin/gate-begun)) / 60 )) minutes"
 
 %.ran:
 	$* $(program)
+
+%.live:
+	tests/$* $(program)
+
+faders.live:
+	tests/faders
+
+library.live:
+	tests/library $(program) live
 
 # The commands that pages show are run with the others.
 scripts += docs/commands
