@@ -1,4 +1,6 @@
 //! The WAV files of a live run's mix: their names, their creation, and the file that is written.
+ghost use Rattle.std.specs.Prelude.{None};
+
 use crate::SystemHost;
 use std::alloc::{AllocError, Global};
 use std::io::{ErrorKind, Seek, SeekFrom, Stderr, Write};

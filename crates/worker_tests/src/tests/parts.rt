@@ -1,6 +1,6 @@
 //! The WAV files of a mix that is divided, in memory. The contracts know nothing of these files, whose octets are
 //! compared here.
-ghost use Rattle.std.specs.Prelude.{◌≤◌, length};
+ghost use Rattle.std.specs.Prelude.{◌≤◌, length, None};
 
 use super::workers::one_stream;
 use live_audio::{AudioChannel, AudioFile, AudioParts, AudioResult, AudioTap, write_audio};
