@@ -27,6 +27,8 @@ IN_REPORT = {
     "path_socket_faults": "feed faults",
     "sends_failed": "sink fault_a",
     "record_datagrams": "record",
+    "wav_blocks": "wav",
+    "pcm_blocks": "pcm",
 }
 IN_STATS = {
     "stream_seconds_left": "left seconds",
@@ -41,6 +43,11 @@ IN_STATS = {
     "sends_failed": "run failed_a",
     "record_state": "run record",
     "record_datagrams": "run recorded",
+    "wav_state": "run wav",
+    "wav_blocks": "run wav_blocks",
+    "pcm_state": "run pcm",
+    "pcm_blocks": "run pcm_blocks",
+    "pcm_left_out": "run pcm_left_out",
 }
 # The numbers that no list of fields has, with their names in /state and the constant that describes them.
 FURTHER = {
@@ -48,6 +55,11 @@ FURTHER = {
     "sends_failed": ("failed_sends", "FAILED_HELP", False),
     "record_state": ("record.state", "RECORD_HELP", True),
     "record_datagrams": ("record.datagrams", "RECORDED_HELP", False),
+    "wav_state": ("wav.state", "WAV_HELP", True),
+    "wav_blocks": ("wav.blocks", "WAV_BLOCKS_HELP", False),
+    "pcm_state": ("pcm.state", "PCM_HELP", True),
+    "pcm_blocks": ("pcm.blocks", "PCM_BLOCKS_HELP", False),
+    "pcm_left_out": ("pcm.left_out", "LEFT_OUT_HELP", False),
 }
 # Words of the report that are in nothing else.
 REPORT_ALONE = {"sink blocks": "Datagrams of the mix.", "sink sent_a": "Datagrams of the mix that were sent to the address of this copy."}
@@ -116,9 +128,9 @@ def differences():
         yield "docs/FORMATS.md lacks the output of docs/list names"
     counted = set(texts(COUNTS.read_text(), "pub fn key(").values()) | {"source"}
     # The second copy of the mix, and the other paths, have names of the same form.
-    alike = lambda words: {word.replace("_b", "_a") for word in words}
+    alike = lambda words: {re.sub("_b$", "_a", word) for word in words}
     last = lambda names: {name.split()[-1] for name in names}
-    report = words_of(REPORT, r'push_count\(text, "(\w+)"') | set(re.findall(r'writeln!\(output, "(\w+) \{', read(REPORT[-1]))) - {"open_at", "pcm", "wav"}
+    report = words_of(REPORT, r'push_count\(text, "(\w+)"') | set(re.findall(r'writeln!\(output, "(\w+) \{', read(REPORT[-1]))) - {"open_at"}
     for found, named, kind in (
         (report | {"from_a"}, {*IN_REPORT.values(), *REPORT_ALONE}, "the report"),
         (words_of(STATS, r'push\(" (\w+)="\)') | {"from_a"}, IN_STATS.values(), "--stats"),

@@ -161,6 +161,8 @@ def metrics():
     yield from metric_names("path", "path.rt")
     yield from metric_names("output", "output.rt")
     yield from ("darbexum_stream_state", "darbexum_sends_failed_total", "darbexum_record_state", "darbexum_record_datagrams_total")
+    yield from ("darbexum_wav_state", "darbexum_wav_blocks_total")
+    yield from ("darbexum_pcm_state", "darbexum_pcm_blocks_total", "darbexum_pcm_left_out_total")
 
 
 def alerts():

@@ -38,7 +38,7 @@ pub(crate) fn open_control<'a, R: Wait + Clock>(
     let Some(shape) = shape_of(studio) else {
         return Err(AllocError);
     };
-    let GainChannel { desk, gains } = GainChannel::new(rt, alloc, link, shape)?;
+    let GainChannel { desk, gains } = GainChannel::new(rt, alloc, link, shape, studio)?;
     Ok(GainControl {
         gains: Some(gains),
         control: Some(Control::new(alloc, desk, token)?),

@@ -229,6 +229,8 @@ fn run_open<
                 health: inputs.sockets.health,
                 unexpected: inputs.sockets.unexpected,
                 recorded: inputs.recorded,
+                audio: inputs.audio,
+                pcm: inputs.pcm,
             },
             gains,
         },

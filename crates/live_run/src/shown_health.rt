@@ -1,9 +1,10 @@
-//! The health of a run as its status shows it: of its sockets, its sends and its record.
+//! The health of a run as its status shows it: of its sockets, its sends, its record, its WAV file and its raw PCM.
 
+use live_audio::{AudioResult, AudioState, PcmResult};
 use live_io::{RecordResult, RunHealth, UnexpectedSources};
 use live_status::HealthSource;
 use rtp_stream::Path;
-use status_page::{RecordState, SocketState};
+use status_page::{PcmBlocks, PcmState, RecordState, SocketState, WavState};
 use studio_config::StudioSpec;
 
 /// The health of a run as its status shows it. The threads of the run set the numbers, and any thread may read them.
@@ -13,6 +14,8 @@ pub(crate) struct ShownHealth<'a> {
     pub(crate) health: &'a RunHealth,
     pub(crate) unexpected: &'a UnexpectedSources,
     pub(crate) recorded: &'a RecordResult,
+    pub(crate) audio: &'a AudioResult,
+    pub(crate) pcm: &'a PcmResult,
 }
 
 impl ShownHealth<'_> {
@@ -69,6 +72,27 @@ impl HealthSource for ShownHealth<'_> {
             live_io::RecordState::None => RecordState::Absent,
             live_io::RecordState::Writing(datagrams) => RecordState::Writing(datagrams),
             live_io::RecordState::Ended(datagrams, _end) => RecordState::Closed(datagrams),
+        }
+    }
+
+    fn wav(&self) -> WavState {
+        match self.audio.state() {
+            AudioState::None => WavState::Absent,
+            AudioState::Writing(blocks) => WavState::Writing(blocks),
+            AudioState::Ended(blocks, _end) => WavState::Closed(blocks),
+        }
+    }
+
+    fn pcm(&self) -> PcmState {
+        let blocks = PcmBlocks {
+            written: self.pcm.written(),
+            left_out: self.pcm.left_out(),
+        };
+        match self.pcm.state() {
+            live_audio::PcmState::None => PcmState::Absent,
+            live_audio::PcmState::Writing(..) if self.pcm.is_open() => PcmState::Writing(blocks),
+            live_audio::PcmState::Writing(..) => PcmState::Waiting(blocks),
+            live_audio::PcmState::Ended(..) => PcmState::Closed(blocks),
         }
     }
 }

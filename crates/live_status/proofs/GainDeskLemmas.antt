@@ -3,7 +3,7 @@ use Rattle.std.proofs.Common.{◌≡◌, inr, ℤ, ◌+◌, List, [], ◌∷◌,
 use Rattle.rtrb.specs.Ring.{received, sent}
 use Rattle.studio_io.specs.declared.gain_source.GainRequest.{GainRequest}
 use Rattle.live_status.specs.GainDesk.{Asks, Collects, CollectsNone, CollectsOne, IsNotAnswered, Sends, Shows}
-use Rattle.live_status.specs.GainMemory.{CopiesIfFit, missing}
+use Rattle.live_status.specs.GainMemory.{CopiesIfFit, missing, planned_in}
 use Rattle.status_page.specs.declared.control.DeskAnswer.{DeskAnswer}
 use Rattle.status_page.specs.declared.control.DeskAnswer.TheVariants.{Answered, NoAnswer}
 use Rattle.live_status.specs.declared.gain_channel.page_desk.PageDesk.{PageDesk}
@@ -51,6 +51,7 @@ module _ {R : Type 0} where
     own = own_outcome request before (Answered answer next) mid desk new s c;
     answer_is = c.is;
     shown = copied (Answered answer next) before after desk new c shows;
+    planned = ap planned_in c.kept;
   }
   asked request before after NoAnswer old mid desk new same s c shows = (shows, inr (s.letter, c.sent_are ∙ (s.sent_are ∙ ap (λ l. l ++ s.letter ∷ []) same), s.asked, s.carried))
 

@@ -4,3 +4,4 @@ pub mod Conditions
 pub mod EngineStatusLemmas
 pub mod GainChangeLemmas
 pub mod GainDeskLemmas
+pub mod PlannedLemmas

@@ -5,6 +5,8 @@ use Rattle.studio_io.specs.Gains.{changes_in}
 use Rattle.studio_io.specs.declared.gain_source.GainAnswer.{GainAnswer}
 use Rattle.studio_io.specs.declared.gain_source.GainRequest.{GainRequest}
 use Rattle.live_status.specs.GainLetters.{HasGains, IsReturned}
+use Rattle.live_status.specs.Planned.{AreKept, planned_at}
+use Rattle.studio_config.specs.Studio.{Studio}
 use Rattle.status_page.specs.declared.control.DeskAnswer.{DeskAnswer}
 use Rattle.status_page.specs.declared.control.DeskAnswer.TheVariants.{Answered, NoAnswer}
 use Rattle.live_status.specs.declared.gain_channel.letters.RequestLetter.{RequestLetter}
@@ -24,6 +26,14 @@ module _ {R : Type 0} where
   -- the changes that a run's end has taken
   abbrev pub changes_by : RunGains R → List (ℤ × List ℤ)
   changes_by end = changes_sent (sent end.answers)
+
+  -- the times that a run's end keeps are those of the changes to come, at each time from this one on, of the studio with the changes that it has taken
+  abbrev pub PlansFrom : Studio → ℤ → RunGains R → Type 0
+  PlansFrom studio from end = AreKept studio (changes_by end) from end.planned.items
+
+  -- they are exactly those behind this time
+  abbrev pub HasPlanned : Studio → ℤ → RunGains R → Type 0
+  HasPlanned studio next end = end.planned.items ≡ planned_at studio (changes_by end) next
 
   -- the run's end took the next request from the ring, and is to answer it
   pub record Opens (request : GainRequest) (before after : List ℤ) (old new : RunGains R) : Type 0 where
@@ -49,11 +59,12 @@ module _ {R : Type 0} where
   abbrev pub PassesBack : RunGains R → RunGains R → Type 0
   PassesBack old new = Rests old new ⊎ Returns old new
 
-  -- it sent this answer to the request of a letter, with the gains that the answer shows
+  -- it sent this answer to the request of a letter, with the gains that the answer shows and the times of the planned changes
   pub record Answers (letter : RequestLetter) (answer : GainAnswer) (next : ℤ) (gains : List ℤ) (old new : RunGains R) : Type 0 where
     pub outcome : OutcomeLetter
     pub own : outcome.number ≡ letter.number
     pub is : outcome.outcome ≡ Answered answer next
     pub shown : outcome.gains.items ≡ gains
+    pub planned : outcome.planned.items ≡ new.planned.items
     pub sent_are : sent new.answers ≡ sent old.answers ++ outcome ∷ []
     pub received_are : received new.requests ≡ received old.requests

@@ -1,19 +1,18 @@
 -- The steps of the page's end of a channel for gains.
 use Rattle.std.specs.Prelude.{◌≡◌, ◌⊎◌, ℤ, Bool, true, false, List, [], ◌∷◌, ◌++◌, length, Option, Some, None}
-use Rattle.std.specs.declared.alloc.Global.{Global}
-use Rattle.std.specs.declared.vec.Vec.{Vec}
 use Rattle.rtrb.specs.Ring.{received, sent}
 use Rattle.studio_io.specs.declared.gain_source.GainAnswer.{GainAnswer}
 use Rattle.studio_io.specs.declared.gain_source.GainRequest.{GainRequest}
-use Rattle.live_status.specs.GainMemory.{CopiesIfFit}
+use Rattle.live_status.specs.GainMemory.{CopiesIfFit, planned_in}
 use Rattle.status_page.specs.declared.control.DeskAnswer.{DeskAnswer}
 use Rattle.status_page.specs.declared.control.DeskAnswer.TheVariants.{Answered, NoAnswer}
 use Rattle.live_status.specs.declared.gain_channel.letters.RequestLetter.{RequestLetter}
 use Rattle.live_status.specs.declared.gain_channel.letters.OutcomeLetter.{OutcomeLetter}
+use Rattle.live_status.specs.declared.gain_channel.page_desk.LetterMemory.{LetterMemory}
 use Rattle.live_status.specs.declared.gain_channel.page_desk.PageDesk.{PageDesk}
 
 -- the gains in a buffer after an outcome: those that an answer shows, or those before
-abbrev pub Shows : DeskAnswer → Option (Vec ℤ Global) → List ℤ → List ℤ → Type 0
+abbrev pub Shows : DeskAnswer → Option LetterMemory → List ℤ → List ℤ → Type 0
 Shows (Answered answer next) memory before after = CopiesIfFit memory before after
 Shows NoAnswer memory before after = after ≡ before
 
@@ -39,7 +38,7 @@ module _ {R : Type 0} where
     pub received_are : received new.outcomes ≡ received old.outcomes ++ letter ∷ []
     pub own : letter.number ≡ length (received old.outcomes)
     pub is : letter.outcome ≡ outcome
-    pub kept : new.memory ≡ Some letter.gains
+    pub kept : new.memory ≡ Some (record { gains = letter.gains; planned = letter.planned })
     pub sent_are : sent new.requests ≡ sent old.requests
 
   -- or none has come back
@@ -52,7 +51,7 @@ module _ {R : Type 0} where
   Collects old None new = CollectsNone old new
   Collects old (Some outcome) new = CollectsOne outcome old new
 
-  -- a request was sent, and its own outcome came back: the run's answer, with the gains that the answer shows
+  -- a request was sent, and its own outcome came back: the run's answer, with the gains that it shows and the times of the planned changes
   pub record IsAnswered (request : GainRequest) (before : List ℤ) (answer : GainAnswer) (next : ℤ) (after : List ℤ) (old new : PageDesk R) : Type 0 where
     pub asked : RequestLetter
     pub sent_are : sent new.requests ≡ sent old.requests ++ asked ∷ []
@@ -64,6 +63,7 @@ module _ {R : Type 0} where
     pub own : reply.number ≡ asked.number
     pub answer_is : reply.outcome ≡ Answered answer next
     pub shown : length reply.gains.items ≡ length before → after ≡ reply.gains.items
+    pub planned : planned_in new.memory ≡ reply.planned.items
 
   -- a request was sent without an answer, or not sent
   abbrev pub IsNotAnswered : GainRequest → List ℤ → List ℤ → PageDesk R → PageDesk R → Type 0

@@ -1,7 +1,6 @@
--- The memory for gains, which a letter carries or does not.
-use Rattle.std.specs.Prelude.{◌≡◌, ℕ, ℤ, List, length, Option, Some, None}
-use Rattle.std.specs.declared.alloc.Global.{Global}
-use Rattle.std.specs.declared.vec.Vec.{Vec}
+-- The memory for gains and times, which a letter carries or does not.
+use Rattle.std.specs.Prelude.{◌≡◌, ℕ, ℤ, List, [], length, Option, Some, None}
+use Rattle.live_status.specs.declared.gain_channel.page_desk.LetterMemory.{LetterMemory}
 
 -- 1 if the memory is not here
 abbrev pub missing : {T : Type 0} → Option T → ℕ
@@ -9,6 +8,11 @@ missing None = 1
 missing (Some memory) = 0
 
 -- the gains in a buffer, where the memory has these: those, if they are as many
-abbrev pub CopiesIfFit : Option (Vec ℤ Global) → List ℤ → List ℤ → Type 0
+abbrev pub CopiesIfFit : Option LetterMemory → List ℤ → List ℤ → Type 0
 CopiesIfFit None before after = after ≡ before
-CopiesIfFit (Some memory) before after = length memory.items ≡ length before → after ≡ memory.items
+CopiesIfFit (Some memory) before after = length memory.gains.items ≡ length before → after ≡ memory.gains.items
+
+-- the times in the memory, if it is here
+abbrev pub planned_in : Option LetterMemory → List ℤ
+planned_in None = []
+planned_in (Some memory) = memory.planned.items

@@ -13,6 +13,7 @@ pub mod EngineStatus
 pub mod Lines
 pub mod DriftLines
 pub mod Health
+pub mod Planned
 pub mod GainLetters
 pub mod GainMemory
 pub mod GainChannel

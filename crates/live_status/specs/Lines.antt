@@ -4,9 +4,12 @@ use Rattle.std.specs.Fmt.{decimal, signed_decimal}
 use Rattle.rtp_stream.specs.CountsFacts.{Tally}
 use Rattle.rtp_stream.specs.Path.{path_letter}
 use Rattle.studio_run.specs.Report.{count_text, tally_text}
+use Rattle.status_page.specs.Audio.{pcm_blocks, pcm_left_out, pcm_text, wav_blocks, wav_text}
 use Rattle.status_page.specs.Record.{record_datagrams, record_text}
+use Rattle.status_page.specs.declared.snapshot.PcmState.{PcmState}
 use Rattle.status_page.specs.declared.snapshot.RecordState.{RecordState}
 use Rattle.status_page.specs.declared.snapshot.SocketState.{SocketState}
+use Rattle.status_page.specs.declared.snapshot.WavState.{WavState}
 use Rattle.live_status.specs.declared.lines.report.SinkCounts.{SinkCounts}
 
 -- the line of a path's feed: how often it failed
@@ -51,12 +54,42 @@ socket_losses socket = codes " dropped=" ++ known_text socket.dropped ++ codes "
 abbrev pub socket_line : ℕ → ℕ → ℤ → SocketState → List ℕ
 socket_line stream path time socket = socket_place stream path time ++ socket_faults socket ++ socket_losses socket
 
--- the line of a run, at this reading of the clock: what was not sent of each copy of the mix, and its record
-abbrev pub run_line : ℤ → ℕ → ℕ → RecordState → List ℕ
-run_line time failed_a failed_b state =
-    codes "run time=" ++ signed_decimal time
-    ++ codes " failed_a=" ++ decimal failed_a
-    ++ codes " failed_b=" ++ decimal failed_b
-    ++ codes " record=" ++ record_text state
-    ++ codes " recorded=" ++ known_text (record_datagrams state)
-    ++ codes "\n"
+-- the line of a run, at this reading of the clock, in four parts: what was not sent of each copy of the mix, its record, its WAV file, and its raw PCM
+unfoldable pub run_time : ℤ → List ℕ
+run_time time = codes "run time=" ++ signed_decimal time
+
+unfoldable pub run_failed : ℕ → ℕ → List ℕ
+run_failed failed_a failed_b = codes " failed_a=" ++ decimal failed_a ++ codes " failed_b=" ++ decimal failed_b
+
+abbrev pub run_sends : ℤ → ℕ → ℕ → List ℕ
+run_sends time failed_a failed_b = run_time time ++ run_failed failed_a failed_b
+
+unfoldable pub run_record : RecordState → List ℕ
+run_record state = codes " record=" ++ record_text state ++ codes " recorded=" ++ known_text (record_datagrams state)
+
+unfoldable pub run_wav_state : WavState → List ℕ
+run_wav_state state = codes " wav=" ++ wav_text state
+
+unfoldable pub run_wav_blocks : Option ℕ → List ℕ
+run_wav_blocks blocks = codes " wav_blocks=" ++ known_text blocks
+
+unfoldable pub run_wav : WavState → List ℕ
+run_wav state = run_wav_state state ++ run_wav_blocks (wav_blocks state)
+
+unfoldable pub run_pcm_state : PcmState → List ℕ
+run_pcm_state state = codes " pcm=" ++ pcm_text state
+
+unfoldable pub run_pcm_blocks : Option ℕ → List ℕ
+run_pcm_blocks blocks = codes " pcm_blocks=" ++ known_text blocks
+
+unfoldable pub run_left_out : Option ℕ → List ℕ
+run_left_out left_out = codes " pcm_left_out=" ++ known_text left_out
+
+unfoldable pub run_pcm_counts : Option ℕ → Option ℕ → List ℕ
+run_pcm_counts blocks left_out = run_pcm_blocks blocks ++ run_left_out left_out
+
+unfoldable pub run_pcm : PcmState → List ℕ
+run_pcm state = run_pcm_state state ++ run_pcm_counts (pcm_blocks state) (pcm_left_out state)
+
+abbrev pub run_line : ℤ → ℕ → ℕ → RecordState → WavState → PcmState → List ℕ
+run_line time failed_a failed_b state wav pcm = run_sends time failed_a failed_b ++ run_record state ++ run_wav wav ++ run_pcm pcm ++ codes "\n"

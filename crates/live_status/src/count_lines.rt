@@ -208,6 +208,8 @@ impl CountLines {
                 failed_a,
                 failed_b,
                 snapshot.record,
+                snapshot.wav,
+                snapshot.pcm,
             )?;
             self.text.finish(writer)?;
         }

@@ -1,21 +1,25 @@
 //! The channel between a page that asks for gains and a run: `page_desk` is the page's end, `run_gains` the run's end.
-//! They pass `letters` to each other through two rings of one place, and share a `link`.
-ghost use Rattle.std.specs.Prelude.{◌≡◌, [], IfOk, IfSome};
+//! They pass `letters` to each other through two rings of one place, and share a `link`. The run's end keeps the times
+//! of the changes that are still to come (`planned`).
+ghost use Rattle.std.specs.Prelude.{◌≡◌, ℤ, [], IfOk, IfSome};
 ghost use Rattle.rtrb.specs.Ring.{received, sent};
 
 use crate::gain_channel::letters::Numbered;
 use crate::gain_channel::link::GainLink;
 use crate::gain_channel::page_desk::PageDesk;
+use crate::gain_channel::planned::planned_of;
 use crate::gain_channel::run_gains::RunGains;
 use rtrb::RingBuffer;
 use status_page::GainShape;
 use std::alloc::{AllocError, Global};
 use std::sync::Wait;
 use std::time::Clock;
+use studio_config::StudioSpec;
 
 pub(crate) mod letters;
 pub(crate) mod link;
 pub(crate) mod page_desk;
+mod planned;
 pub(crate) mod run_gains;
 
 /// The two ends of a channel.
@@ -28,26 +32,28 @@ pub struct GainChannel<'a, R> {
 }
 
 impl<'a, R: Wait + Clock> GainChannel<'a, R> {
-    ghost use Rattle.live_status.specs.GainChannel.{changes_by};
+    ghost use Rattle.live_status.specs.GainChannel.{PlansFrom, changes_by};
 
-    /// Returns the two ends of a channel for the gains of a matrix of this shape. Allocates all its memory, and returns
-    /// `AllocError` if that fails.
+    /// Returns the two ends of a channel for the gains of a run of this studio, whose matrix has this shape. Allocates
+    /// all its memory, and returns `AllocError` if that fails.
     // One letter is on its way at a time: the memory for gains travels with it. So one place in each ring is enough.
     pub fn new(
         rt: &'a R,
         alloc: Global,
         link: &'a GainLink,
         shape: GainShape,
+        studio: &StudioSpec,
     ) -> Result<GainChannel<'a, R>, AllocError>
         ensures asked { IfOk result (λ channel. sent channel.desk.requests ≡ []) }
         ensures heard { IfOk result (λ channel. received channel.desk.outcomes ≡ []) }
         ensures taken { IfOk result (λ channel. changes_by channel.gains ≡ []) }
+        ensures planned { IfOk result (λ channel. (from : ℤ) → PlansFrom studio.now from channel.gains) }
     {
         let (requests, asked) = RingBuffer::with_protocol::<Global, Numbered>(alloc, 1)?;
         let (answers, outcomes) = RingBuffer::with_protocol::<Global, Numbered>(alloc, 1)?;
         Ok(GainChannel {
             desk: PageDesk::new(rt, alloc, link, shape, requests, outcomes)?,
-            gains: RunGains::new(rt, link, asked, answers),
+            gains: RunGains::new(rt, link, asked, answers, planned_of(alloc, studio)?),
         })
     }
 }

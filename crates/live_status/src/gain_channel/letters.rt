@@ -13,6 +13,8 @@ pub(crate) struct RequestLetter {
     pub(crate) request: GainRequest,
     /// The gains in the page's buffer. The outcome comes back in this memory.
     pub(crate) gains: Vec<i32>,
+    /// Memory for the times of the planned changes.
+    pub(crate) planned: Vec<i64>,
 }
 
 /// The outcome of a request on its way from the run to the page.
@@ -23,6 +25,8 @@ pub(crate) struct OutcomeLetter {
     pub(crate) outcome: DeskAnswer,
     /// The gains that the answer shows, or those of the request if it was not taken.
     pub(crate) gains: Vec<i32>,
+    /// The times of the planned changes when the answer was made, or what the memory had if the request was not taken.
+    pub(crate) planned: Vec<i64>,
 }
 
 /// The rule of both rings: the letters are numbered from 0 in the order in which they are sent.

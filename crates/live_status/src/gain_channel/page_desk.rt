@@ -5,6 +5,7 @@ ghost use Rattle.live_status.specs.GainMemory.{CopiesIfFit, missing};
 
 use crate::gain_channel::letters::{Numbered, OutcomeLetter, RequestLetter};
 use crate::gain_channel::link::GainLink;
+use crate::gain_channel::planned::MAX_PLANNED;
 use rtrb::{Consumer, Producer, PushError};
 use status_page::{DeskAnswer, GainDesk, GainShape};
 use std::alloc::{AllocError, Global};
@@ -21,6 +22,15 @@ const LONGEST_WAIT_MS: u64 = 200;
 // An outcome ends the pause. Only the end of a run is found by looking again.
 const PAUSE_MS: u64 = 10;
 
+/// The memory that a letter carries.
+#[derive(Drop)]
+pub(crate) struct LetterMemory {
+    /// Room for the gains of a matrix.
+    pub(crate) gains: Vec<i32>,
+    /// Room for the times of the planned changes.
+    pub(crate) planned: Vec<i64>,
+}
+
 /// The page's end of a channel.
 #[derive(Drop)]
 pub struct PageDesk<'a, R> {
@@ -29,8 +39,8 @@ pub struct PageDesk<'a, R> {
     shape: GainShape,
     pub(crate) requests: Producer<RequestLetter, Global, Numbered>,
     pub(crate) outcomes: Consumer<OutcomeLetter, Global, Numbered>,
-    /// The memory for gains. `None` while a letter carries it, so that only one is on its way.
-    memory: Option<Vec<i32>>,
+    /// The memory for gains and times. `None` while a letter carries it, so that only one is on its way.
+    memory: Option<LetterMemory>,
     /// The number of requests that were sent.
     count: u64,
     ghost counted: { count ≡ length (sent requests) },
@@ -40,8 +50,8 @@ pub struct PageDesk<'a, R> {
 impl<'a, R: Wait + Clock> PageDesk<'a, R> {
     ghost use Rattle.live_status.specs.GainDesk.{Collects, SendsIf, Shows};
 
-    /// Returns the end of two rings, through which nothing has come yet. Allocates the memory for gains, and returns
-    /// `AllocError` if that fails.
+    /// Returns the end of two rings, through which nothing has come yet. Allocates the memory for gains and
+    /// times, and returns `AllocError` if that fails.
     pub(crate) fn new(
         rt: &'a R,
         alloc: Global,
@@ -55,14 +65,15 @@ impl<'a, R: Wait + Clock> PageDesk<'a, R> {
         ensures requests { IfOk result (λ desk. desk.requests ≡ requests) }
         ensures outcomes { IfOk result (λ desk. desk.outcomes ≡ outcomes) }
     {
-        let memory = Vec::with_capacity(alloc, MAX_GAINS)?;
+        let gains = Vec::with_capacity(alloc, MAX_GAINS)?;
+        let planned = Vec::with_capacity(alloc, MAX_PLANNED)?;
         Ok(PageDesk {
             rt,
             link,
             shape,
             requests,
             outcomes,
-            memory: Some(memory),
+            memory: Some(LetterMemory { gains, planned }),
             count: 0,
         })
     }
@@ -77,17 +88,19 @@ impl<'a, R: Wait + Clock> PageDesk<'a, R> {
         let Some(mut memory) = self.memory.take() else {
             return false;
         };
-        memory.clear();
+        memory.gains.clear();
         // Never refused: the memory has room for all gains of a matrix.
-        if memory.extend_from_slice(gains).is_err() {
+        if memory.gains.extend_from_slice(gains).is_err() {
             self.memory = Some(memory);
             return false;
         }
         self.link.begin();
+        let LetterMemory { gains, planned } = memory;
         let letter = RequestLetter {
             number: self.count,
             request,
-            gains: memory,
+            gains,
+            planned,
         };
         match self.requests.push(letter) {
             Ok(()) => {
@@ -96,7 +109,10 @@ impl<'a, R: Wait + Clock> PageDesk<'a, R> {
             }
             // Never full: the run has taken the request before, whose memory came back.
             Err(PushError::Full(letter)) => {
-                self.memory = Some(letter.gains);
+                self.memory = Some(LetterMemory {
+                    gains: letter.gains,
+                    planned: letter.planned,
+                });
                 false
             }
         }
@@ -114,8 +130,9 @@ impl<'a, R: Wait + Clock> PageDesk<'a, R> {
             number: _,
             outcome,
             gains,
+            planned,
         } = letter;
-        self.memory = Some(gains);
+        self.memory = Some(LetterMemory { gains, planned });
         Some(outcome)
     }
 
@@ -181,11 +198,21 @@ impl<'a, R: Wait + Clock> PageDesk<'a, R> {
 
 impl<'a, R: Wait + Clock> GainDesk for PageDesk<'a, R> {
     ghost use Rattle.live_status.specs.GainDesk.{Asks};
+    ghost use Rattle.live_status.specs.GainMemory.{planned_in};
 
     ghost asks = { λ old request before outcome after new. Asks old request before outcome after new };
 
+    ghost planned = { λ desk. planned_in desk.memory };
+
     fn shape(&self) -> GainShape {
         self.shape
+    }
+
+    fn planned(&self) -> &[i64] {
+        match &self.memory {
+            Some(memory) => memory.planned.as_slice(),
+            None => &[],
+        }
     }
 
     fn ask(&mut self, request: GainRequest, gains: &mut [i32]) -> DeskAnswer {
@@ -202,12 +229,12 @@ impl<'a, R: Wait + Clock> GainDesk for PageDesk<'a, R> {
 }
 
 /// Copies the gains in the memory to `gains`, if it is here and they are as many.
-fn copy_if_fit(memory: &Option<Vec<i32>>, gains: &mut [i32])
+fn copy_if_fit(memory: &Option<LetterMemory>, gains: &mut [i32])
     ensures { CopiesIfFit memory.now gains.old gains.new }
 {
     if let Some(memory) = memory {
-        if memory.len() == gains.len() {
-            gains.copy_from_slice(memory.as_slice());
+        if memory.gains.len() == gains.len() {
+            gains.copy_from_slice(memory.gains.as_slice());
         }
     }
 }

@@ -1,12 +1,14 @@
 //! The run's end of a channel for gains: a source of requests, whose outcomes it sends to the page.
-ghost use Rattle.std.specs.Prelude.{◌≡◌, ◌<◌, ◌+◌, [], ◌++◌, List, length, true, false};
+ghost use Rattle.std.specs.Prelude.{◌≡◌, ◌<◌, ◌≤ℤ◌, ◌+◌, ℤ, [], ◌++◌, List, length, true, false};
 ghost use Rattle.std.specs.Prelude.{IfSome, IsNone, IfOk, IfErr, OnErr, Some, None};
 ghost use Rattle.std.specs.Option.{ForSome};
 ghost use Rattle.rtrb.specs.Ring.{known_free, received, sent};
 ghost use Rattle.live_status.specs.GainLetters.{HasGains, IsReturned, count_of, has_one};
+ghost use Rattle.live_status.specs.Planned.{planned_after};
 
 use crate::gain_channel::letters::{Numbered, OutcomeLetter, RequestLetter};
 use crate::gain_channel::link::GainLink;
+use crate::gain_channel::planned::update_planned;
 use rtrb::{Consumer, Producer};
 use status_page::DeskAnswer;
 use std::alloc::Global;
@@ -22,6 +24,8 @@ pub struct RunGains<'a, R> {
     pub(crate) answers: Producer<OutcomeLetter, Global, Numbered>,
     /// The request that the run is to answer, if there is one.
     pub(crate) taken: Option<RequestLetter>,
+    /// The times of the changes that are still to come, in memory for 64.
+    pub(crate) planned: Vec<i64>,
     ghost in_turn: { length (received requests) ≡ length (sent answers) + count_of taken },
     ghost own_number: { ForSome taken (λ letter. letter.number ≡ length (sent answers)) },
     ghost roomy: { ForSome taken (λ letter. 0 < known_free answers) },
@@ -29,21 +33,24 @@ pub struct RunGains<'a, R> {
 
 impl<'a, R: Wait> RunGains<'a, R> {
     // Imported here, since the struct depends on what its file imports, and `GainChannel` names the struct.
-    ghost use Rattle.live_status.specs.GainChannel.{Answers, Opens, PassesBack, changes_by};
+    ghost use Rattle.studio_config.specs.Studio.{Studio};
+    ghost use Rattle.live_status.specs.GainChannel.{Answers, HasPlanned, Opens, PassesBack, PlansFrom, changes_by};
     ghost use Rattle.studio_io.specs.Gains.{changes_in};
     ghost use Rattle.live_status.specs.declared.gain_channel.letters.RequestLetter.{RequestLetter};
 
-    /// Returns the end of two rings, through which nothing has come yet.
+    /// Returns the end of two rings, through which nothing has come yet. The studio plans changes at these times.
     pub(crate) fn new(
         rt: &'a R,
         link: &'a GainLink,
         requests: Consumer<RequestLetter, Global, Numbered>,
         answers: Producer<OutcomeLetter, Global, Numbered>,
+        planned: Vec<i64>,
     ) -> RunGains<'a, R>
         requires received { received requests ≡ [] }
         requires sent { sent answers ≡ [] }
         ensures answers { result.answers ≡ answers }
         ensures taken { IsNone result.taken }
+        ensures planned { result.planned ≡ planned }
     {
         RunGains {
             rt,
@@ -51,6 +58,7 @@ impl<'a, R: Wait> RunGains<'a, R> {
             requests,
             answers,
             taken: None,
+            planned,
         }
     }
 
@@ -59,6 +67,7 @@ impl<'a, R: Wait> RunGains<'a, R> {
     fn take_next(&mut self, gains: &mut [i32]) -> Option<GainRequest>
         ensures opens { IfSome result (λ request. Opens request gains.old gains.new self.old self.new) }
         ensures none { IsNone result → PassesBack self.old self.new }
+        ensures planned { self.new.planned ≡ self.old.planned }
     {
         // A request is taken only if its outcome has a place, and the one before it has its answer: so no change is
         // made whose answer could not be sent.
@@ -90,19 +99,25 @@ impl<'a, R: Wait> RunGains<'a, R> {
             → Answers letter answer next_block_start gains.now self.old self.new }
         ensures taken { has_one self.old.taken ≡ true
             → changes_by self.new ≡ changes_by self.old ++ changes_in answer gains.now }
-        ensures kept { self.old.taken ≡ None → sent self.new.answers ≡ sent self.old.answers }
+        ensures planned { (studio : Studio) (from : ℤ) → PlansFrom studio from self.old → from ≤ℤ next_block_start
+            → has_one self.old.taken ≡ true
+            → PlansFrom studio next_block_start self.new × HasPlanned studio next_block_start self.new }
+        ensures kept { self.old.taken ≡ None
+            → (sent self.new.answers ≡ sent self.old.answers) × (self.new.planned ≡ self.old.planned) }
     {
         let Some(letter) = self.taken.take() else {
             return;
         };
-        let outcome = answered(self.rt, letter, answer, next_block_start, gains);
+        let planned = &mut self.planned;
+        let outcome = answered(self.rt, letter, answer, next_block_start, gains, planned);
         self.answers.push_reserved(outcome);
         self.link.wake();
     }
 }
 
 impl<'a, R: Wait> GainSource for RunGains<'a, R> {
-    ghost use Rattle.live_status.specs.GainChannel.{Answers, Opens, PassesBack, changes_by};
+    ghost use Rattle.studio_config.specs.Studio.{Studio};
+    ghost use Rattle.live_status.specs.GainChannel.{Answers, HasPlanned, Opens, PassesBack, PlansFrom, changes_by};
     ghost use Rattle.studio_io.specs.Gains.{changes_in};
     ghost use Rattle.live_status.specs.declared.gain_channel.letters.RequestLetter.{RequestLetter};
 
@@ -115,6 +130,7 @@ impl<'a, R: Wait> GainSource for RunGains<'a, R> {
         ensures taken { changes_by self.new ≡ changes_by self.old }
         ensures opens { IfSome result (λ request. Opens request gains.old gains.new self.old self.new) }
         ensures none { IsNone result → PassesBack self.old self.new }
+        ensures planned { self.new.planned ≡ self.old.planned }
     {
         self.take_next(gains)
     }
@@ -124,7 +140,11 @@ impl<'a, R: Wait> GainSource for RunGains<'a, R> {
             → changes_by self.new ≡ changes_by self.old ++ changes_in answer gains.now }
         ensures sent { (letter : RequestLetter) → self.old.taken ≡ Some letter
             → Answers letter answer next_block_start gains.now self.old self.new }
-        ensures kept { self.old.taken ≡ None → sent self.new.answers ≡ sent self.old.answers }
+        ensures planned { (studio : Studio) (from : ℤ) → PlansFrom studio from self.old → from ≤ℤ next_block_start
+            → has_one self.old.taken ≡ true
+            → PlansFrom studio next_block_start self.new × HasPlanned studio next_block_start self.new }
+        ensures kept { self.old.taken ≡ None
+            → (sent self.new.answers ≡ sent self.old.answers) × (self.new.planned ≡ self.old.planned) }
     {
         self.send_answer(answer, next_block_start, gains);
     }
@@ -163,33 +183,42 @@ fn returned(letter: RequestLetter) -> OutcomeLetter
         number,
         request: _,
         gains,
+        planned,
     } = letter;
     OutcomeLetter {
         number,
         outcome: DeskAnswer::NoAnswer,
         gains,
+        planned,
     }
 }
 
-/// Returns the outcome of a request that was taken: this answer, with the gains that it shows.
+/// Returns the outcome of a request that was taken: this answer, with the gains that it shows and the times of the
+/// changes that are still to come. `planned` has these times, and is updated.
 fn answered<R: Wait>(
     rt: &R,
     letter: RequestLetter,
     answer: GainAnswer,
     next_block_start: i64,
     gains: &[i32],
+    planned: &mut Vec<i64>,
 ) -> OutcomeLetter
     ensures own { result.number ≡ letter.number }
     ensures answer { result.outcome ≡ DeskAnswer.Answered answer next_block_start }
     ensures shown { result.gains.items ≡ gains.now }
+    ensures planned { planned.new.items ≡ planned_after answer next_block_start planned.old.items }
+    ensures sent { result.planned.items ≡ planned.new.items }
 {
     let RequestLetter {
         number,
         request: _,
         gains: memory,
+        planned: times,
     } = letter;
     let mut shown = memory;
     copy_gains(rt, gains, &mut shown);
+    let mut left = times;
+    update_planned(rt, answer, next_block_start, planned, &mut left);
     OutcomeLetter {
         number,
         outcome: DeskAnswer::Answered {
@@ -197,6 +226,7 @@ fn answered<R: Wait>(
             next_block_start,
         },
         gains: shown,
+        planned: left,
     }
 }
 
