@@ -2,6 +2,7 @@
 //! its audio and serve its page.
 ghost use Rattle.std.specs.Prelude.{◌≡◌, is_some, IfOk, IfErr};
 ghost use Rattle.std.specs.Thread.{IsSync};
+ghost use Rattle.live_run.specs.Observed.{HasGainsInterface};
 ghost use Rattle.live_run.specs.RunResult.{IsEarly, IsRunOf};
 
 use crate::context::RunContext;
@@ -123,7 +124,8 @@ fn bind_and_run<
 {
     let opened = open_run(rt, alloc, studio, inputs, options, state, control, faults)?;
     // Last, so that a start that fails, as one whose sockets are taken, leaves no file behind and touches none.
-    let files = create_files(alloc, studio, inputs, record, wav, pcm)?;
+    let is_controlled = opened.gains.is_some();
+    let files = create_files(alloc, studio, inputs, is_controlled, record, wav, pcm)?;
     run_open(rt, alloc, studio, inputs, options, state, opened, files)
 }
 
@@ -161,13 +163,14 @@ fn create_files<'a, P: CreateRecord + CreateLiveWav + CreatePcm>(
     alloc: Global,
     studio: &StudioSpec,
     inputs: LiveInputs<'a>,
+    is_controlled: bool,
     record: Option<&P>,
     wav: Option<&P>,
     pcm: Option<&P>,
 ) -> Result<RunFiles<'a, P::File, P::Audio, P::Pcm>, LiveFault>
     ensures early { IfErr result IsEarly }
 {
-    let recording = recording_of(alloc, studio, inputs.recorded, record)?;
+    let recording = recording_of(alloc, studio, is_controlled, inputs.recorded, record)?;
     let (wav_tap, audio) = audio_of(alloc, studio, inputs, wav)?;
     let (pcm_tap, piped) = pcm_of(alloc, studio, inputs.pcm, pcm)?;
     Ok(RunFiles {
@@ -308,14 +311,16 @@ fn pcm_of<'a, P: CreatePcm>(
     Ok((Some(tap), Some(OpenPcm { writer, output })))
 }
 
-/// Creates the record of a run, if one is wanted, with the place for its result. Takes its memory before it creates the
-/// file.
+/// Creates the record of a run, if one is wanted, with the place for its result. It has an interface for changes of
+/// gains if these can be changed. Takes its memory before it creates the file.
 fn recording_of<'a, P: CreateRecord>(
     alloc: Global,
     studio: &StudioSpec,
+    is_controlled: bool,
     recorded: &'a RecordResult,
     record: Option<&P>,
 ) -> Result<RecordOutput<'a, P::File>, LiveFault>
+    ensures interface { IfOk result (λ output. HasGainsInterface is_controlled studio.now output.«record») }
     ensures early { IfErr result IsEarly }
 {
     let Some(record) = record else {
@@ -324,7 +329,7 @@ fn recording_of<'a, P: CreateRecord>(
             recorded,
         });
     };
-    let channel = RecordChannel::new(alloc, studio, recorded)?;
+    let channel = RecordChannel::new(alloc, studio, is_controlled, recorded)?;
     let file = record.create()?;
     recorded.begin();
     Ok(RecordOutput {

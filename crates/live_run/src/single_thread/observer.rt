@@ -1,12 +1,14 @@
 //! The observer of a run in one thread: its record and its status, if these are wanted.
-ghost use Rattle.std.specs.Prelude.{◌≡◌, [], ◌∷◌, None, IfOk};
+ghost use Rattle.std.specs.Prelude.{◌≡◌, ℕ, [], ◌∷◌, None, IfOk};
+ghost use Rattle.mix_packets.specs.Block.{block_start};
 ghost use Rattle.engine_run.specs.Observers.{Came, Closed, Hears};
-ghost use Rattle.live_run.specs.Observed.{RecordsClose, RecordsPacket};
+ghost use Rattle.live_run.specs.Observed.{RecordsChange, RecordsClose, RecordsPacket};
 
 use crate::shown_health::ShownHealth;
 use engine_run::RunObserver;
 use live_io::{DatagramOrigin, RecordObserver, UdpFeed};
 use live_status::{EngineStatus, StatusOutputs};
+use mix_packets::OutSpec;
 use rtp_stream::Path;
 use std::alloc::{AllocError, Global};
 use std::io::Write;
@@ -60,6 +62,8 @@ impl<'v, E: Write + Drop> LiveObserver<'v, E> {
 impl<'a, R: Clock, E: Write + Drop> RunObserver<UdpFeed<'a, R>> for LiveObserver<'_, E> {
     ghost heard = { λ tap. None };
 
+    ghost noted = { λ tap. None };
+
     fn arrived(
         &mut self,
         engine: &Engine,
@@ -76,6 +80,14 @@ impl<'a, R: Clock, E: Write + Drop> RunObserver<UdpFeed<'a, R>> for LiveObserver
         if let Some(status) = &mut self.status {
             status.note(engine, stream, path, octets, receipt);
         }
+    }
+
+    fn changed(&mut self, engine: &Engine, at: i64, gains: &[i32])
+        ensures recorded { RecordsChange engine.now.time at engine.now.mixer.packer.number gains.now
+            self.old.«record» self.new.«record» }
+    {
+        let number = block_number(engine.output(), engine.next_block_start());
+        record_change(&mut self.record, engine.time(), at, number, gains);
     }
 
     fn before_wait(&mut self, engine: &Engine)
@@ -108,6 +120,30 @@ fn record_datagram(
     if let Some(record) = record {
         record.arrived(time, octets, origin);
     }
+}
+
+/// Puts a change of gains into the record, if there is one.
+fn record_change(
+    record: &mut Option<RecordObserver<'_>>,
+    time: i64,
+    at: i64,
+    next_block: u64,
+    gains: &[i32],
+)
+    ensures { RecordsChange time at next_block gains.now «record».old «record».new }
+{
+    if let Some(record) = record {
+        record.changed(time, at, next_block, gains);
+    }
+}
+
+/// Returns the number of the block that begins at a time: so many blocks are before it.
+fn block_number(output: &OutSpec, start: i64) -> u64
+    ensures { (number : ℕ) → start ≡ block_start output.now number → result ≡ number }
+{
+    // Nothing is limited here: a block begins at the output's start or after it.
+    let instants = start.saturating_sub(output.start());
+    u64::try_from(instants).unwrap_or(0) / u64::from(output.frames())
 }
 
 /// Puts the close into the record, if there is one.
