@@ -272,17 +272,29 @@ def described(stream):
     return "encoding {encoding} channels {channels} frames {frames} pt {pt} paths {paths}".format(**{"paths": 2, **stream})
 
 
+def change(at, gains):
+    """The payload of a change of gains that is in force from so many sampling instants behind the opening on."""
+    return struct.pack(f">qQ{len(gains)}i", at, 0, *gains)
+
+
 def live_record(open_at, paths, trace, descriptions=()):
     """The record of a live run of this trace by a studio that was opened at a time, whose streams have so many paths, and these
-    descriptions; without them it is a record of version 0.3.0."""
+    descriptions; without them it is a record of version 0.3.0. If the trace has lines `gains AT GAIN ..`, or `octets HEX`, its gains can
+    change, and each is a change that the run took there, or one of this payload."""
     options = option(LITTLE, 1, b"open_at %d" % open_at) + option(LITTLE, 4, b"darbexum") + option(LITTLE, 0, b"")
     blocks = [block(LITTLE, 0x0A0D0D0A, struct.pack("<IHHq", 0x1A2B3C4D, 1, 0, -1) + options)]
     for stream, count in enumerate(paths):
         text = option(LITTLE, 3, descriptions[stream].encode()) if descriptions else b""
         blocks += [interface(LITTLE, RAW, 9, options=option(LITTLE, 2, b"%d %c" % (stream, 97 + path)) + text) for path in range(count)]
+    lines = [line.split() for line in trace.splitlines() if line.strip() and line[0] != "#"]
+    if any(word in ("gains", "octets") for word, *_ in lines):
+        blocks.append(interface(LITTLE, RAW, 9, options=option(LITTLE, 2, b"gains") + option(LITTLE, 3, b"gains")))
     nanoseconds = 0
-    for word, *more in (line.split() for line in trace.splitlines() if line.strip() and line[0] != "#"):
-        if word == "tick":
+    for word, *more in lines:
+        if word in ("gains", "octets"):
+            payload = bytes.fromhex("".join(more)) if word == "octets" else change(int(more[0]) - open_at, [int(gain) for gain in more[1:]])
+            blocks.append(enhanced(LITTLE, sum(paths), nanoseconds, ip_around(payload)))
+        elif word == "tick":
             nanoseconds = -((open_at - int(more[0])) * 62_500 // 3)
         elif word == "close":
             blocks.append(block(LITTLE, 5, struct.pack("<III", 0, nanoseconds >> 32, nanoseconds % 2**32)))

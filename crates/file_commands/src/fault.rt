@@ -252,6 +252,7 @@ fn replay_status(fault: &ReplayFault) -> u8 {
         ReplayFault::Memory | ReplayFault::Capture(ReaderFault::Memory) => 4,
         ReplayFault::Capture(ReaderFault::ReadFailed) | ReplayFault::Write => 5,
         ReplayFault::Run(StudioFault::Memory(_)) => 4,
-        ReplayFault::Capture(_) | ReplayFault::Run(_) | ReplayFault::TooManyEvents => 1,
+        ReplayFault::Capture(_) | ReplayFault::Run(_) => 1,
+        ReplayFault::Change(..) | ReplayFault::TooManyEvents => 1,
     }
 }

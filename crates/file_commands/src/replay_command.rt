@@ -20,7 +20,7 @@ use crate::stream_output::{
 use command_line::ReplayArgs;
 use pcap_file::CaptureFault;
 use pcap_flows::Routes;
-use pcap_replay::{ReplayObserver, WavObserver, replay, replay_record};
+use pcap_replay::{RecordedChanges, ReplayObserver, WavObserver, replay, replay_record};
 use reception_chart::{Extent, StudioTracker};
 use std::alloc::Global;
 use std::io;
@@ -42,11 +42,14 @@ enum CaptureKind {
 struct ReplaySource {
     studio: StudioSpec,
     kind: CaptureKind,
+    /// The rule for the changes of gains of a record.
+    changes: RecordedChanges,
 }
 
 /// Writes the report of a capture, by the configuration at a path, and the files that are asked for. The gains change
-/// as the file of gains says, if there is one; for a record, its times are those of the recorded run. Before a fault
-/// that is put at a file its path is written to `faults`.
+/// as the file of gains says, if there is one; for a record, its times are those of the recorded run. Without such a
+/// file they change as they did in the recorded run. Before a fault that is put at a file its path is written to
+/// `faults`.
 ///
 /// A capture in a file is opened several times, so that it need not fit in memory: for its start up to the first
 /// packet, which says if it is the record of a live run and of which configuration; for its flows, if it is not a
@@ -83,6 +86,19 @@ fn gains_of<H: Host>(host: &H, alloc: Global, path: Option<&str>) -> Result<Vec<
     match path {
         Some(path) => read_gains(host, alloc, path),
         None => Ok(Vec::new(alloc)),
+    }
+}
+
+/// Returns the rule for the changes of gains of a record: a file of gains takes their place.
+// A mix of both would be that of no desk: the changes of the file would meet gains that they were not made for. So a
+// file asks what the run would have sent with its own changes and no others.
+fn recorded_changes(args: &ReplayArgs<'_>) -> RecordedChanges
+    ensures taken { args.now.gains ≡ None → result ≡ RecordedChanges.Taken }
+    ensures skipped { args.now.gains ≢ None → result ≡ RecordedChanges.Skipped }
+{
+    match args.gains {
+        Some(_) => RecordedChanges::Skipped,
+        None => RecordedChanges::Taken,
     }
 }
 
@@ -157,7 +173,8 @@ fn replay_input<H: Host>(
     let studio = recorded_studio(alloc, studio, front.as_slice(), gains)?;
     let mut outputs = create_files::<H, Extent>(host, alloc, &studio, args, stream, None, faults)?;
     let mut record = PeekedInput::new(front.as_slice(), input);
-    let played = play_record(alloc, &studio, &mut record, output, &mut outputs);
+    let changes = recorded_changes(args);
+    let played = play_record(alloc, &studio, changes, &mut record, output, &mut outputs);
     let ReplayOutputs {
         wav,
         stream: file,
@@ -196,13 +213,14 @@ fn create_files<H: Host, O: Drop>(
 fn play_record<R: Read, W: Write, L: ReplayObserver>(
     alloc: Global,
     studio: &StudioSpec,
+    changes: RecordedChanges,
     input: &mut R,
     output: &mut W,
     observer: &mut L,
 ) -> Result<Option<CaptureFault>, CommandFault>
     requires fresh { L.heard observer.old observer.old [] [] }
 {
-    Ok(replay_record(alloc, studio, input, output, observer)?)
+    Ok(replay_record(alloc, studio, changes, input, output, observer)?)
 }
 
 /// Completes the WAV files after a report, and returns the first fault: of the report, of the mix's file, or of the
@@ -257,13 +275,18 @@ fn source_of<H: Host>(
             Ok(ReplaySource {
                 studio: studio_for(alloc, studio, opening, paths.as_slice(), gains)?,
                 kind: CaptureKind::Record,
+                changes: recorded_changes(args),
             })
         }
         None => {
             // Before the capture is read, which may take long.
             let studio = changed_studio(alloc, &studio, gains)?;
             let kind = flows_at(host, alloc, args)?;
-            Ok(ReplaySource { studio, kind })
+            Ok(ReplaySource {
+                studio,
+                kind,
+                changes: RecordedChanges::Skipped,
+            })
         }
     }
 }
@@ -324,7 +347,14 @@ impl ReplaySource {
     {
         let mut input = open_capture(host, path)?;
         match &self.kind {
-            CaptureKind::Record => play_record(alloc, &self.studio, &mut input, output, observer),
+            CaptureKind::Record => play_record(
+                alloc,
+                &self.studio,
+                self.changes,
+                &mut input,
+                output,
+                observer,
+            ),
             CaptureKind::Flows(routes) => {
                 replay(
                     alloc,

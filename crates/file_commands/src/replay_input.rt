@@ -14,7 +14,7 @@ use std::io::Read;
 use studio_config::StudioSpec;
 
 /// The number of octets that are read of standard input before the studio is known.
-// A record begins with its section header and at most 64 interfaces, each of at most 124 octets: 8 KiB at most.
+// A record begins with its section header and at most 65 interfaces, each of at most 124 octets: 8.1 KiB at most.
 const FRONT_OCTETS: usize = 16_384;
 
 /// More reads than `FRONT_OCTETS` take, each of which brings an octet or the input's end.

@@ -1,5 +1,5 @@
 -- A fact about a value that is there.
-use Rattle.std.proofs.Common.{◌≡◌, Option, Some, None, IfSome, Result, Ok, Err, OnOk, IfErr, refl, sym, subst}
+use Rattle.std.proofs.Common.{◌≡◌, Option, Some, None, IfSome, Result, Ok, Err, OnOk, OnErr, IfErr, refl, sym, subst}
 use Rattle.std.specs.Prelude.{IsErrAnd}
 use Rattle.pcap_replay.specs.declared.fault.ReplayFault.{ReplayFault}
 
@@ -34,3 +34,8 @@ told P fault (Err answer) is holds = subst P (sym is) holds
 pub err_both : {X E : Type 0} (r : Result X E) (P Q R : E → Type 0) → ((e : E) → P e → Q e → R e) → IfErr r P → IfErr r Q → IfErr r R
 err_both (Ok x) P Q R f p q = tt
 err_both (Err e) P Q R f p q = f e p q
+
+-- a fault after which a place is as before
+pub own_fault : {X E : Type 0} {P : E → Type 0} {K : Type 0} (r : Result X E) (Q : E → Type 0) → ((e : E) → P e × K → Q e) → IfErr r P → OnErr r K → IfErr r Q
+own_fault (Ok x) Q f p k = tt
+own_fault (Err e) Q f p k = f e (p, k)

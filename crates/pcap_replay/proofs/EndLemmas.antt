@@ -23,11 +23,12 @@ use Rattle.studio_run.specs.StudioReport.{IsReport}
 use Rattle.studio_run.proofs.BufferLemmas.{BreaksOff-finished, BreaksOff-later, PassesOn-finished, PassesOn-trans}
 use Rattle.studio_run.proofs.StudioReportLemmas.{report_alone}
 use Rattle.pcap_replay.specs.declared.fault.ReplayFault.{ReplayFault}
-use Rattle.pcap_replay.specs.declared.fault.ReplayFault.TheVariants.{Memory, Capture, Run as RunOf, TooManyEvents, Write}
+use Rattle.pcap_replay.specs.declared.fault.ReplayFault.TheVariants.{Memory, Capture, Run as RunOf, Change, TooManyEvents, Write}
 use Rattle.pcap_replay.specs.declared.state.ReplayState.{ReplayState}
 use Rattle.pcap_replay.specs.Lines.{Hearing}
 use Rattle.pcap_replay.specs.Events.{events_told, file_events}
 use Rattle.pcap_replay.specs.Routing.{PlanView}
+use Rattle.pcap_replay.specs.RecordChanges.{changed_by}
 use Rattle.pcap_replay.specs.Replay.{BreaksOffReplay, BreaksReport, EndsBehind, HasHeardAll, HasReplayed, IsReason, StopsAt, StopsFile, WritesFront}
 use Rattle.pcap_replay.proofs.CaseLemmas.{some_maps}
 use Rattle.pcap_replay.proofs.EventLemmas.{first_longer, first_more}
@@ -47,26 +48,32 @@ unopened studio plan first a H run fault r is = record {
   told = some_maps first _ _ (λ file why. (record { items = packets_of file; packets = refl; later = entries_of file; all = refl }, open_reason file fault why)) is;
   events = [];
   first = record { later = file_events studio plan []; whole = refl };
+  changed = [];
+  among = inl refl;
   front = inl (record { datagrams = r.datagrams; first = r.session.given.first; count = 0; wrote = Appends-nil a; told = heard_first studio [] a a H run r });
 }
 
 -- a fault came before the end, and what was held is written
 ends_front : (studio : Studio) (plan : PlanView) (first a b c : Option (List ℕ)) (H : Hearing) (run : ReplayState) (fault : ReplayFault) (s : StopsFile studio plan first a run b H fault)
-    → BreaksReport studio s.stops.events a c H → WritesFront studio plan first a c H fault
+    → BreaksReport (changed_by studio plan s.changed) s.stops.events a c H → WritesFront studio plan first a c H fault
 ends_front studio plan first a b c H run fault s front = record {
   entries = s.entries;
   told = s.told;
   events = s.stops.events;
   first = first_longer s.stops.events (events_told studio plan s.entries) (file_events studio plan s.entries) s.stops.first (first_more (events_told studio plan s.entries) (Closing ∷ []));
+  changed = s.changed;
+  among = s.among;
   front = front;
 }
 
 ends_whole : (studio : Studio) (plan : PlanView) (first a b c : Option (List ℕ)) (H : Hearing) (run : ReplayState) (fault : ReplayFault) → (fault ≡ Write → ⊥) → StopsFile studio plan first a run b H fault
     → Appends b c run.text → BreaksOffReplay studio plan first a c H fault
 ends_whole studio plan first a b c H run Memory other s rest = absurd s.stops.at
-ends_whole studio plan first a b c H run (Capture fault) other s rest = ends_front studio plan first a b c H run (Capture fault) s (inl (broke_whole studio s.stops.events a b c H run s.stops.at rest))
-ends_whole studio plan first a b c H run (RunOf fault) other s rest = ends_front studio plan first a b c H run (RunOf fault) s (inl (broke_whole studio s.stops.events a b c H run s.stops.at rest))
-ends_whole studio plan first a b c H run TooManyEvents other s rest = ends_front studio plan first a b c H run TooManyEvents s (inl (broke_whole studio s.stops.events a b c H run s.stops.at rest))
+ends_whole studio plan first a b c H run (Capture fault) other s rest = ends_front studio plan first a b c H run (Capture fault) s (inl (broke_whole (changed_by studio plan s.changed) s.stops.events a b c H run s.stops.at rest))
+ends_whole studio plan first a b c H run (RunOf fault) other s rest = ends_front studio plan first a b c H run (RunOf fault) s (inl (broke_whole (changed_by studio plan s.changed) s.stops.events a b c H run s.stops.at rest))
+ends_whole studio plan first a b c H run (Change number why) other s rest =
+    ends_front studio plan first a b c H run (Change number why) s (inl (broke_whole (changed_by studio plan s.changed) s.stops.events a b c H run s.stops.at rest))
+ends_whole studio plan first a b c H run TooManyEvents other s rest = ends_front studio plan first a b c H run TooManyEvents s (inl (broke_whole (changed_by studio plan s.changed) s.stops.events a b c H run s.stops.at rest))
 ends_whole studio plan first a b c H run Write other s rest = absurd (other refl)
 
 -- or a write of it failed
@@ -74,6 +81,7 @@ held_at : (studio : Studio) (events : List TraceEvent) (a b : Option (List ℕ))
 held_at studio events a b H run Memory other at = absurd at
 held_at studio events a b H run (Capture fault) other at = at
 held_at studio events a b H run (RunOf fault) other at = at
+held_at studio events a b H run (Change number why) other at = at
 held_at studio events a b H run TooManyEvents other at = at
 held_at studio events a b H run Write other at = absurd (other refl)
 
@@ -83,6 +91,8 @@ as_write studio plan first a c H fault w = record {
   told = some_maps first _ _ (λ file both. (both.0, tt)) w.told;
   events = w.events;
   first = w.first;
+  changed = w.changed;
+  among = w.among;
   front = w.front;
 }
 
@@ -90,12 +100,12 @@ ends_part : (studio : Studio) (plan : PlanView) (first a b c : Option (List ℕ)
     → (n : ℕ) × (n < length run.text) × Appends b c (take n run.text) → BreaksOffReplay studio plan first a c H Write
 ends_part studio plan first a b c H run fault other s part =
     as_write studio plan first a c H fault (ends_front studio plan first a b c H run fault s
-    (inl (broke_part studio s.stops.events a b c H run (held_at studio s.stops.events a b H run fault other s.stops.at) part)))
+    (inl (broke_part (changed_by studio plan s.changed) s.stops.events a b c H run (held_at (changed_by studio plan s.changed) s.stops.events a b H run fault other s.stops.at) part)))
 
 ends_write : (studio : Studio) (plan : PlanView) (first a c : Option (List ℕ)) (H : Hearing) (run : ReplayState) (fault : ReplayFault) → fault ≡ Write → StopsFile studio plan first a run c H fault
     → BreaksOffReplay studio plan first a c H Write
 ends_write studio plan first a c H run fault is s =
-    as_write studio plan first a c H fault (ends_front studio plan first a c c H run fault s (inl (subst (StopsAt studio s.stops.events a run c H) is s.stops.at)))
+    as_write studio plan first a c H fault (ends_front studio plan first a c c H run fault s (inl (subst (StopsAt (changed_by studio plan s.changed) s.stops.events a run c H) is s.stops.at)))
 
 -- an observer received all events and datagrams
 pub heard_all : (studio : Studio) (events : List TraceEvent) (datagrams : List (List ℕ)) (H : Hearing) → IsRunnableBy studio events → AreDatagrams studio events datagrams → H events datagrams → HasHeardAll studio events H

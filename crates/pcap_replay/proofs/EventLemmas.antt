@@ -11,20 +11,21 @@ use Rattle.studio_engine.specs.Session.{turned}
 use Rattle.studio_session.proofs.FaultLemmas.{closed_more}
 use Rattle.studio_engine.proofs.EngineLemmas.{turned_same}
 use Rattle.pcap_replay.specs.Events.{AreFirst, clock_after, events_after, events_with, read_at}
-use Rattle.pcap_replay.specs.Routing.{PlanView, clock_past, opening_of, target_of}
-use Rattle.pcap_replay.specs.declared.routing.StreamPath.{StreamPath}
+use Rattle.pcap_replay.specs.Routing.{PlanView, clock_past, opening_of, role_of}
+use Rattle.pcap_replay.specs.declared.routing.PacketRole.{PacketRole}
+use Rattle.pcap_replay.specs.declared.routing.PacketRole.TheVariants as role
 
 pub events_more : (open_at : ℤ) (plan : PlanView) (clock : CaptureClock) (events : List TraceEvent) (packets : List PacketView) (packet : PacketView)
     → events_after open_at plan clock events (packets ++ packet ∷ [])
-    ≡ events_with open_at (opening_of plan) (clock_after plan clock packets) (events_after open_at plan clock events packets) packet (target_of plan packet)
+    ≡ events_with open_at (opening_of plan) (clock_after plan clock packets) (events_after open_at plan clock events packets) packet (role_of plan packet)
 events_more open_at plan clock events [] packet = refl
 events_more open_at plan clock events (p ∷ packets) packet =
-    events_more open_at plan (clock_past clock p (target_of plan p)) (events_with open_at (opening_of plan) clock events p (target_of plan p)) packets packet
+    events_more open_at plan (clock_past clock p (role_of plan p)) (events_with open_at (opening_of plan) clock events p (role_of plan p)) packets packet
 
 pub clock_more : (plan : PlanView) (clock : CaptureClock) (packets : List PacketView) (packet : PacketView)
-    → clock_after plan clock (packets ++ packet ∷ []) ≡ clock_past (clock_after plan clock packets) packet (target_of plan packet)
+    → clock_after plan clock (packets ++ packet ∷ []) ≡ clock_past (clock_after plan clock packets) packet (role_of plan packet)
 clock_more plan clock [] packet = refl
-clock_more plan clock (p ∷ packets) packet = clock_more plan (clock_past clock p (target_of plan p)) packets packet
+clock_more plan clock (p ∷ packets) packet = clock_more plan (clock_past clock p (role_of plan p)) packets packet
 
 -- some events are the first of themselves, and of more
 pub first_same : (events : List TraceEvent) → AreFirst events events
@@ -59,11 +60,12 @@ pub first_read : (open_at : ℤ) (from : ℕ) (events : List TraceEvent) (earlie
 first_read open_at from events earlier reading =
     first_if (nat_lt earlier reading) events (turned (time_at open_at events) (pos (from + reading)) events) (first_turned (time_at open_at events) (pos (from + reading)) events)
 
-pub first_with : (open_at : ℤ) (from : ℕ) (clock : CaptureClock) (events : List TraceEvent) (packet : PacketView) (o : Option StreamPath) → AreFirst events (events_with open_at from clock events packet o)
-first_with open_at from clock events packet None = first_same events
-first_with open_at from clock events packet (Some target) =
+pub first_with : (open_at : ℤ) (from : ℕ) (clock : CaptureClock) (events : List TraceEvent) (packet : PacketView) (o : PacketRole) → AreFirst events (events_with open_at from clock events packet o)
+first_with open_at from clock events packet role.Passed = first_same events
+first_with open_at from clock events packet (role.Arrival target) =
     first_longer events (read_at open_at from events clock.reading (clock_with clock packet.time).reading) _ (first_read open_at from events clock.reading (clock_with clock packet.time).reading)
     (first_more (read_at open_at from events clock.reading (clock_with clock packet.time).reading) (Arrival target.stream target.path (octets_of packet.ip.body) ∷ []))
+first_with open_at from clock events packet role.Change = first_read open_at from events clock.reading (clock_with clock packet.time).reading
 
 -- none of them is a close
 open_by : (b : Bool) (events : List TraceEvent) (time : ℤ) → closed_at false events ≡ false → closed_at false (if b then events else events ++ Reading time ∷ []) ≡ false

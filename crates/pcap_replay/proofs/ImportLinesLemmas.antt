@@ -30,7 +30,7 @@ use Rattle.studio_run.specs.Fields.{fields_of}
 use Rattle.studio_run.proofs.NumberLemmas.{number_of-decimal}
 use Rattle.pcap_replay.specs.Events.{clock_of, events_after, events_with, read_at, replay_events}
 use Rattle.pcap_replay.specs.ImportLines.{AreLines, IsLineOf, IsPathRoute}
-use Rattle.pcap_replay.specs.Routing.{Flows, clock_past, path_of, path_of_route}
+use Rattle.pcap_replay.specs.Routing.{Flows, clock_past, path_of, role_of_route}
 use Rattle.studio_run.proofs.ReadLineLemmas.{IsLine, reads-event}
 
 -- an octet is none of these
@@ -265,7 +265,7 @@ one_packet false events earlier n rest route packet text all e path is small lat
 -- what a packet's line is, by its route
 abbrev SaidWith : List Route → CaptureClock → List TraceEvent → PacketView → Option Route → List PacketView → Type 0
 SaidWith routes clock events packet o packets = IsSaid events (packet_text clock packet o ++ text_from routes (packet_clock clock packet o) (map Ok packets))
-    (events_after (pos 0) (Flows routes) (clock_past clock packet (path_of_route o)) (events_with (pos 0) 0 clock events packet (path_of_route o)) packets ++ Closing ∷ [])
+    (events_after (pos 0) (Flows routes) (clock_past clock packet (role_of_route o)) (events_with (pos 0) 0 clock events packet (role_of_route o)) packets ++ Closing ∷ [])
 
 said_with : (routes : List Route) (clock : CaptureClock) (events : List TraceEvent) (packet : PacketView) (packets : List PacketView)
     → SaidWith routes clock events packet (route_of routes packet) packets → Said routes (packet ∷ packets) clock events

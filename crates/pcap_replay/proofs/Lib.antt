@@ -1,6 +1,8 @@
 mod CaseLemmas
 mod EndLemmas
 mod EventLemmas
+mod ChangedLemmas
+mod NoChangeLemmas
 mod FlowLemmas
 mod LineLemmas
 mod ReplayLemmas

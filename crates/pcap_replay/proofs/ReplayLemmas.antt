@@ -1,5 +1,5 @@
 -- The part of a report that was written so far.
-use Rattle.std.proofs.Common.{◌≡◌, inl, inr, ◌<◌, ℕ, Bool, List, [], ◌∷◌, ◌++◌, length, map, take, Option, None, option_map, IfSome, Ok, refl, sym, ap, subst, ◌∙◌, append-nil}
+use Rattle.std.proofs.Common.{◌≡◌, inl, inr, ◌<◌, ℕ, Bool, List, [], ◌∷◌, ◌++◌, length, map, take, Option, None, option_map, IfSome, Result, Ok, Err, IfErr, refl, sym, ap, subst, ◌∙◌, append-nil}
 use Rattle.std.specs.Prelude.{⊤}
 use Rattle.std.specs.Io.KnownBytes.{Appends}
 use Rattle.std.proofs.Math.Seq.{take-length}
@@ -24,13 +24,16 @@ use Rattle.studio_run.specs.Buffer.{BreaksOff, PassesOn}
 use Rattle.studio_run.specs.Listing.{datagrams_text}
 use Rattle.studio_run.proofs.BufferLemmas.{BreaksOff-finished, BreaksOff-later, PassesOn-none, PassesOn-finished, PassesOn-trans}
 use Rattle.pcap_replay.specs.declared.fault.ReplayFault.{ReplayFault}
-use Rattle.pcap_replay.specs.declared.fault.ReplayFault.TheVariants.{Memory, Capture, Run as RunOf, TooManyEvents, Write}
+use Rattle.pcap_replay.specs.declared.fault.ReplayFault.TheVariants.{Memory, Capture, Run as RunOf, Change, TooManyEvents, Write}
 use Rattle.pcap_replay.specs.declared.state.ReplayState.{ReplayState}
 use Rattle.pcap_replay.specs.Lines.{BreaksLines, Hearing}
 use Rattle.pcap_replay.specs.Replay.{BeginsWith, BreaksAt, EndsAt, HasBegun, HasComeToClose, HasGoneOver, HasHeardFirst, HasReplayed, HasTaken, IsReason, IsReplaying, IsRun, IsOwn, Stops, StopsAt, StopsFile}
 use Rattle.pcap_replay.specs.Events.{AreFirst, clock_after, clock_of, closed_events, events_of, events_told, events_with, read_at}
-use Rattle.pcap_replay.specs.Routing.{PlanView, Flows, Interfaces, clock_before, clock_past, closing_of, opening_of, target_of}
+use Rattle.pcap_replay.specs.Routing.{PlanView, Flows, Interfaces, clock_before, clock_past, closing_of, opening_of, role_of}
 use Rattle.pcap_replay.specs.Record.{closing_in, closing_with}
+use Rattle.studio_mix.specs.Changed.{with_changes}
+use Rattle.pcap_replay.specs.RecordChanges.{changed_by, changes_with}
+use Rattle.pcap_replay.proofs.ChangedLemmas.{all_but_last, changed_more}
 use Rattle.pcap_replay.proofs.CaseLemmas.{some_maps}
 use Rattle.pcap_replay.proofs.EventLemmas.{clock_more, events_more, first_longer, first_read, first_same}
 use Rattle.pcap_replay.proofs.LineLemmas.{lines_more}
@@ -94,8 +97,34 @@ pub stops_at_run : (studio : Studio) (events : List TraceEvent) (a b : Option (L
 stops_at_run studio events a b H run Memory kind r = absurd kind
 stops_at_run studio events a b H run (Capture fault) kind r = absurd kind
 stops_at_run studio events a b H run (RunOf fault) kind r = r
+stops_at_run studio events a b H run (Change number why) kind r = r
 stops_at_run studio events a b H run TooManyEvents kind r = r
 stops_at_run studio events a b H run Write kind r = absurd kind
+
+-- gains that change leave what was written and what an observer received
+pub gains_replayed : (studio changed : Studio) (events : List TraceEvent) (a b : Option (List ℕ)) (H : Hearing) (old new : ReplayState) → new.text ≡ old.text → new.engine.turning ≡ old.engine.turning
+    → (r : HasReplayed studio events a old b H) → HasSession changed new.engine events r.datagrams → HasReplayed changed events a new b H
+gains_replayed studio changed events a b H old new text turning r session = record {
+  datagrams = r.datagrams;
+  session = session;
+  rested = turning ∙ r.rested;
+  open_yet = r.open_yet;
+  wrote = subst (λ h. PassesOn a [] b h (datagrams_text r.datagrams)) (sym text) r.wrote;
+  told = r.told;
+}
+
+-- such a fault is the replay's own
+own_of : (fault : ReplayFault) → IsRun fault → IsOwn fault
+own_of Memory kind = absurd kind
+own_of (Capture fault) kind = absurd kind
+own_of (RunOf fault) kind = tt
+own_of (Change number why) kind = tt
+own_of TooManyEvents kind = tt
+own_of Write kind = absurd kind
+
+pub own_run : {X : Type 0} (result : Result X ReplayFault) → IfErr result (λ fault. IsRun fault) → IfErr result (λ fault. IsOwn fault)
+own_run (Ok x) kind = tt
+own_run (Err fault) kind = own_of fault kind
 
 -- what stops before some events stops before more
 pub stops_longer : (studio : Studio) (all longer : List TraceEvent) (a c : Option (List ℕ)) (H : Hearing) (run : ReplayState) (fault : ReplayFault) → AreFirst all longer
@@ -131,13 +160,14 @@ begins_cut file entries is = record {
 
 pub begins_ended : (plan : PlanView) (file : List ℕ) (entries : List Entry) → EndsAt plan file entries → BeginsWith file entries
 begins_ended (Flows routes) file entries whole = begins_whole file entries whole
-begins_ended (Interfaces streams open_at) file entries (inl whole) = begins_whole file entries whole
-begins_ended (Interfaces streams open_at) file entries (inr cut) = begins_cut file entries cut
+begins_ended (Interfaces streams open_at changes) file entries (inl whole) = begins_whole file entries whole
+begins_ended (Interfaces streams open_at changes) file entries (inr cut) = begins_cut file entries cut
 
 pub own_reason : (file : List ℕ) (entries : List Entry) (fault : ReplayFault) → IsOwn fault → IsReason file entries fault
 own_reason file entries Memory kind = tt
 own_reason file entries (Capture fault) kind = absurd kind
 own_reason file entries (RunOf fault) kind = tt
+own_reason file entries (Change number why) kind = tt
 own_reason file entries TooManyEvents kind = tt
 own_reason file entries Write kind = tt
 
@@ -149,24 +179,27 @@ long_reason file entries reader.Memory kind = absurd kind
 
 -- one packet more was taken
 next_events : (studio : Studio) (plan : PlanView) (packets : List PacketView) (packet : PacketView) (clock : CaptureClock) → clock ≡ clock_after plan (clock_before plan) packets
-    → events_with studio.open_at (opening_of plan) clock (events_of studio plan packets) packet (target_of plan packet) ≡ events_of studio plan (packets ++ packet ∷ [])
+    → events_with studio.open_at (opening_of plan) clock (events_of studio plan packets) packet (role_of plan packet) ≡ events_of studio plan (packets ++ packet ∷ [])
 next_events studio plan packets packet clock is =
-    ap (λ k. events_with studio.open_at (opening_of plan) k (events_of studio plan packets) packet (target_of plan packet)) is
+    ap (λ k. events_with studio.open_at (opening_of plan) k (events_of studio plan packets) packet (role_of plan packet)) is
     ∙ sym (events_more studio.open_at plan (clock_before plan) [] packets packet)
 
 pub taken_more : (studio : Studio) (plan : PlanView) (packets : List PacketView) (packet : PacketView) (a b c : Option (List ℕ)) (H K : Hearing) (old new : ReplayState) → HasTaken studio plan packets a old b H
-    → new.clock ≡ clock_past old.clock packet (target_of plan packet)
-    → HasReplayed studio (events_with studio.open_at (opening_of plan) old.clock (events_of studio plan packets) packet (target_of plan packet)) a new c K
+    → new.clock ≡ clock_past old.clock packet (role_of plan packet)
+    → HasReplayed (with_changes (changed_by studio plan packets) (changes_with (opening_of plan) packet (role_of plan packet)))
+    (events_with studio.open_at (opening_of plan) old.clock (events_of studio plan packets) packet (role_of plan packet)) a new c K
     → HasTaken studio plan (packets ++ packet ∷ []) a new c K
 taken_more studio plan packets packet a b c H K old new taken clock replayed = record {
-  clock = clock ∙ ap (λ k. clock_past k packet (target_of plan packet)) taken.clock ∙ sym (clock_more plan (clock_before plan) packets packet);
-  replayed = subst (λ l. HasReplayed studio l a new c K) (next_events studio plan packets packet old.clock taken.clock) replayed;
+  clock = clock ∙ ap (λ k. clock_past k packet (role_of plan packet)) taken.clock ∙ sym (clock_more plan (clock_before plan) packets packet);
+  replayed = subst (λ (s : Studio). HasReplayed s (events_of studio plan (packets ++ packet ∷ [])) a new c K) (changed_more studio plan packets packet)
+      (subst (λ l. HasReplayed (with_changes (changed_by studio plan packets) (changes_with (opening_of plan) packet (role_of plan packet))) l a new c K)
+      (next_events studio plan packets packet old.clock taken.clock) replayed);
 }
 
 pub stops_more : (studio : Studio) (plan : PlanView) (packets : List PacketView) (packet : PacketView) (a b c : Option (List ℕ)) (H K : Hearing) (old new : ReplayState) (fault : ReplayFault) → HasTaken studio plan packets a old b H
-    → Stops studio (events_with studio.open_at (opening_of plan) old.clock (events_of studio plan packets) packet (target_of plan packet)) a new c K fault
-    → Stops studio (events_of studio plan (packets ++ packet ∷ [])) a new c K fault
-stops_more studio plan packets packet a b c H K old new fault taken stops = subst (λ l. Stops studio l a new c K fault) (next_events studio plan packets packet old.clock taken.clock) stops
+    → Stops (changed_by studio plan packets) (events_with studio.open_at (opening_of plan) old.clock (events_of studio plan packets) packet (role_of plan packet)) a new c K fault
+    → Stops (changed_by studio plan packets) (events_of studio plan (packets ++ packet ∷ [])) a new c K fault
+stops_more studio plan packets packet a b c H K old new fault taken stops = subst (λ l. Stops (changed_by studio plan packets) l a new c K fault) (next_events studio plan packets packet old.clock taken.clock) stops
 
 pub taken_same : (studio : Studio) (plan : PlanView) (packets : List PacketView) (a c : Option (List ℕ)) (H : Hearing) (run : ReplayState) → HasTaken studio plan packets a run c H → HasTaken studio plan (packets ++ []) a run c H
 taken_same studio plan packets a c H run taken = subst (λ l. HasTaken studio plan l a run c H) (sym (append-nil packets)) taken
@@ -198,32 +231,36 @@ closing_same plan entries told closing same closes = same ∙ ap (closing_of pla
 
 pub come_to_close : (studio : Studio) (plan : PlanView) (told closing : Option ℕ) (from : ℕ) (first a b c : Option (List ℕ)) (H K : Hearing) (old new : ReplayState) → from ≡ opening_of plan → closing ≡ closing_of plan told
     → (gone : HasGoneOver studio plan first a old b H told)
-    → ((events : List TraceEvent) → HasReplayed studio events a old b H → HasReplayed studio (read_at studio.open_at from events old.clock.reading (clock_with old.clock closing).reading) a new c K)
+    → ((changed : Studio) (events : List TraceEvent) → HasReplayed changed events a old b H → HasReplayed changed (read_at changed.open_at from events old.clock.reading (clock_with old.clock closing).reading) a new c K)
     → HasComeToClose studio plan first a new c K
 come_to_close studio plan told closing from first a b c H K old new same closes gone reads =
     let packets = packets_among gone.entries in
     let events = events_of studio plan packets in
+    let changed = changed_by studio plan packets in
     record {
       entries = gone.entries;
       told = gone.told;
-      replayed = subst (λ o. HasReplayed studio (closed_events studio plan packets o) a new c K) (closing_same plan gone.entries told closing closes gone.closes)
-          (subst (λ n. HasReplayed studio (read_at studio.open_at n events (clock_of plan packets).reading (clock_with (clock_of plan packets) closing).reading) a new c K) same
-          (subst (λ k. HasReplayed studio (read_at studio.open_at from events k.reading (clock_with k closing).reading) a new c K) gone.taken.clock (reads events gone.taken.replayed)));
+      replayed = subst (λ o. HasReplayed changed (closed_events studio plan packets o) a new c K) (closing_same plan gone.entries told closing closes gone.closes)
+          (subst (λ n. HasReplayed changed (read_at studio.open_at n events (clock_of plan packets).reading (clock_with (clock_of plan packets) closing).reading) a new c K) same
+          (subst (λ k. HasReplayed changed (read_at studio.open_at from events k.reading (clock_with k closing).reading) a new c K) gone.taken.clock (reads changed events gone.taken.replayed)));
     }
 
 pub stops_at_close : (studio : Studio) (plan : PlanView) (told closing : Option ℕ) (from : ℕ) (first a b c : Option (List ℕ)) (H K : Hearing) (old new : ReplayState) (fault : ReplayFault) → from ≡ opening_of plan → closing ≡ closing_of plan told
     → IsOwn fault → (gone : HasGoneOver studio plan first a old b H told)
-    → ((events : List TraceEvent) → HasReplayed studio events a old b H → Stops studio (read_at studio.open_at from events old.clock.reading (clock_with old.clock closing).reading) a new c K fault)
+    → ((changed : Studio) (events : List TraceEvent) → HasReplayed changed events a old b H → Stops changed (read_at changed.open_at from events old.clock.reading (clock_with old.clock closing).reading) a new c K fault)
     → StopsFile studio plan first a new c K fault
 stops_at_close studio plan told closing from first a b c H K old new fault same closes kind gone reads =
     let packets = packets_among gone.entries in
     let events = events_of studio plan packets in
+    let changed = changed_by studio plan packets in
     record {
       entries = gone.entries;
       told = some_maps first _ _ (λ file whole. (begins_ended plan file gone.entries whole, own_reason file gone.entries fault kind)) gone.told;
-      stops = subst (λ o. Stops studio (closed_events studio plan packets o) a new c K fault) (closing_same plan gone.entries told closing closes gone.closes)
-          (subst (λ n. Stops studio (read_at studio.open_at n events (clock_of plan packets).reading (clock_with (clock_of plan packets) closing).reading) a new c K fault) same
-          (subst (λ k. Stops studio (read_at studio.open_at from events k.reading (clock_with k closing).reading) a new c K fault) gone.taken.clock (reads events gone.taken.replayed)));
+      changed = packets;
+      among = inl refl;
+      stops = subst (λ o. Stops changed (closed_events studio plan packets o) a new c K fault) (closing_same plan gone.entries told closing closes gone.closes)
+          (subst (λ n. Stops changed (read_at studio.open_at n events (clock_of plan packets).reading (clock_with (clock_of plan packets) closing).reading) a new c K fault) same
+          (subst (λ k. Stops changed (read_at studio.open_at from events k.reading (clock_with k closing).reading) a new c K fault) gone.taken.clock (reads changed events gone.taken.replayed)));
     }
 
 -- the events of packets are the first of those up to a close
@@ -235,11 +272,17 @@ before_close studio plan entries =
 -- a fault is behind the entries that were returned
 pub stops_behind : (studio : Studio) (plan : PlanView) (first a : Option (List ℕ)) (run : ReplayState) (parts : BlockParser) (held : List ℕ) (ended : Bool) (left c : Option (List ℕ)) (H : Hearing) (closing : Option ℕ) (fault : ReplayFault)
     (r : IsReplaying studio plan first a run parts held ended left c H closing) → ((file : List ℕ) → HasReturned file r.entries left parts held ended → IsReason file r.entries fault)
-    → ((events : List TraceEvent) → HasReplayed studio events a run c H → StopsAt studio events a run c H fault) → StopsFile studio plan first a run c H fault
+    → ((changed : Studio) (events : List TraceEvent) → HasReplayed changed events a run c H → StopsAt changed events a run c H fault) → StopsFile studio plan first a run c H fault
 stops_behind studio plan first a run parts held ended left c H closing fault r reason at = record {
   entries = r.entries;
   told = some_maps first _ _ (λ file told. (begins file r.entries left parts held ended told, reason file told)) r.told;
-  stops = record { events = events_of studio plan (packets_among r.entries); first = before_close studio plan r.entries; at = at (events_of studio plan (packets_among r.entries)) r.taken.replayed };
+  changed = packets_among r.entries;
+  among = inl refl;
+  stops = record {
+    events = events_of studio plan (packets_among r.entries);
+    first = before_close studio plan r.entries;
+    at = at (changed_by studio plan (packets_among r.entries)) (events_of studio plan (packets_among r.entries)) r.taken.replayed;
+  };
 }
 
 -- a record or a block more was returned
@@ -255,13 +298,15 @@ replaying_more studio plan first a run parts held ended left c H closing entries
 
 -- or its packet's events stopped
 pub stops_among : (studio : Studio) (plan : PlanView) (first a : Option (List ℕ)) (run : ReplayState) (c : Option (List ℕ)) (H : Hearing) (fault : ReplayFault) (entries : List Entry) (part : CaptureBlock)
-    → IfSome first (λ file. BeginsWith file (entries ++ part_entries part)) → IsOwn fault → Stops studio (events_of studio plan (packets_among entries ++ packets_in part)) a run c H fault
+    → IfSome first (λ file. BeginsWith file (entries ++ part_entries part)) → IsOwn fault → Stops (changed_by studio plan (packets_among entries)) (events_of studio plan (packets_among entries ++ packets_in part)) a run c H fault
     → StopsFile studio plan first a run c H fault
 stops_among studio plan first a run c H fault entries part begins kind stops =
     let all = entries ++ part_entries part in
     record {
       entries = all;
       told = some_maps first _ _ (λ file b. (b, own_reason file all fault kind)) begins;
-      stops = stops_longer studio (events_of studio plan (packets_among all)) (events_told studio plan all) a c H run fault (before_close studio plan all)
-          (subst (λ l. Stops studio (events_of studio plan l) a run c H fault) (sym (among_more entries (option_map packet_view part.packet) part.mark)) stops);
+      changed = packets_among entries;
+      among = all_but_last (packets_among entries) (packets_among all) (option_map packet_view part.packet) (among_more entries (option_map packet_view part.packet) part.mark);
+      stops = stops_longer (changed_by studio plan (packets_among entries)) (events_of studio plan (packets_among all)) (events_told studio plan all) a c H run fault (before_close studio plan all)
+          (subst (λ l. Stops (changed_by studio plan (packets_among entries)) (events_of studio plan l) a run c H fault) (sym (among_more entries (option_map packet_view part.packet) part.mark)) stops);
     }

@@ -10,29 +10,32 @@ use Rattle.studio_config.specs.Studio.{Studio}
 use Rattle.studio_session.specs.Event.{TraceEvent, Arrival, Closing}
 use Rattle.studio_session.specs.Fault.{time_at}
 use Rattle.studio_engine.specs.Session.{turned}
-use Rattle.pcap_replay.specs.Routing.{PlanView, clock_before, clock_past, closing_of, opening_of, target_of}
+use Rattle.pcap_replay.specs.Routing.{PlanView, clock_before, clock_past, closing_of, opening_of, role_of}
 use Rattle.pcap_replay.specs.Record.{closing_in}
-use Rattle.pcap_replay.specs.declared.routing.StreamPath.{StreamPath}
+use Rattle.pcap_replay.specs.declared.routing.PacketRole.{PacketRole}
+use Rattle.pcap_replay.specs.declared.routing.PacketRole.TheVariants as role
 
 -- a reading, counted from a time, that is later than the one before is an event, but where it repeats the opening time
 abbrev pub read_at : ℤ → ℕ → List TraceEvent → ℕ → ℕ → List TraceEvent
 read_at open_at from events earlier reading = if nat_lt earlier reading then turned (time_at open_at events) (pos (from + reading)) events else events
 
--- a datagram that goes to a path arrives at the reading of the clock at its time
-abbrev pub events_with : ℤ → ℕ → CaptureClock → List TraceEvent → PacketView → Option StreamPath → List TraceEvent
-events_with open_at from clock events packet None = events
-events_with open_at from clock events packet (Some target) =
+-- a datagram that goes to a path arrives at the reading of the clock at its time, and a change of gains comes at one
+abbrev pub events_with : ℤ → ℕ → CaptureClock → List TraceEvent → PacketView → PacketRole → List TraceEvent
+events_with open_at from clock events packet role.Passed = events
+events_with open_at from clock events packet (role.Arrival target) =
     read_at open_at from events clock.reading (clock_with clock packet.time).reading ++ Arrival target.stream target.path (octets_of packet.ip.body) ∷ []
+events_with open_at from clock events packet role.Change =
+    read_at open_at from events clock.reading (clock_with clock packet.time).reading
 
 -- packet by packet, after some events
 abbrev pub events_after : ℤ → PlanView → CaptureClock → List TraceEvent → List PacketView → List TraceEvent
 events_after open_at plan clock events [] = events
 events_after open_at plan clock events (packet ∷ packets) =
-    events_after open_at plan (clock_past clock packet (target_of plan packet)) (events_with open_at (opening_of plan) clock events packet (target_of plan packet)) packets
+    events_after open_at plan (clock_past clock packet (role_of plan packet)) (events_with open_at (opening_of plan) clock events packet (role_of plan packet)) packets
 
 abbrev pub clock_after : PlanView → CaptureClock → List PacketView → CaptureClock
 clock_after plan clock [] = clock
-clock_after plan clock (packet ∷ packets) = clock_after plan (clock_past clock packet (target_of plan packet)) packets
+clock_after plan clock (packet ∷ packets) = clock_after plan (clock_past clock packet (role_of plan packet)) packets
 
 -- those of a capture's packets
 abbrev pub events_of : Studio → PlanView → List PacketView → List TraceEvent

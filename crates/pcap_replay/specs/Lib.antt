@@ -2,6 +2,7 @@ pub mod Flows
 pub mod Routing
 pub mod Events
 pub mod Record
+pub mod RecordChanges
 pub mod RecordPackets
 pub mod Lines
 pub mod Observed
@@ -15,12 +16,14 @@ pub use Rattle.pcap_file.specs.Capture
 pub use Rattle.pcap_file.specs.Entries
 pub use Rattle.pcap_file.specs.ReadBuffer
 pub use Rattle.pcap_file.specs.Reader
+pub use Rattle.pcap_file.specs.RecordedChange
 pub use Rattle.pcap_flows.specs.FlowTable
 pub use Rattle.pcap_flows.specs.Trace
 pub use Rattle.pcap_flows.specs.Clock
 pub use Rattle.mix_packets.specs.OutSpec
 pub use Rattle.path_merge.specs.Clock as MergeClock
 pub use Rattle.studio_config.specs.Studio
+pub use Rattle.studio_mix.specs.Changed
 pub use Rattle.studio_session.specs.Event
 pub use Rattle.studio_session.specs.Fault
 pub use Rattle.studio_session.specs.Pruned

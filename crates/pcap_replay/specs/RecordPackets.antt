@@ -1,17 +1,56 @@
--- The packets that a run's arrivals are in its record.
-use Rattle.std.specs.Prelude.{◌≡◌, ℕ, zero, suc, ◌+◌, ℤ, pos, ◌+ℤ◌, ◌<ℤ◌, List, [], ◌∷◌, Option, Some}
+-- The packets that what a run took are in its record.
+use Rattle.std.specs.Prelude.{◌≡◌, ℕ, zero, suc, ◌+◌, Bool, true, false, ℤ, pos, ◌+ℤ◌, ◌-ℤ◌, ◌<ℤ◌, List, [], ◌∷◌, Option, Some, if◌then◌else◌}
 use Rattle.pcap_file.specs.Packet.{PacketView}
+use Rattle.pcap_file.specs.RecordedChange.{change_of}
 use Rattle.pcap_flows.specs.Clock.{instants_in}
 use Rattle.pcap_flows.specs.Trace.{octets_of}
 use Rattle.rtp_stream.specs.declared.stream_spec.Stream.{Stream}
 use Rattle.studio_config.specs.Studio.{Studio}
 use Rattle.studio_session.specs.Event.{TraceEvent, Arrival, Reading, Closing}
 
+-- what a run takes: an event, or a change to these gains, which are in force from a time on
+pub data Step : Type 0 where
+  Happens : TraceEvent → Step
+  Changes : ℤ → List ℤ → Step
+
+-- the events of a run
+abbrev pub events_in : List Step → List TraceEvent
+events_in [] = []
+events_in (Happens event ∷ steps) = event ∷ events_in steps
+events_in (Changes at gains ∷ steps) = events_in steps
+
+-- its changes of gains
+abbrev pub changes_in : List Step → List (ℤ × List ℤ)
+changes_in [] = []
+changes_in (Happens event ∷ steps) = changes_in steps
+changes_in (Changes at gains ∷ steps) = (at, gains) ∷ changes_in steps
+
+-- a reading is the first that it takes
+abbrev pub takes_reading : List Step → Bool
+takes_reading [] = false
+takes_reading (Happens (Arrival stream path octets) ∷ steps) = false
+takes_reading (Happens (Reading time) ∷ steps) = true
+takes_reading (Happens Closing ∷ steps) = false
+takes_reading (Changes at gains ∷ steps) = false
+
+-- the events of a run without each reading that another one follows directly; a change of gains may be between two
+abbrev pub kept_events : List Step → List TraceEvent
+kept_events [] = []
+kept_events (Happens (Arrival stream path octets) ∷ steps) = Arrival stream path octets ∷ kept_events steps
+kept_events (Happens (Reading time) ∷ steps) = if takes_reading steps then kept_events steps else Reading time ∷ kept_events steps
+kept_events (Happens Closing ∷ steps) = Closing ∷ kept_events steps
+kept_events (Changes at gains ∷ steps) = kept_events steps
+
 -- the place of a path among those of all streams, one stream after another
 abbrev pub place_of : List Stream → ℕ → ℕ → ℕ
 place_of [] stream path = path
 place_of (s ∷ streams) zero path = path
 place_of (s ∷ streams) (suc stream) path = s.paths + place_of streams stream path
+
+-- the number of all paths, which is the place behind them
+abbrev pub path_total : List Stream → ℕ
+path_total [] = 0
+path_total (s ∷ streams) = s.paths + path_total streams
 
 -- the recorded nanoseconds have as many whole sampling instants as a time is behind an opening
 pub record IsAt (open_at time : ℤ) (told : Option ℕ) : Type 0 where
@@ -25,14 +64,25 @@ pub record IsPacketOf (studio : Studio) (time : ℤ) (stream path : ℕ) (octets
   pub time_is : IsAt studio.open_at time packet.time
   pub octets_are : octets_of packet.ip.body ≡ octets
 
--- after a reading, these packets are those of the events' arrivals, each at the reading before it, and this is the time of the close behind them
-abbrev pub AreRecorded : Studio → ℤ → List TraceEvent → List PacketView → Option ℕ → Type 0
+-- the packet of a change of gains that was taken at a reading: it is on the interface behind those of all paths
+pub record IsChangeOf (studio : Studio) (time at : ℤ) (gains : List ℤ) (packet : PacketView) : Type 0 where
+  pub interface : packet.interface ≡ path_total studio.streams
+  pub time_is : IsAt studio.open_at time packet.time
+  pub next_block : ℕ
+  pub payload : change_of (octets_of packet.ip.body) ≡ Some (record { at = at -ℤ studio.open_at; next_block = next_block; gains = gains })
+
+-- after a reading, these packets are those of the arrivals and changes that a run takes, each at the reading before it, and this is
+-- the time of the close behind them
+abbrev pub AreRecorded : Studio → ℤ → List Step → List PacketView → Option ℕ → Type 0
 AreRecorded studio time [] packets closing = ⊥
-AreRecorded studio time (Arrival stream path octets ∷ events) [] closing = ⊥
-AreRecorded studio time (Arrival stream path octets ∷ events) (packet ∷ packets) closing =
-    IsPacketOf studio time stream path octets packet × AreRecorded studio time events packets closing
-AreRecorded studio time (Reading u ∷ events) packets closing = AreRecorded studio u events packets closing
-AreRecorded studio time (Closing ∷ events) packets closing = (events ≡ []) × (packets ≡ []) × IsAt studio.open_at time closing
+AreRecorded studio time (Happens (Arrival stream path octets) ∷ steps) [] closing = ⊥
+AreRecorded studio time (Happens (Arrival stream path octets) ∷ steps) (packet ∷ packets) closing =
+    IsPacketOf studio time stream path octets packet × AreRecorded studio time steps packets closing
+AreRecorded studio time (Happens (Reading u) ∷ steps) packets closing = AreRecorded studio u steps packets closing
+AreRecorded studio time (Happens Closing ∷ steps) packets closing = (steps ≡ []) × (packets ≡ []) × IsAt studio.open_at time closing
+AreRecorded studio time (Changes at gains ∷ steps) [] closing = ⊥
+AreRecorded studio time (Changes at gains ∷ steps) (packet ∷ packets) closing =
+    IsChangeOf studio time at gains packet × AreRecorded studio time steps packets closing
 
 -- each reading is later than the one before, or than a time before all
 abbrev pub AreRising : ℤ → List TraceEvent → Type 0

@@ -1,5 +1,5 @@
 -- The paths that a record of a studio's configuration describes.
-use Rattle.std.specs.Prelude.{◌≡◌, ◌⊎◌, ℕ, zero, suc, ◌+◌, List, [], ◌∷◌}
+use Rattle.std.specs.Prelude.{◌≡◌, ◌⊎◌, ℕ, zero, suc, ◌+◌, List, [], ◌∷◌, codes}
 use Rattle.rtp_wire.specs.declared.encoding.Enc.{Enc}
 use Rattle.rtp_wire.specs.declared.encoding.Enc.TheVariants.{L16, L24}
 use Rattle.rtp_stream.specs.declared.stream_spec.Stream.{Stream}
@@ -36,8 +36,18 @@ Begins number stream letter zero paths rest = paths ≡ rest
 Begins number stream letter (suc count) [] rest = ⊥
 Begins number stream letter (suc count) (path ∷ paths) rest = IsPathOf number stream letter path × Begins number stream (letter + 1) count paths rest
 
+-- the interface of changes of gains, by its name and its description
+abbrev pub IsOfGains : RecordedPath → Type 0
+IsOfGains interface = (interface.name.items ≡ codes "gains") × (interface.description.items ≡ codes "gains")
+
+-- behind all paths there is nothing, or the interface of changes of gains
+abbrev pub AreBehind : List RecordedPath → Type 0
+AreBehind [] = Unit {0}
+AreBehind (interface ∷ []) = IsOfGains interface
+AreBehind (interface ∷ other ∷ more) = ⊥
+
 -- the paths of streams, whose numbers count up from this one: all paths of each, from a on
 abbrev pub ArePathsOf : ℕ → List Stream → List RecordedPath → Type 0
-ArePathsOf number [] paths = paths ≡ []
+ArePathsOf number [] paths = AreBehind paths
 ArePathsOf number (stream ∷ streams) paths =
     (rest : List RecordedPath) × Begins number stream 97 stream.paths paths rest × ArePathsOf (number + 1) streams rest

@@ -8,6 +8,7 @@ use Rattle.pcap_file.specs.Capture.{Item, packets_of}
 use Rattle.pcap_file.specs.declared.fault.ReaderFault.{ReaderFault}
 use Rattle.pcap_file.specs.declared.fault.ReaderFault.TheVariants as reader
 use Rattle.pcap_file.specs.Reader.{HasEntries, HasReturned, IsCutBehind, packets_among}
+use Rattle.rtp_stream.specs.declared.stream_spec.Stream.{Stream}
 use Rattle.studio_config.specs.Studio.{Studio}
 use Rattle.studio_mix.specs.Blocks.{AreFirstBlocks}
 use Rattle.studio_session.specs.Event.{TraceEvent}
@@ -20,12 +21,13 @@ use Rattle.studio_run.specs.Listing.{datagrams_text}
 use Rattle.studio_run.specs.Play.{WritesEvents}
 use Rattle.studio_run.specs.StudioReport.{IsReport}
 use Rattle.pcap_replay.specs.declared.fault.ReplayFault.{ReplayFault}
-use Rattle.pcap_replay.specs.declared.fault.ReplayFault.TheVariants.{Memory, Capture, Run as RunOf, TooManyEvents, Write}
+use Rattle.pcap_replay.specs.declared.fault.ReplayFault.TheVariants.{Memory, Capture, Run as RunOf, Change, TooManyEvents, Write}
 use Rattle.pcap_replay.specs.declared.state.ReplayState.{ReplayState}
 use Rattle.pcap_replay.specs.Lines.{Hearing}
 use Rattle.pcap_replay.specs.Events.{AreFirst, clock_of, events_of, events_told, file_events}
 use Rattle.pcap_replay.specs.Routing.{PlanView, Flows, Interfaces}
 use Rattle.pcap_replay.specs.Record.{closing_in}
+use Rattle.pcap_replay.specs.RecordChanges.{AreAllButLast, changed_by}
 
 -- the engine took these events, the lines of the datagrams that it returned were written or are held, and an observer received both
 pub record HasReplayed (studio : Studio) (events : List TraceEvent) (written : Option (List ℕ)) (run : ReplayState) (written_then : Option (List ℕ)) (heard : Hearing) : Type 0 where
@@ -64,6 +66,7 @@ abbrev pub StopsAt : Studio → List TraceEvent → Option (List ℕ) → Replay
 StopsAt studio events written run written_then heard Memory = ⊥
 StopsAt studio events written run written_then heard (Capture fault) = HasReplayed studio events written run written_then heard
 StopsAt studio events written run written_then heard (RunOf fault) = HasReplayed studio events written run written_then heard
+StopsAt studio events written run written_then heard (Change number kind) = HasReplayed studio events written run written_then heard
 StopsAt studio events written run written_then heard TooManyEvents = HasReplayed studio events written run written_then heard
 StopsAt studio events written run written_then heard Write = BreaksAt studio events written written_then heard
 
@@ -80,10 +83,10 @@ pub record BeginsWith (file : List ℕ) (entries : List Entry) : Type 0 where
   pub later : List Entry
   pub all : entries_of file ≡ entries ++ later
 
--- the events of these packets were taken, and the clock is theirs
+-- the events of these packets were taken by the studio with their changes, and the clock is theirs
 pub record HasTaken (studio : Studio) (plan : PlanView) (packets : List PacketView) (written : Option (List ℕ)) (run : ReplayState) (written_then : Option (List ℕ)) (heard : Hearing) : Type 0 where
   pub clock : run.clock ≡ clock_of plan packets
-  pub replayed : HasReplayed studio (events_of studio plan packets) written run written_then heard
+  pub replayed : HasReplayed (changed_by studio plan packets) (events_of studio plan packets) written run written_then heard
 
 -- the packets among the entries of a file so far were replayed, and this is known of the close
 pub record IsReplaying (studio : Studio) (plan : PlanView) (first : Option (List ℕ)) (written : Option (List ℕ)) (run : ReplayState) (parts : BlockParser) (held : List ℕ) (ended : Bool) (left written_then : Option (List ℕ)) (heard : Hearing) (closing : Option ℕ) : Type 0 where
@@ -95,7 +98,7 @@ pub record IsReplaying (studio : Studio) (plan : PlanView) (first : Option (List
 -- a file ends behind these entries: it has no fault, or, of a record, its last block is cut
 abbrev pub EndsAt : PlanView → List ℕ → List Entry → Type 0
 EndsAt (Flows routes) file entries = HasEntries file entries
-EndsAt (Interfaces streams open_at) file entries = HasEntries file entries ⊎ IsCutBehind file entries
+EndsAt (Interfaces streams open_at changes) file entries = HasEntries file entries ⊎ IsCutBehind file entries
 
 -- those of a whole file were
 pub record HasGoneOver (studio : Studio) (plan : PlanView) (first : Option (List ℕ)) (written : Option (List ℕ)) (run : ReplayState) (written_then : Option (List ℕ)) (heard : Hearing) (closing : Option ℕ) : Type 0 where
@@ -108,7 +111,7 @@ pub record HasGoneOver (studio : Studio) (plan : PlanView) (first : Option (List
 pub record HasComeToClose (studio : Studio) (plan : PlanView) (first : Option (List ℕ)) (written : Option (List ℕ)) (run : ReplayState) (written_then : Option (List ℕ)) (heard : Hearing) : Type 0 where
   pub entries : List Entry
   pub told : IfSome first (λ file. EndsAt plan file entries)
-  pub replayed : HasReplayed studio (events_told studio plan entries) written run written_then heard
+  pub replayed : HasReplayed (changed_by studio plan (packets_among entries)) (events_told studio plan entries) written run written_then heard
 
 -- a file's fault is the one behind its packets
 abbrev pub IsFileFault : List ℕ → List Entry → ReaderFault → Type 0
@@ -121,14 +124,17 @@ abbrev pub IsReason : List ℕ → List Entry → ReplayFault → Type 0
 IsReason file entries Memory = Unit {0}
 IsReason file entries (Capture fault) = IsFileFault file entries fault
 IsReason file entries (RunOf fault) = Unit {0}
+IsReason file entries (Change number kind) = Unit {0}
 IsReason file entries TooManyEvents = Unit {0}
 IsReason file entries Write = Unit {0}
 
--- a fault came among the events of a file's first entries
+-- a fault came among the events of a file's first entries; the changes of all of these were taken, or of all but the last packet
 pub record StopsFile (studio : Studio) (plan : PlanView) (first : Option (List ℕ)) (written : Option (List ℕ)) (run : ReplayState) (written_then : Option (List ℕ)) (heard : Hearing) (fault : ReplayFault) : Type 0 where
   pub entries : List Entry
   pub told : IfSome first (λ file. BeginsWith file entries × IsReason file entries fault)
-  pub stops : Stops studio (events_told studio plan entries) written run written_then heard fault
+  pub changed : List PacketView
+  pub among : AreAllButLast changed (packets_among entries)
+  pub stops : Stops (changed_by studio plan changed) (events_told studio plan entries) written run written_then heard fault
 
 -- an observer received all these events, whose readings are in order, and exactly the datagrams that they give
 pub record HasHeardAll (studio : Studio) (events : List TraceEvent) (heard : Hearing) : Type 0 where
@@ -137,12 +143,13 @@ pub record HasHeardAll (studio : Studio) (events : List TraceEvent) (heard : Hea
   pub given : AreDatagrams studio events datagrams
   pub told : heard events datagrams
 
--- the report of a file's events was written, and an observer received them; the file ends behind them
+-- the report of a file's events was written, by the studio with the changes of its packets, and an observer received them; the file
+-- ends behind them
 pub record WritesReplay (studio : Studio) (plan : PlanView) (left : Option (List ℕ)) (written written_then : Option (List ℕ)) (heard : Hearing) : Type 0 where
   pub entries : List Entry
   pub told : IfSome left (λ file. EndsAt plan file entries)
-  pub writes : WritesEvents studio IsReport (file_events studio plan entries) written written_then
-  pub hears : HasHeardAll studio (file_events studio plan entries) heard
+  pub writes : WritesEvents (changed_by studio plan (packets_among entries)) IsReport (file_events studio plan entries) written written_then
+  pub hears : HasHeardAll (changed_by studio plan (packets_among entries)) (file_events studio plan entries) heard
 
 -- a prefix of the report of events was written: of its datagrams, or of all
 abbrev pub BreaksReport : Studio → List TraceEvent → Option (List ℕ) → Option (List ℕ) → Hearing → Type 0
@@ -150,19 +157,22 @@ BreaksReport studio events written written_then heard =
     BreaksAt studio events written written_then heard
     ⊎ (((report : List ℕ) → IsReport studio events report → BreaksOff written [] written_then report) × HasHeardAll studio events heard)
 
--- a prefix of it was: of the datagrams of its first events, or of all
+-- a prefix of it was: of the datagrams of its first events, or of all; the changes of all packets were taken, or of all but the last
 pub record WritesFront (studio : Studio) (plan : PlanView) (left : Option (List ℕ)) (written written_then : Option (List ℕ)) (heard : Hearing) (fault : ReplayFault) : Type 0 where
   pub entries : List Entry
   pub told : IfSome left (λ file. BeginsWith file entries × IsReason file entries fault)
   pub events : List TraceEvent
   pub first : AreFirst events (file_events studio plan entries)
-  pub front : BreaksReport studio events written written_then heard
+  pub changed : List PacketView
+  pub among : AreAllButLast changed (packets_among entries)
+  pub front : BreaksReport (changed_by studio plan changed) events written written_then heard
 
 -- why the report was not written: memory was refused before, or a fault came after a part of it
 abbrev pub BreaksOffReplay : Studio → PlanView → Option (List ℕ) → Option (List ℕ) → Option (List ℕ) → Hearing → ReplayFault → Type 0
 BreaksOffReplay studio plan left written written_then heard Memory = (written_then ≡ written) × heard [] []
 BreaksOffReplay studio plan left written written_then heard (Capture fault) = WritesFront studio plan left written written_then heard (Capture fault)
 BreaksOffReplay studio plan left written written_then heard (RunOf fault) = WritesFront studio plan left written written_then heard (RunOf fault)
+BreaksOffReplay studio plan left written written_then heard (Change number kind) = WritesFront studio plan left written written_then heard (Change number kind)
 BreaksOffReplay studio plan left written written_then heard TooManyEvents = WritesFront studio plan left written written_then heard TooManyEvents
 BreaksOffReplay studio plan left written written_then heard Write = WritesFront studio plan left written written_then heard Write
 
@@ -173,11 +183,12 @@ EndsBehind held written written_then fault result =
     ⊎ ((fault ≢ Write) × (((result ≡ fault) × Appends written written_then held)
     ⊎ ((result ≡ Write) × ((n : ℕ) × (n < length held) × Appends written written_then (take n held)))))
 
--- an event is at fault, or there are too many
+-- an event or a change of gains is at fault, or there are too many events
 abbrev pub IsRun : ReplayFault → Type 0
 IsRun Memory = ⊥
 IsRun (Capture fault) = ⊥
 IsRun (RunOf fault) = Unit {0}
+IsRun (Change number kind) = Unit {0}
 IsRun TooManyEvents = Unit {0}
 IsRun Write = ⊥
 
@@ -186,11 +197,14 @@ abbrev pub IsOwn : ReplayFault → Type 0
 IsOwn Memory = ⊥
 IsOwn (Capture fault) = ⊥
 IsOwn (RunOf fault) = Unit {0}
+IsOwn (Change number kind) = Unit {0}
 IsOwn TooManyEvents = Unit {0}
 IsOwn Write = Unit {0}
 
--- the run took some events, and may be closed
-pub record CanClose (studio : Studio) (run : ReplayState) (written_then : Option (List ℕ)) : Type 0 where
+-- a studio of these streams took some events, and may be closed
+pub record CanClose (streams : List Stream) (run : ReplayState) (written_then : Option (List ℕ)) : Type 0 where
+  pub studio : Studio
+  pub same : studio.streams ≡ streams
   pub events : List TraceEvent
   pub written : Option (List ℕ)
   pub replayed : HasReplayed studio events written run written_then (λ _ _. ⊤)

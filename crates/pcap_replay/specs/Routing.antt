@@ -1,5 +1,5 @@
 -- The path to which each datagram of a capture goes, and the time from which its readings count.
-use Rattle.std.specs.Prelude.{ℕ, ◌+◌, ◌-◌, nat_lt, List, [], ◌∷◌, Option, Some, None, if◌then◌else◌}
+use Rattle.std.specs.Prelude.{ℕ, ◌+◌, ◌-◌, nat_lt, ◌==◌, List, [], ◌∷◌, Option, Some, None, if◌then◌else◌}
 use Rattle.pcap_file.specs.Packet.{PacketView}
 use Rattle.pcap_flows.specs.declared.import.clock.CaptureClock.{CaptureClock}
 use Rattle.pcap_flows.specs.declared.routes.Route.{Route}
@@ -10,58 +10,69 @@ use Rattle.lane_align.specs.Lane.{natural}
 use Rattle.studio_config.specs.Studio.{Studio}
 use Rattle.pcap_replay.specs.declared.routing.Routing as declared
 use Rattle.pcap_replay.specs.declared.routing.Routing.TheVariants as plan
-use Rattle.pcap_replay.specs.declared.routing.StreamPath.{StreamPath}
+use Rattle.pcap_replay.specs.declared.routing.PacketRole.{PacketRole}
+use Rattle.pcap_replay.specs.declared.routing.PacketRole.TheVariants as role
+use Rattle.pcap_replay.specs.declared.changes.RecordedChanges.{RecordedChanges}
+use Rattle.pcap_replay.specs.declared.changes.RecordedChanges.TheVariants.{Taken, Skipped}
 
--- flows have routes, and readings count from the first time; or interfaces are the places of these streams' paths,
--- and readings count from an opening time, in sampling instants
+-- flows have routes, and readings count from the first time; or interfaces are the places of these streams' paths, readings count
+-- from an opening time, in sampling instants, and the changes of gains are taken or skipped
 pub data PlanView : Type 0 where
   Flows : List Route → PlanView
-  Interfaces : List Stream → ℕ → PlanView
+  Interfaces : List Stream → ℕ → RecordedChanges → PlanView
 
 -- the view of the value in the code
 abbrev pub plan_view : declared.Routing → PlanView
 plan_view (plan.Flows routes) = Flows routes.now
-plan_view (plan.Interfaces streams open_at) = Interfaces streams.now open_at
+plan_view (plan.Interfaces streams open_at changes) = Interfaces streams.now open_at changes
 
 -- the path that a letter names, from `a`, 97, on
 abbrev pub path_of : ℕ → ℕ
 path_of letter = letter - 97
 
--- the path at a place among those of all streams, one stream after another; past them all it is one of a stream that is none
-unfoldable pub path_at : ℕ → List Stream → ℕ → StreamPath
-path_at number [] place = record { stream = number; path = 0 }
-path_at number (stream ∷ streams) place =
-    if nat_lt place stream.paths then record { stream = number; path = place } else path_at (number + 1) streams (place - stream.paths)
+-- a change of gains is one, or nothing
+abbrev pub role_by : RecordedChanges → PacketRole
+role_by Taken = role.Change
+role_by Skipped = role.Passed
 
-abbrev pub path_of_route : Option Route → Option StreamPath
-path_of_route None = None
-path_of_route (Some route) = Some (record { stream = route.stream; path = path_of route.letter })
+-- what a packet at a place is: a datagram of the path at that place among those of all streams, one stream after another, or, at
+-- the place behind them, a change of gains; past that it's one of a stream that is none
+unfoldable pub role_at : RecordedChanges → ℕ → List Stream → ℕ → PacketRole
+role_at changes number [] place = if place == 0 then role_by changes else role.Arrival (record { stream = number; path = 0 })
+role_at changes number (stream ∷ streams) place =
+    if nat_lt place stream.paths then role.Arrival (record { stream = number; path = place })
+    else role_at changes (number + 1) streams (place - stream.paths)
 
--- where a packet goes: by its flow's route, or by its interface
-abbrev pub target_of : PlanView → PacketView → Option StreamPath
-target_of (Flows routes) packet = path_of_route (route_of routes packet)
-target_of (Interfaces streams open_at) packet = Some (path_at 0 streams packet.interface)
+abbrev pub role_of_route : Option Route → PacketRole
+role_of_route None = role.Passed
+role_of_route (Some route) = role.Arrival (record { stream = route.stream; path = path_of route.letter })
+
+-- what a packet is, and where it goes: by its flow's route, or by its interface
+abbrev pub role_of : PlanView → PacketView → PacketRole
+role_of (Flows routes) packet = role_of_route (route_of routes packet)
+role_of (Interfaces streams open_at changes) packet = role_at changes 0 streams packet.interface
 
 -- the time from which readings count
 abbrev pub opening_of : PlanView → ℕ
 opening_of (Flows routes) = 0
-opening_of (Interfaces streams open_at) = open_at
+opening_of (Interfaces streams open_at changes) = open_at
 
 -- the clock before the first packet: it counts from the first time, or from time 0
 abbrev pub clock_before : PlanView → CaptureClock
 clock_before (Flows routes) = clock_begun
-clock_before (Interfaces streams open_at) = clock_with clock_begun (Some 0)
+clock_before (Interfaces streams open_at changes) = clock_with clock_begun (Some 0)
 
 -- the time of the close by the marks, which count only in a record
 abbrev pub closing_of : PlanView → Option ℕ → Option ℕ
 closing_of (Flows routes) told = None
-closing_of (Interfaces streams open_at) told = told
+closing_of (Interfaces streams open_at changes) told = told
 
 -- packets that go nowhere move no clock
-abbrev pub clock_past : CaptureClock → PacketView → Option StreamPath → CaptureClock
-clock_past clock packet None = clock
-clock_past clock packet (Some target) = clock_with clock packet.time
+abbrev pub clock_past : CaptureClock → PacketView → PacketRole → CaptureClock
+clock_past clock packet role.Passed = clock
+clock_past clock packet (role.Arrival target) = clock_with clock packet.time
+clock_past clock packet role.Change = clock_with clock packet.time
 
 -- a record of a studio's run: interfaces are the places of its paths, and readings count from its opening
-abbrev pub places_of : Studio → PlanView
-places_of studio = Interfaces studio.streams (natural studio.open_at)
+abbrev pub places_of : Studio → RecordedChanges → PlanView
+places_of studio changes = Interfaces studio.streams (natural studio.open_at) changes

@@ -1,4 +1,5 @@
-//! The events of a capture: for each packet that has a path a clock reading and an arrival.
+//! The events of a capture: for each packet that has a path a clock reading and an arrival, and for each change of
+//! gains a reading.
 ghost use Rattle.std.specs.Prelude.{
   ◌≡◌,
   ◌≤◌,
@@ -30,7 +31,9 @@ ghost use Rattle.path_merge.specs.Clock.{clock_fault_of};
 ghost use Rattle.studio_config.specs.Studio.{Studio};
 ghost use Rattle.studio_session.specs.Event.{TraceEvent, Arrival};
 ghost use Rattle.pcap_replay.specs.Events.{events_of, events_with, read_at};
-ghost use Rattle.pcap_replay.specs.Routing.{clock_past, opening_of, plan_view, target_of};
+ghost use Rattle.studio_mix.specs.Changed.{with_changes};
+ghost use Rattle.pcap_replay.specs.RecordChanges.{changed_by, changes_with};
+ghost use Rattle.pcap_replay.specs.Routing.{clock_past, opening_of, plan_view, role_of};
 ghost use Rattle.pcap_replay.specs.Record.{closing_with};
 ghost use Rattle.pcap_replay.specs.Replay.{
   HasGoneOver,
@@ -49,7 +52,7 @@ use crate::fault::ReplayFault;
 use crate::observer::ReplayObserver;
 use crate::output::write_turn;
 use crate::record_times::first_close;
-use crate::routing::{Routing, StreamPath};
+use crate::routing::{PacketRole, Routing, StreamPath};
 use crate::state::ReplayState;
 use path_merge::{Path, clock_fault};
 use pcap_file::{
@@ -137,7 +140,7 @@ impl ReplayState {
         }
     }
 
-    /// Takes the events of a record or a block: those of its packet, if it has one.
+    /// Takes the events and the change of a record or a block: those of its packet, if it has one.
     fn take_part<W: Write, L: ReplayObserver>(
         &mut self,
         plan: &Routing<'_>,
@@ -154,7 +157,8 @@ impl ReplayState {
             (λ fault. (studio : Studio) (packets : List PacketView) (written : Option (List ℕ)) (begun : L)
             → HasTaken studio (plan_view plan.now) packets written self.old (W.contents writer.old)
             (L.heard begun observer.old)
-            → Stops studio (events_of studio (plan_view plan.now) (packets ++ packets_in part.now)) written self.new
+            → Stops (changed_by studio (plan_view plan.now) packets)
+            (events_of studio (plan_view plan.now) (packets ++ packets_in part.now)) written self.new
             (W.contents writer.new) (L.heard begun observer.new) fault) }
         ensures kind { IfErr result (λ fault. IsOwn fault) }
     {
@@ -164,7 +168,8 @@ impl ReplayState {
         }
     }
 
-    /// Takes the events of a packet: a clock reading and an arrival, if it has a path.
+    /// Takes the events and the change of a packet: a clock reading and an arrival if it goes to a path, and a reading
+    /// and the change if it is a change of gains.
     fn take<W: Write, L: ReplayObserver>(
         &mut self,
         plan: &Routing<'_>,
@@ -174,27 +179,86 @@ impl ReplayState {
     ) -> Result<(), ReplayFault>
         ensures ok { OnOk result ((studio : Studio) (events : List TraceEvent) (written : Option (List ℕ)) (begun : L)
             → HasReplayed studio events written self.old (W.contents writer.old) (L.heard begun observer.old)
-            → HasReplayed studio
+            → HasReplayed
+            (with_changes studio (changes_with (opening_of (plan_view plan.now)) (packet_view packet.now)
+            (role_of (plan_view plan.now) (packet_view packet.now))))
             (events_with studio.open_at (opening_of (plan_view plan.now)) self.old.clock events (packet_view packet.now)
-            (target_of (plan_view plan.now) (packet_view packet.now))) written self.new (W.contents writer.new)
+            (role_of (plan_view plan.now) (packet_view packet.now))) written self.new (W.contents writer.new)
             (L.heard begun observer.new)) }
         ensures kind { IfErr result (λ fault. IsOwn fault) }
         ensures clock { OnOk result (self.new.clock
             ≡ clock_past self.old.clock (packet_view packet.now)
-            (target_of (plan_view plan.now) (packet_view packet.now))) }
+            (role_of (plan_view plan.now) (packet_view packet.now))) }
         ensures fault { IfErr result
             (λ fault. (studio : Studio) (events : List TraceEvent) (written : Option (List ℕ)) (begun : L)
             → HasReplayed studio events written self.old (W.contents writer.old) (L.heard begun observer.old)
             → Stops studio
             (events_with studio.open_at (opening_of (plan_view plan.now)) self.old.clock events (packet_view packet.now)
-            (target_of (plan_view plan.now) (packet_view packet.now))) written self.new (W.contents writer.new)
+            (role_of (plan_view plan.now) (packet_view packet.now))) written self.new (W.contents writer.new)
             (L.heard begun observer.new) fault) }
     {
-        let Some(target) = plan.target(packet) else {
-            return Ok(());
-        };
-        self.read(plan.opening(), packet.time, writer, observer)?;
+        match plan.role(packet) {
+            PacketRole::Passed => Ok(()),
+            PacketRole::Arrival(target) => {
+                self.take_arrival(plan.opening(), packet, target, writer, observer)
+            }
+            PacketRole::Change => self.take_change(plan.opening(), packet, writer, observer),
+        }
+    }
+
+    /// Takes a clock reading at a packet's time, from an opening on, and its datagram, which arrived on a path.
+    fn take_arrival<W: Write, L: ReplayObserver>(
+        &mut self,
+        from: u64,
+        packet: &Packet<'_>,
+        target: StreamPath,
+        writer: &mut W,
+        observer: &mut L,
+    ) -> Result<(), ReplayFault>
+        ensures ok { OnOk result ((studio : Studio) (events : List TraceEvent) (written : Option (List ℕ)) (begun : L)
+            → HasReplayed studio events written self.old (W.contents writer.old) (L.heard begun observer.old)
+            → HasReplayed studio
+            (events_with studio.open_at from self.old.clock events (packet_view packet.now)
+            (PacketRole.Arrival target)) written self.new (W.contents writer.new) (L.heard begun observer.new)) }
+        ensures kind { IfErr result (λ fault. IsOwn fault) }
+        ensures clock { OnOk result (self.new.clock ≡ clock_with self.old.clock packet.now.time) }
+        ensures fault { IfErr result
+            (λ fault. (studio : Studio) (events : List TraceEvent) (written : Option (List ℕ)) (begun : L)
+            → HasReplayed studio events written self.old (W.contents writer.old) (L.heard begun observer.old)
+            → Stops studio
+            (events_with studio.open_at from self.old.clock events (packet_view packet.now)
+            (PacketRole.Arrival target)) written self.new (W.contents writer.new) (L.heard begun observer.new) fault) }
+    {
+        self.read(from, packet.time, writer, observer)?;
         self.arrive(target, datagram_octets(packet), observer)
+    }
+
+    /// Takes a clock reading at a packet's time, from an opening on, and its change of gains.
+    // The run had turned to that reading when it took the change. So the same blocks are given before it, and the
+    // schedule has the same free places.
+    fn take_change<W: Write, L: ReplayObserver>(
+        &mut self,
+        from: u64,
+        packet: &Packet<'_>,
+        writer: &mut W,
+        observer: &mut L,
+    ) -> Result<(), ReplayFault>
+        ensures ok { OnOk result ((studio : Studio) (events : List TraceEvent) (written : Option (List ℕ)) (begun : L)
+            → HasReplayed studio events written self.old (W.contents writer.old) (L.heard begun observer.old)
+            → HasReplayed (with_changes studio (changes_with from (packet_view packet.now) PacketRole.Change))
+            (events_with studio.open_at from self.old.clock events (packet_view packet.now) PacketRole.Change)
+            written self.new (W.contents writer.new) (L.heard begun observer.new)) }
+        ensures kind { IfErr result (λ fault. IsOwn fault) }
+        ensures clock { OnOk result (self.new.clock ≡ clock_with self.old.clock packet.now.time) }
+        ensures fault { IfErr result
+            (λ fault. (studio : Studio) (events : List TraceEvent) (written : Option (List ℕ)) (begun : L)
+            → HasReplayed studio events written self.old (W.contents writer.old) (L.heard begun observer.old)
+            → Stops studio
+            (events_with studio.open_at from self.old.clock events (packet_view packet.now) PacketRole.Change)
+            written self.new (W.contents writer.new) (L.heard begun observer.new) fault) }
+    {
+        self.read(from, packet.time, writer, observer)?;
+        self.change(from, datagram_octets(packet))
     }
 
     /// Moves the clock to a time in nanoseconds, and takes its reading in sampling instants from an opening on. A

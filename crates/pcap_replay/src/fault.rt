@@ -21,12 +21,35 @@ pub enum ReplayFault {
     /// An event of the capture has a fault.
     #[error("{0}")]
     Run(StudioFault),
+    /// A change of gains of a record was not taken: its number among the changes, from 1, and why.
+    #[error("capture change {0}: {1}")]
+    Change(u64, RecordedChangeFault),
     /// The capture has more than 2^62 events.
     #[error("capture: too many events")]
     TooManyEvents,
     /// A write failed, or took no octet.
     #[error("device: write")]
     Write,
+}
+
+/// The fault of a recorded change of gains: the first of these that holds. Its text is the kind's word.
+#[derive(Clone, Copy, Debug, PartialEq, Eq, Error)]
+pub enum RecordedChangeFault {
+    /// The packet's payload is that of no change.
+    #[error("octets")]
+    Octets,
+    /// The gains are not as many as those of the studio's matrix.
+    #[error("shape")]
+    Shape,
+    /// A gain is below -1,048,576 or above 1,048,576.
+    #[error("range")]
+    Range,
+    /// The time is before the next block, or above 2^60 sampling instants.
+    #[error("time")]
+    Time,
+    /// 64 changes before the time are still to come.
+    #[error("toomany")]
+    TooMany,
 }
 
 impl From<AllocError> for ReplayFault {

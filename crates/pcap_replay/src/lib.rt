@@ -7,7 +7,8 @@
 //!    from what comes before its first packet.
 //! 2. For a record, `recorded_paths` returns the paths that it describes, and `recording_fault` how they
 //!    differ from a studio's. `replay_record` then reads the file, with the studio of that run, up to
-//!    the close that the record contains. A last block that is cut ends the record before it.
+//!    the close that the record contains. It hands in the changes of gains that the run took, or skips
+//!    them. A last block that is cut ends the record before it.
 //! 3. For any other capture, `scan_flows` finds the flows, from which `pcap_flows` makes routes.
 //!    `replay` then writes the report of the same events as in the trace that `pcap_flows` would
 //!    write.
@@ -17,6 +18,7 @@
 //! stream.
 #![tactic(auto)]
 
+mod changes;
 mod count_lines;
 mod events;
 mod fault;
@@ -32,9 +34,10 @@ mod state;
 mod stream_observer;
 mod wav_observer;
 
-pub use fault::ReplayFault;
+pub use changes::RecordedChanges;
+pub use fault::{RecordedChangeFault, ReplayFault};
 pub use flow_scan::scan_flows;
-pub use laws::{a_record_says_its_run, a_replay_takes_its_import};
+pub use laws::{a_record_says_its_run, a_replay_takes_its_import, other_captures_change_no_gains};
 pub use observer::ReplayObserver;
 pub use player::{replay, replay_record};
 pub use record_times::record_opening;

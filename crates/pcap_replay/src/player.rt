@@ -1,5 +1,5 @@
 //! A whole replay, from the octets of a capture to those of its report.
-ghost use Rattle.std.specs.Prelude.{◌≡◌, ◌++◌, ◌∷◌, ℕ, List, Option, [], None, IfOk, IfErr, OnOk, OnErr};
+ghost use Rattle.std.specs.Prelude.{◌≡◌, ◌≤◌, ◌++◌, ◌∷◌, ℕ, List, Option, [], None, length, IfOk, IfErr, OnOk, OnErr};
 ghost use Rattle.studio_session.specs.Event.{TraceEvent, Closing};
 ghost use Rattle.studio_run.specs.Play.{WritesEvents};
 ghost use Rattle.studio_run.specs.StudioReport.{IsReport};
@@ -21,12 +21,14 @@ ghost use Rattle.pcap_replay.specs.Replay.{
 };
 ghost use Rattle.studio_config.specs.Studio.{Studio};
 
+use crate::changes::RecordedChanges;
 use crate::count_lines::write_all_counts;
 use crate::fault::ReplayFault;
 use crate::observer::ReplayObserver;
 use crate::output::write_drained;
 use crate::routing::Routing;
 use crate::state::ReplayState;
+use path_merge::StreamSpec;
 use pcap_file::{BlockParser, CaptureFault, ReadBuffer, cut_fault, open_reader};
 use pcap_flows::Route;
 use std::alloc::{AllocError, Global};
@@ -64,27 +66,30 @@ pub fn replay<R: Read, W: Write, L: ReplayObserver>(
 
 /// Reads the record of a run of this studio once, and writes its report as `replay` does. Interfaces are numbered
 /// through the paths of all streams, and times are nanoseconds from the studio's opening on. The studio is closed
-/// behind all packets, at the time of the first mark of a close; if there is none, at the last packet's reading.
+/// behind all packets, at the time of the first mark of a close; if there is none, at the last packet's reading. The
+/// changes of gains of the run are handed in where the run took them, or skipped.
 ///
 /// A last block that the file's end cuts ends the record before it: its fault is returned behind the whole report.
 pub fn replay_record<R: Read, W: Write, L: ReplayObserver>(
     alloc: Global,
     spec: &StudioSpec,
+    changes: RecordedChanges,
     reader: &mut R,
     writer: &mut W,
     observer: &mut L,
 ) -> Result<Option<CaptureFault>, ReplayFault>
     requires fresh { L.heard observer.old observer.old [] [] }
     ensures ok { OnOk result
-        (WritesReplay spec.now (places_of spec.now) (R.remaining reader.old) (W.contents writer.old)
+        (WritesReplay spec.now (places_of spec.now changes) (R.remaining reader.old) (W.contents writer.old)
         (W.contents writer.new) (L.heard observer.old observer.new)) }
     ensures fault { IfErr result
-        (λ fault. BreaksOffReplay spec.now (places_of spec.now) (R.remaining reader.old) (W.contents writer.old)
+        (λ fault. BreaksOffReplay spec.now (places_of spec.now changes) (R.remaining reader.old) (W.contents writer.old)
         (W.contents writer.new) (L.heard observer.old observer.new) fault) }
 {
     let plan = Routing::Interfaces {
         streams: spec.streams(),
         open_at: instants_of(spec.open_at()),
+        changes,
     };
     replay_routed(alloc, spec, &plan, reader, writer, observer)
 }
@@ -118,7 +123,7 @@ fn replay_routed<R: Read, W: Write, L: ReplayObserver>(
     let (mut window, mut parts) = open_reader(alloc, reader)?;
     match run.go_to_close(plan, &mut parts, &mut window, reader, writer, observer) {
         Ok(()) => {
-            run.close(spec, writer, observer)?;
+            run.close(spec.streams(), writer, observer)?;
             Ok(cut_fault(&parts, &window))
         }
         Err(fault) => Err(run.break_off(fault, writer)),
@@ -137,6 +142,7 @@ impl ReplayState {
             engine,
             clock: plan.clock(),
             count: 0,
+            changes: 0,
             text,
         })
     }
@@ -169,23 +175,28 @@ impl ReplayState {
         self.read(plan.opening(), plan.closing(marked), writer, observer)
     }
 
-    /// Closes the studio, and writes the rest of the report: the datagrams that are left, and the counts.
+    /// Closes the studio of these streams, and writes the rest of the report: the datagrams that are left, and the
+    /// counts.
     fn close<W: Write, L: ReplayObserver>(
         self,
-        spec: &StudioSpec,
+        streams: &[StreamSpec],
         writer: &mut W,
         observer: &mut L,
     ) -> Result<(), WriteFault>
-        requires { CanClose spec.now self (W.contents writer.old) }
-        ensures ok { OnOk result ((events : List TraceEvent) (written : Option (List ℕ)) (begun : L)
-            → HasReplayed spec.now events written self (W.contents writer.old) (L.heard begun observer.old)
-            → WritesEvents spec.now IsReport (events ++ Closing ∷ []) written (W.contents writer.new)) }
-        ensures hears { OnOk result ((events : List TraceEvent) (written : Option (List ℕ)) (begun : L)
-            → HasReplayed spec.now events written self (W.contents writer.old) (L.heard begun observer.old)
-            → HasHeardAll spec.now (events ++ Closing ∷ []) (L.heard begun observer.new)) }
-        ensures fault { OnErr result ((events : List TraceEvent) (written : Option (List ℕ)) (begun : L)
-            → HasReplayed spec.now events written self (W.contents writer.old) (L.heard begun observer.old)
-            → BreaksReport spec.now (events ++ Closing ∷ []) written (W.contents writer.new)
+        requires few { length streams.now ≤ 16 }
+        requires can { CanClose streams.now self (W.contents writer.old) }
+        ensures ok { OnOk result ((studio : Studio) (events : List TraceEvent) (written : Option (List ℕ)) (begun : L)
+            → studio.streams ≡ streams.now
+            → HasReplayed studio events written self (W.contents writer.old) (L.heard begun observer.old)
+            → WritesEvents studio IsReport (events ++ Closing ∷ []) written (W.contents writer.new)) }
+        ensures hears { OnOk result ((studio : Studio) (events : List TraceEvent) (written : Option (List ℕ))
+            (begun : L) → studio.streams ≡ streams.now
+            → HasReplayed studio events written self (W.contents writer.old) (L.heard begun observer.old)
+            → HasHeardAll studio (events ++ Closing ∷ []) (L.heard begun observer.new)) }
+        ensures fault { OnErr result ((studio : Studio) (events : List TraceEvent) (written : Option (List ℕ))
+            (begun : L) → studio.streams ≡ streams.now
+            → HasReplayed studio events written self (W.contents writer.old) (L.heard begun observer.old)
+            → BreaksReport studio (events ++ Closing ∷ []) written (W.contents writer.new)
             (L.heard begun observer.new)) }
     {
         let mut engine = self.engine;
@@ -198,7 +209,7 @@ impl ReplayState {
         write_drained(&mut engine, &mut text, writer, observer)?;
         // Only for its clause: a settled engine has all marks, which `write_all_counts` requires.
         let _all = engine.settled();
-        write_all_counts(&mut text, writer, &engine, spec.streams())?;
+        write_all_counts(&mut text, writer, &engine, streams)?;
         text.finish(writer)?;
         Ok(())
     }

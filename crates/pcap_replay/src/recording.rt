@@ -17,7 +17,15 @@ ghost use Rattle.std.specs.Prelude.{
 ghost use Rattle.pcap_file.specs.ReadBuffer.{octets_of};
 ghost use Rattle.pcap_file.specs.Reader.{IsNext};
 ghost use Rattle.pcap_file.specs.Blocks.{interface_text};
-ghost use Rattle.pcap_replay.specs.RecordedPaths.{ArePathsOf, Begins, HasDescription, IsPathOf, recorded_of};
+ghost use Rattle.pcap_replay.specs.RecordedPaths.{
+  ArePathsOf,
+  AreBehind,
+  Begins,
+  HasDescription,
+  IsOfGains,
+  IsPathOf,
+  recorded_of,
+};
 
 use pcap_file::{
     BlockParser, InterfaceTexts, ReadBuffer, ReaderFault, RecordedStream, has_whole_block,
@@ -32,7 +40,11 @@ use thiserror::Error;
 /// The letter of a stream's first path.
 const FIRST_LETTER: u8 = b'a';
 
-/// A path of a record: its name, and the description of its stream's configuration, as its interface has them.
+/// The name and the description of the interface of changes of gains.
+const GAINS: &[u8] = b"gains";
+
+/// A path of a record: its name, and the description of its stream's configuration, as its interface has them. The
+/// interface of changes of gains is listed as one more.
 #[derive(Drop)]
 pub struct RecordedPath {
     name: Vec<u8>,
@@ -89,6 +101,13 @@ impl RecordedPath {
         ensures { IsTrue result ↔ (self.now.name.items ≡ interface_text number letter) }
     {
         self.name.as_slice() == interface_name(number, letter).as_slice()
+    }
+
+    /// Returns true if this is no path, but the interface of changes of gains, by its name and its description.
+    fn is_of_gains(&self) -> bool
+        ensures { IsTrue result ↔ IsOfGains self.now }
+    {
+        self.name.as_slice() == GAINS && self.description.as_slice() == GAINS
     }
 
     /// Returns true if this path's description is that of a stream, or if it has none, as in records of older versions.
@@ -156,7 +175,8 @@ fn add_path(
 }
 
 /// Returns the first difference between the configuration by which a record with these paths was made and a studio's
-/// streams, stream by stream; `None` if there is none.
+/// streams, stream by stream; `None` if there is none. Behind all paths a record may have the interface of changes of
+/// gains.
 pub fn recording_fault(paths: &[RecordedPath], streams: &[StreamSpec]) -> Option<RecordingFault>
     ensures same { result ≡ None → ArePathsOf 0 streams.now paths.now }
     ensures different { length streams.now ≤ 16 → ArePathsOf 0 streams.now paths.now → result ≡ None }
@@ -166,8 +186,9 @@ pub fn recording_fault(paths: &[RecordedPath], streams: &[StreamSpec]) -> Option
     Some(stream_difference(paths, streams).unwrap_or(RecordingFault::Interface(place)))
 }
 
-/// Returns nothing if the paths are those of these streams, of which the first has this number. Otherwise returns the
-/// paths from the first one on that is not, or the end, if a path is missing there.
+/// Returns nothing if the paths are those of these streams, of which the first has this number, with the interface of
+/// changes of gains behind them or without it. Otherwise returns the paths from the first one on that is not, or the
+/// end, if a path is missing there.
 fn paths_behind<'a>(
     paths: &'a [RecordedPath],
     number: u16,
@@ -177,13 +198,28 @@ fn paths_behind<'a>(
     ensures different { number + length streams.now ≤ 16 → ArePathsOf number streams.now paths.now → IsOk result }
 {
     let [stream, later @ ..] = streams else {
-        return if paths.is_empty() { Ok(()) } else { Err(paths) };
+        return if are_behind(paths) {
+            Ok(())
+        } else {
+            Err(paths)
+        };
     };
     let rest = paths_behind_stream(paths, number, stream, FIRST_LETTER, stream.paths())?;
     let Some(next) = number.checked_add(1) else {
         return Err(rest);
     };
     paths_behind(rest, next, later)
+}
+
+/// Returns true if these interfaces may be behind all paths: there are none, or one of changes of gains.
+fn are_behind(interfaces: &[RecordedPath]) -> bool
+    ensures { IsTrue result ↔ AreBehind interfaces.now }
+{
+    match interfaces {
+        [] => true,
+        [interface] => interface.is_of_gains(),
+        _ => false,
+    }
 }
 
 /// Returns the paths behind so many paths of a stream, of which the first has this letter. If they do not stand there,

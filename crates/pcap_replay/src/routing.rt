@@ -1,13 +1,14 @@
 //! The routing of a capture's datagrams to paths, with the origin of its clock readings.
-ghost use Rattle.std.specs.Prelude.{◌≡◌, ℕ, List, Some, true, false, IfOk, IfErr, OnOk};
+ghost use Rattle.std.specs.Prelude.{◌≡◌, ℕ, List, [], Some, true, false, IfOk, IfErr, OnOk};
 ghost use Rattle.pcap_file.specs.Entries.{Entry};
 ghost use Rattle.pcap_file.specs.ReadBuffer.{octets_of};
 ghost use Rattle.pcap_file.specs.Reader.{HasReturned, IsLong, IsNext};
 ghost use Rattle.pcap_replay.specs.Replay.{EndsAt};
 ghost use Rattle.pcap_replay.specs.Routing as spec;
 ghost use Rattle.pcap_file.specs.Packet.{packet_view};
-ghost use Rattle.pcap_replay.specs.Routing.{clock_before, closing_of, opening_of, plan_view, target_of};
+ghost use Rattle.pcap_replay.specs.Routing.{clock_before, closing_of, opening_of, plan_view, role_of};
 
+use crate::changes::RecordedChanges;
 use path_merge::StreamSpec;
 use pcap_file::{BlockParser, Packet, ReadBuffer, ReaderFault, has_block, has_whole_block};
 use pcap_flows::{CaptureClock, Route, route_in};
@@ -18,11 +19,13 @@ use std::io::Read;
 pub(crate) enum Routing<'a> {
     /// A packet's flow has a route, and readings count from the first packet's time.
     Flows(&'a [Route]),
-    /// A packet's interface is the place of its path among those of all streams, and readings count from the opening.
+    /// A packet's interface is the place of its path among those of all streams, or the one behind them, of changes of
+    /// gains. Readings count from the opening.
     Interfaces {
         streams: &'a [StreamSpec],
         /// The time of the opening, in sampling instants at 48 kHz.
         open_at: u64,
+        changes: RecordedChanges,
     },
 }
 
@@ -33,14 +36,32 @@ pub(crate) struct StreamPath {
     pub(crate) path: u8,
 }
 
+/// The part of a packet in a replay.
+#[derive(Clone, Copy)]
+pub(crate) enum PacketRole {
+    /// Nothing: it is passed over.
+    Passed,
+    /// A datagram of a path.
+    Arrival(StreamPath),
+    /// A change of gains.
+    Change,
+}
+
 impl Routing<'_> {
-    /// Returns the path of a packet, if it has one.
-    pub(crate) fn target(&self, packet: &Packet<'_>) -> Option<StreamPath>
-        ensures { result ≡ target_of (plan_view self.now) (packet_view packet.now) }
+    /// Returns what a packet is.
+    pub(crate) fn role(&self, packet: &Packet<'_>) -> PacketRole
+        ensures { result ≡ role_of (plan_view self.now) (packet_view packet.now) }
     {
         match self {
-            Routing::Flows(routes) => Some(path_of_route(&route_in(routes, packet)?)),
-            Routing::Interfaces { streams, .. } => Some(path_at(streams, packet.interface)),
+            Routing::Flows(routes) => match route_in(routes, packet) {
+                Some(route) => PacketRole::Arrival(path_of_route(&route)),
+                None => PacketRole::Passed,
+            },
+            Routing::Interfaces {
+                streams,
+                changes,
+                ..
+            } => role_at(*changes, streams, packet.interface),
         }
     }
 
@@ -103,9 +124,21 @@ impl Routing<'_> {
     }
 }
 
+impl RecordedChanges {
+    /// Returns what a change of gains is by this rule.
+    fn role(self) -> PacketRole
+        ensures { result ≡ spec.role_by self }
+    {
+        match self {
+            RecordedChanges::Taken => PacketRole::Change,
+            RecordedChanges::Skipped => PacketRole::Passed,
+        }
+    }
+}
+
 /// Returns the path of a route.
 fn path_of_route(route: &Route) -> StreamPath
-    ensures { Some result ≡ spec.path_of_route (Some route.now) }
+    ensures { PacketRole.Arrival result ≡ spec.role_of_route (Some route.now) }
 {
     StreamPath {
         stream: usize::from(route.stream),
@@ -113,24 +146,35 @@ fn path_of_route(route: &Route) -> StreamPath
     }
 }
 
-/// Returns the path at a place among those of all streams.
-fn path_at(streams: &[StreamSpec], place: u32) -> StreamPath
-    ensures { result ≡ spec.path_at 0 streams.now place }
+/// Returns what a packet at a place among the paths of all streams is.
+fn role_at(changes: RecordedChanges, streams: &[StreamSpec], place: u32) -> PacketRole
+    ensures { result ≡ spec.role_at changes 0 streams.now place }
 {
     let mut left = place;
     for number in 0..streams.len() {
         let paths = u32::from(streams[number].paths());
         if left < paths {
-            return StreamPath {
+            return PacketRole::Arrival(StreamPath {
                 stream: number,
                 path: left as u8,
-            };
+            });
         }
         left -= paths;
     }
-    // No stream has this number, so the arrival is a fault.
-    StreamPath {
-        stream: streams.len(),
-        path: 0,
+    role_behind(changes, streams.len(), left)
+}
+
+/// Returns what a packet is that is so many places behind all paths, of which so many streams have some.
+#[tactic(auto, unfolding(crate::specs::Routing::role_at))]
+fn role_behind(changes: RecordedChanges, streams: usize, left: u32) -> PacketRole
+    ensures { result ≡ spec.role_at changes streams [] left }
+{
+    if left == 0 {
+        return changes.role();
     }
+    // No stream has this number, so the arrival is a fault.
+    PacketRole::Arrival(StreamPath {
+        stream: streams,
+        path: 0,
+    })
 }

@@ -13,6 +13,8 @@ pub(crate) struct ReplayState {
     pub(crate) clock: CaptureClock,
     /// The number of events so far, which is the place of the next in a fault.
     pub(crate) count: usize,
+    /// The number of changes of gains so far.
+    pub(crate) changes: u64,
     pub(crate) text: TextBuffer,
     pub(crate) ghost short: { datagram_length engine.mixer.packer.spec ≤ 1452 },
 }

@@ -3,9 +3,9 @@ ghost use Rattle.std.specs.Prelude.{◌≡◌, length};
 
 use super::record::record;
 use pcap_file::{
-    Capture, MAX_BLOCK_LEN, Packet, RecordedDatagram, RecordedStream, UdpBody, UdpDatagram,
-    UdpPacket, nanoseconds_after, open, write_interface, write_packet, write_section_header,
-    write_statistics,
+    Capture, ChangeHead, MAX_BLOCK_LEN, Packet, RecordedChange, RecordedDatagram, RecordedStream,
+    UdpBody, UdpDatagram, UdpPacket, nanoseconds_after, open, read_change, write_change,
+    write_gains_interface, write_interface, write_packet, write_section_header, write_statistics,
 };
 use std::net::Ipv4Addr;
 
@@ -118,6 +118,67 @@ fn is_datagram(octets: Option<&[u8]>) -> bool {
     let mut out = [0x55u8; MAX_BLOCK_LEN];
     let len = write_packet(&arrival(), &mut out);
     is_written(&out, len, octets)
+}
+
+/// The interface of changes of gains.
+const GAINS: [u8; 56] = [
+    1, 0, 0, 0, 0x38, 0, 0, 0, 0x65, 0, 0, 0, 0, 0, 0, 0, 2, 0, 5, 0, 0x67, 0x61, 0x69, 0x6e, 0x73,
+    0, 0, 0, 9, 0, 1, 0, 9, 0, 0, 0, 3, 0, 5, 0, 0x67, 0x61, 0x69, 0x6e, 0x73, 0, 0, 0, 0, 0, 0, 0,
+    0x38, 0, 0, 0,
+];
+
+/// A change of the gains of one output and two inputs, to 65,536 and -1 from 480 on, at block 80. The sum of its IPv4
+/// header's other words is 0xc545.
+const CHANGE: [u8; 84] = [
+    6, 0, 0, 0, 0x54, 0, 0, 0, 2, 0, 0, 0, 1, 0, 0, 0, 0x22, 0xd1, 0, 0, 0x34, 0, 0, 0, 0x34, 0, 0,
+    0, 0x45, 0, 0, 0x34, 0, 0, 0x40, 0, 0x40, 0x11, 0x3a, 0xba, 0, 0, 0, 0, 0, 0, 0, 0, 0, 0, 0, 0,
+    0, 0x20, 0, 0, 0, 0, 0, 0, 0, 0, 1, 0xe0, 0, 0, 0, 0, 0, 0, 0, 0x50, 0, 1, 0, 0, 0xff, 0xff,
+    0xff, 0xff, 0x54, 0, 0, 0,
+];
+
+/// Returns true if the interface of changes of gains is written as it should be.
+fn is_gains_interface() -> bool {
+    let mut out = [0x55u8; MAX_BLOCK_LEN];
+    let len = write_gains_interface(&mut out);
+    is_written(&out, len, Some(GAINS.as_slice()))
+}
+
+/// Returns true if a change of gains is written as it should be.
+fn is_change() -> bool {
+    let change = RecordedChange {
+        interface: 2,
+        nanoseconds: 4_295_020_834,
+        at: 480,
+        next_block: 80,
+        gains: &[65_536, -1],
+    };
+    let mut out = [0x55u8; MAX_BLOCK_LEN];
+    let len = write_change(&change, &mut out);
+    is_written(&out, len, Some(CHANGE.as_slice()))
+}
+
+/// Returns true if the payload of that change is read as it, and into no less room.
+fn is_change_read() -> bool {
+    let head = ChangeHead {
+        at: 480,
+        next_block: 80,
+        gains: 2,
+    };
+    let payload = &CHANGE[56..80];
+    let mut gains = [7; 3];
+    let mut room = [7; 1];
+    read_change(payload, &mut gains) == Some(head)
+        && gains == [65_536, -1, 7]
+        && read_change(payload, &mut room).is_none()
+        && room == [7]
+}
+
+/// A change of gains is written as a packet on an interface of its own, and read back.
+#[test]
+fn a_change_of_gains_is_these_octets(rt: HostRuntime) {
+    assert!(rt; is_gains_interface(), "the interface");
+    assert!(rt; is_change(), "the change");
+    assert!(rt; is_change_read(), "the change, read");
 }
 
 /// Returns true if the record's close is written as these octets.

@@ -1,4 +1,7 @@
+use Rattle.std.proofs.Common.{inl, refl, sym}
+use Rattle.pcap_file.specs.Reader.{packets_among}
 use Rattle.pcap_replay.specs.Events.{events_told, file_events}
+use Rattle.pcap_replay.specs.RecordChanges.{changed_by}
 use Rattle.pcap_replay.specs.Routing.{plan_view}
 use Rattle.pcap_replay.specs.declared.fault.ReplayFault.TheVariants.{Capture, Write}
 use Rattle.pcap_replay.proofs.CaseLemmas.{some_maps, told}
@@ -15,14 +18,21 @@ returns-in_err-window-clause-fault g c =
     told _ (Capture fault) c.from_residual-in_err-window.result c.from_residual-in_err-window.ensures.1
     (unopened c.args.spec.now (plan_view c.args.plan.now) first written (g.L.ReplayObserver.heard c.args.observer.now c.args.observer.now) c.in_ok-run.run' fault (begun_replayed c.args.spec.now written _ _ c.in_ok-run.ensures.begun c.requires.fresh) c.in_err-window.ensures.fault)
 
-pub close-requires : goal.close-requires
-close-requires g c =
+pub close-requires-clause-can : goal.close-requires-clause-can
+close-requires-clause-can g c =
     let spec = c.args.spec.now in
     let plan = plan_view c.args.plan.now in
     let first = g.R.Read.remaining c.args.reader.now in
     let written = g.W.Write.contents c.args.writer.now in
     let come = c.in-Ok.ensures.ok spec first written c.args.observer.now (replaying_none spec plan first written _ _ _ _ _ _ c.in_ok-window.ensures.returned c.in_ok-run.ensures.clock (begun_replayed spec written _ _ c.in_ok-run.ensures.begun c.requires.fresh)) in
-    record { events = events_told spec plan come.entries; written = written; replayed = unheard spec (events_told spec plan come.entries) written _ _ _ come.replayed }
+    let changed = changed_by spec plan (packets_among come.entries) in
+    record {
+      studio = changed;
+      same = sym c.streams.ensures.value;
+      events = events_told spec plan come.entries;
+      written = written;
+      replayed = unheard changed (events_told spec plan come.entries) written _ _ _ come.replayed;
+    }
 
 pub returns-in_err-close-in-Ok-clause-fault : goal.returns-in_err-close-in-Ok-clause-fault
 returns-in_err-close-in-Ok-clause-fault g c =
@@ -36,7 +46,9 @@ returns-in_err-close-in-Ok-clause-fault g c =
       told = some_maps first _ _ (λ file whole. (begins_ended plan file come.entries whole, tt)) come.told;
       events = file_events spec plan come.entries;
       first = first_same (file_events spec plan come.entries);
-      front = c.in_err-close-in-Ok.ensures.fault (events_told spec plan come.entries) written c.args.observer.now come.replayed;
+      changed = packets_among come.entries;
+      among = inl refl;
+      front = c.in_err-close-in-Ok.ensures.fault (changed_by spec plan (packets_among come.entries)) (events_told spec plan come.entries) written c.args.observer.now (sym c.streams.ensures.value) come.replayed;
     })
 
 pub returns-in-Ok-clause-ok : goal.returns-in-Ok-clause-ok
@@ -46,7 +58,14 @@ returns-in-Ok-clause-ok g c =
     let first = g.R.Read.remaining c.args.reader.now in
     let written = g.W.Write.contents c.args.writer.now in
     let come = c.in-Ok.ensures.ok spec first written c.args.observer.now (replaying_none spec plan first written _ _ _ _ _ _ c.in_ok-window.ensures.returned c.in_ok-run.ensures.clock (begun_replayed spec written _ _ c.in_ok-run.ensures.begun c.requires.fresh)) in
-    record { entries = come.entries; told = come.told; writes = c.in_ok-close-in-Ok.ensures.ok (events_told spec plan come.entries) written c.args.observer.now come.replayed; hears = c.in_ok-close-in-Ok.ensures.hears (events_told spec plan come.entries) written c.args.observer.now come.replayed }
+    let changed = changed_by spec plan (packets_among come.entries) in
+    let same = sym c.streams.ensures.value in
+    record {
+      entries = come.entries;
+      told = come.told;
+      writes = c.in_ok-close-in-Ok.ensures.ok changed (events_told spec plan come.entries) written c.args.observer.now same come.replayed;
+      hears = c.in_ok-close-in-Ok.ensures.hears changed (events_told spec plan come.entries) written c.args.observer.now same come.replayed;
+    }
 
 pub returns-clause-fault : goal.returns-clause-fault
 returns-clause-fault g c =

@@ -13,10 +13,10 @@ pub returns-clause-ok : goal.returns-clause-ok
 returns-clause-ok g c =
     ok_then c.read.result _ _ (λ reads studio first written begun r.
     come_to_close studio (plan_view c.args.plan.now) c.in_ok-marked.marked c.closing.result c.opening.result first written _ _ _ _ c.run_events.new.self c.read.new.self c.opening.ensures c.closing.ensures
-    (c.in_ok-marked.ensures.ok studio first written begun r) (λ events replayed. reads studio events written begun replayed)) c.read.ensures.ok
+    (c.in_ok-marked.ensures.ok studio first written begun r) (λ changed events replayed. reads changed events written begun replayed)) c.read.ensures.ok
 
 pub returns-clause-fault : goal.returns-clause-fault
 returns-clause-fault g c =
     err_both c.read.result _ _ _ (λ fault kind stops studio first written begun r.
     stops_at_close studio (plan_view c.args.plan.now) c.in_ok-marked.marked c.closing.result c.opening.result first written _ _ _ _ c.run_events.new.self c.read.new.self fault c.opening.ensures c.closing.ensures kind
-    (c.in_ok-marked.ensures.ok studio first written begun r) (λ events replayed. stops studio events written begun replayed)) c.read.ensures.kind c.read.ensures.fault
+    (c.in_ok-marked.ensures.ok studio first written begun r) (λ changed events replayed. stops changed events written begun replayed)) c.read.ensures.kind c.read.ensures.fault

@@ -3,6 +3,7 @@ use Rattle.std.specs.Option.{option_to_list}
 use Rattle.pcap_file.specs.Packet.{packet_view}
 use Rattle.pcap_replay.specs.Events.{events_of}
 use Rattle.pcap_replay.specs.Routing.{plan_view}
+use Rattle.pcap_replay.specs.RecordChanges.{changed_by}
 use Rattle.pcap_replay.specs.Replay.{HasTaken, Stops}
 use Rattle.pcap_replay.proofs.CaseLemmas.{err_then, ok_both}
 use Rattle.pcap_replay.proofs.ReplayLemmas.{stops_more, taken_more, taken_same}
@@ -14,7 +15,7 @@ returns-in-Some-clause-ok g c =
     let then = g.W.Write.contents c.take.new.writer in
     ok_both c.take.result _ _ _ (λ replayed clock studio packets written begun taken.
     subst (λ o. HasTaken studio plan (packets ++ option_to_list (option_map packet_view o)) written c.take.new.self then (g.L.ReplayObserver.heard begun c.take.new.observer)) (sym c.in-Some.is)
-    (taken_more studio plan packets (packet_view c.in-Some.packet) written _ then _ (g.L.ReplayObserver.heard begun c.take.new.observer) c.args.self.now c.take.new.self taken clock (replayed studio (events_of studio plan packets) written begun taken.replayed)))
+    (taken_more studio plan packets (packet_view c.in-Some.packet) written _ then _ (g.L.ReplayObserver.heard begun c.take.new.observer) c.args.self.now c.take.new.self taken clock (replayed (changed_by studio plan packets) (events_of studio plan packets) written begun taken.replayed)))
     c.take.ensures.ok c.take.ensures.clock
 
 pub returns-in-Some-clause-fault : goal.returns-in-Some-clause-fault
@@ -22,8 +23,8 @@ returns-in-Some-clause-fault g c =
     let plan = plan_view c.args.plan.now in
     let then = g.W.Write.contents c.take.new.writer in
     err_then c.take.result _ _ (λ fault stops studio packets written begun taken.
-    subst (λ o. Stops studio (events_of studio plan (packets ++ option_to_list (option_map packet_view o))) written c.take.new.self then (g.L.ReplayObserver.heard begun c.take.new.observer) fault) (sym c.in-Some.is)
-    (stops_more studio plan packets (packet_view c.in-Some.packet) written _ then _ (g.L.ReplayObserver.heard begun c.take.new.observer) c.args.self.now c.take.new.self fault taken (stops studio (events_of studio plan packets) written begun taken.replayed)))
+    subst (λ o. Stops (changed_by studio plan packets) (events_of studio plan (packets ++ option_to_list (option_map packet_view o))) written c.take.new.self then (g.L.ReplayObserver.heard begun c.take.new.observer) fault) (sym c.in-Some.is)
+    (stops_more studio plan packets (packet_view c.in-Some.packet) written _ then _ (g.L.ReplayObserver.heard begun c.take.new.observer) c.args.self.now c.take.new.self fault taken (stops (changed_by studio plan packets) (events_of studio plan packets) written begun taken.replayed)))
     c.take.ensures.fault
 
 pub returns-in-None-clause-ok : goal.returns-in-None-clause-ok
