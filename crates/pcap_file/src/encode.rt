@@ -1,5 +1,5 @@
-//! The blocks of a record. The submodules hold a block's body, a recorded datagram, its IPv4 and UDP headers, a recorded
-//! change of gains, and the description of a stream.
+//! The blocks of a record. The submodules hold a block's body, a recorded datagram, its IPv4 and UDP headers, a
+//! recorded change of gains, and the description of a stream.
 ghost use Rattle.std.specs.Prelude.{◌≡◌, ◌+◌, ◌*◌, ◌%◌, ◌≤◌, ◌++◌, length, drop};
 ghost use Rattle.pcap_file.specs.RecordedChange.{change_view};
 ghost use Rattle.pcap_file.specs.RecordedDatagram.{arrival_view};

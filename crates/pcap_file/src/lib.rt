@@ -15,8 +15,9 @@
 //!   writes a datagram that arrived, as an IPv4 packet, and `write_statistics` the time of the close.
 //!   In the record of a run whose gains can change, `write_gains_interface` describes one more
 //!   interface behind those of all paths, and `write_change` writes a change of gains that was taken, as
-//!   a packet on it; `read_change` reads its payload. Each writes one block to the front of the caller's slice, which has `MAX_BLOCK_LEN` octets, and
-//!   returns its length. Times are in nanoseconds since the opening (`nanoseconds_after`).
+//!   a packet on it; `read_change` reads its payload. Each writes one block to the front of the caller's
+//!   slice, which has `MAX_BLOCK_LEN` octets, and returns its length. Times are in nanoseconds since the
+//!   opening (`nanoseconds_after`).
 //!   `whole_blocks` finds how much of what was written so far ends with a whole block. A `RecordFile` is
 //!   where the blocks go, and can be cut behind the last of them; `CreateRecord` creates one.
 //!

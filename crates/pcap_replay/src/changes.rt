@@ -29,7 +29,8 @@ impl ReplayState {
     pub(crate) fn change(&mut self, from: u64, octets: &[u8]) -> Result<(), ReplayFault>
         ensures ok { OnOk result ((studio : Studio) (events : List TraceEvent) (datagrams : List (List ℕ))
             → HasSession studio self.old.engine events datagrams
-            → HasSession (with_changes studio (changes_by from (change_of octets.now))) self.new.engine events datagrams) }
+            → HasSession (with_changes studio (changes_by from (change_of octets.now))) self.new.engine events
+            datagrams) }
         ensures kept { OnErr result (self.new ≡ self.old) }
         ensures kind { IfErr result (λ fault. IsRun fault) }
         ensures clock { self.new.clock ≡ self.old.clock }

@@ -19,8 +19,8 @@ use crate::fault::CaptureFaultKind;
 use arrayvec::ArrayVec;
 
 /// The greatest number of interfaces of a section.
-// A record has at most 16 streams with 4 paths each, and an interface of changes of gains. The limit lets the interfaces
-// lie in an array, so that reading allocates nothing.
+// A record has at most 16 streams with 4 paths each, and an interface of changes of gains. The limit lets the
+// interfaces lie in an array, so that reading allocates nothing.
 const MAX_INTERFACES: usize = 65;
 
 /// The length of an empty block in octets: its type, and its length twice.
