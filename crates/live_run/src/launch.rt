@@ -9,7 +9,7 @@ use crate::context::RunContext;
 use crate::fault::LiveFault;
 use crate::gain_control::{GainControl, open_control};
 use crate::inputs::LiveInputs;
-use crate::launch::side_tasks::{OpenAudio, OpenPcm};
+use crate::launch::side_tasks::{OpenAudio, OpenPcm, with_audio};
 use crate::scoped_thread::with_side_tasks;
 use crate::shown_health::ShownHealth;
 use crate::single_thread::{OpenRecord, RecordOutput, run_in_one_thread};
@@ -243,14 +243,13 @@ fn run_open<
     let report = with_side_tasks(
         rt,
         piped,
-        audio,
         serving,
         move || -> Result<WorkReport, LiveFault>
             requires sync { IsSync R.row }
             ensures run { IfOk result
                 (IsRunOf parts.entry.one_thread (is_some parts.entry.context.gains) studio.entry.now) }
             ensures early { IfErr result IsEarly }
-        { run_prepared(rt, alloc, studio, parts) },
+        { run_with_audio(rt, alloc, studio, parts, audio) },
     )?;
     inputs.audio.set_sent(report.blocks);
     inputs.pcm.set_sent(report.blocks);
@@ -336,6 +335,35 @@ fn recording_of<'a, P: CreateRecord>(
         record: Some(OpenRecord { channel, file }),
         recorded,
     })
+}
+
+/// Runs a studio, with the writer of its WAV files in another thread if there are any.
+fn run_with_audio<
+    'a,
+    R: Threads + Wait + Sync + Clock,
+    E: Write + Send + Drop,
+    D: RecordFile + Send + Drop,
+    A: WavFiles + Send + Drop,
+>(
+    rt: &'a R,
+    alloc: Global,
+    studio: &'a StudioSpec,
+    parts: PreparedRun<'a, R, E, D>,
+    audio: Option<OpenAudio<'a, A>>,
+) -> Result<WorkReport, LiveFault>
+    ensures run { IfOk result (IsRunOf parts.entry.one_thread (is_some parts.entry.context.gains) studio.now) }
+    ensures early { IfErr result IsEarly }
+{
+    with_audio(
+        rt,
+        audio,
+        move || -> Result<WorkReport, LiveFault>
+            requires sync { IsSync R.row }
+            ensures run { IfOk result
+                (IsRunOf parts.entry.one_thread (is_some parts.entry.context.gains) studio.entry.now) }
+            ensures early { IfErr result IsEarly }
+        { run_prepared(rt, alloc, studio, parts) },
+    )
 }
 
 /// Runs a studio in one thread or by workers, as its parts say. Only a run in one thread has a record.

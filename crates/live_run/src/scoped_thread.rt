@@ -46,17 +46,16 @@ pub(crate) trait SideTask<R> {
     fn complete(self, rt: &R);
 }
 
-/// Calls `run` in this thread, with each of the tasks that there is in a thread of its own, and returns the result of
+/// Calls `run` in this thread, with each of two tasks in a thread of its own if there is one, and returns the result of
 /// `run` once all have ended. Returns `LiveFault::Thread` if a thread cannot be started; then `run` is not called.
 pub(crate) fn with_side_tasks<
     'a,
     R: Threads + Wait + Sync,
     A: SideTask<R> + Send + Drop + 'a,
     B: SideTask<R> + Send + Drop + 'a,
-    C: SideTask<R> + Send + Drop + 'a,
     G: FnOnce() -> Result<O, LiveFault> + Drop,
     O: Drop,
->(rt: &'a R, one: Option<A>, two: Option<B>, three: Option<C>, run: G) -> Result<O, LiveFault>
+>(rt: &'a R, one: Option<A>, other: Option<B>, run: G) -> Result<O, LiveFault>
     requires run { G.pre run }
     ensures ran { IfOk result (λ value. G.post run (Ok value)) }
     ensures early { IfErr result (λ fault. IsEarly fault ⊎ G.post run (Err fault)) }
@@ -68,17 +67,7 @@ pub(crate) fn with_side_tasks<
             requires run { G.pre run }
             ensures ran { IfOk result (λ value. G.post run (Ok value)) }
             ensures early { IfErr result (λ fault. IsEarly fault ⊎ G.post run (Err fault)) }
-        {
-            with_side_task(
-                rt,
-                two,
-                move || -> Result<O, LiveFault>
-                    requires run { G.pre run }
-                    ensures ran { IfOk result (λ value. G.post run (Ok value)) }
-                    ensures early { IfErr result (λ fault. IsEarly fault ⊎ G.post run (Err fault)) }
-                { with_side_task(rt, three, run) },
-            )
-        },
+        { with_side_task(rt, other, run) },
     )
 }
 

@@ -1,10 +1,14 @@
 //! The tasks of a run that other threads do next to it: they write its WAV files and its raw PCM, and serve its page.
+ghost use Rattle.std.specs.Prelude.{◌⊎◌, IfOk, IfErr, Ok, Err};
+ghost use Rattle.live_run.specs.RunResult.{IsEarly};
 
-use crate::scoped_thread::SideTask;
+use crate::fault::LiveFault;
+use crate::scoped_thread::{SideTask, with_scoped_thread};
 use live_audio::{AudioWriter, PcmWriter, write_audio, write_pcm};
 use live_status::PageThread;
 use status_page::GainDesk;
 use std::sync::Wait;
+use std::thread::Threads;
 use std::time::Clock;
 use wav_file::{PcmOutput, WavFiles};
 
@@ -23,19 +27,7 @@ pub(crate) struct OpenPcm<'a, D> {
     pub(crate) output: D,
 }
 
-// Both writers end once the tap, which the run's sink holds, was dropped with it. They set their results themselves.
-impl<R: Wait, A: WavFiles + Drop> SideTask<R> for OpenAudio<'_, A> {
-    fn complete(self, rt: &R) {
-        let OpenAudio {
-            writer,
-            files,
-            file,
-        } = self;
-        let (mut writer, mut files, mut file) = (writer, files, file);
-        let _written = write_audio(rt, &mut writer, &mut files, &mut file);
-    }
-}
-
+// The writer ends once the tap, which the run's sink holds, was dropped with it. It sets the result itself.
 impl<R: Wait, D: PcmOutput + Drop> SideTask<R> for OpenPcm<'_, D> {
     fn complete(self, rt: &R) {
         let OpenPcm { writer, output } = self;
@@ -49,4 +41,39 @@ impl<R: Wait + Clock, D: GainDesk> SideTask<R> for PageThread<D> {
     fn complete(self, rt: &R) {
         self.serve(rt);
     }
+}
+
+/// Calls `run` in this thread, with the writer of the WAV files in a new one if there are files, and returns the result of
+/// `run` once both have ended. Returns `LiveFault::Thread` if no thread can be started; then `run` is not called.
+// No `SideTask`: in a method of a trait, the toolchain does not follow that a file may go to another thread, which is
+// said of a type that belongs to the files.
+pub(crate) fn with_audio<
+    'a,
+    R: Threads + Wait + Sync,
+    A: WavFiles + Send + Drop + 'a,
+    G: FnOnce() -> Result<O, LiveFault> + Drop,
+    O: Drop,
+>(rt: &'a R, audio: Option<OpenAudio<'a, A>>, run: G) -> Result<O, LiveFault>
+    requires run { G.pre run }
+    ensures ran { IfOk result (λ value. G.post run (Ok value)) }
+    ensures early { IfErr result (λ fault. IsEarly fault ⊎ G.post run (Err fault)) }
+{
+    let Some(audio) = audio else {
+        return run();
+    };
+    // As that of the raw PCM, the writer ends once its tap was dropped, and sets its result itself.
+    let (_written, ran) = with_scoped_thread(
+        rt,
+        move || {
+            let OpenAudio {
+                writer,
+                files,
+                file,
+            } = audio;
+            let (mut writer, mut files, mut file) = (writer, files, file);
+            write_audio(rt, &mut writer, &mut files, &mut file)
+        },
+        run,
+    )?;
+    ran
 }
