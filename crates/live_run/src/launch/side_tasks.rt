@@ -43,8 +43,8 @@ impl<R: Wait + Clock, D: GainDesk> SideTask<R> for PageThread<D> {
     }
 }
 
-/// Calls `run` in this thread, with the writer of the WAV files in a new one if there are files, and returns the result of
-/// `run` once both have ended. Returns `LiveFault::Thread` if no thread can be started; then `run` is not called.
+/// Calls `run` in this thread, with the writer of the WAV files in a new one if there are files, and returns the result
+/// of `run` once both have ended. Returns `LiveFault::Thread` if no thread can be started; then `run` is not called.
 // No `SideTask`: in a method of a trait, the toolchain does not follow that a file may go to another thread, which is
 // said of a type that belongs to the files.
 pub(crate) fn with_audio<
