@@ -57,8 +57,9 @@ run:
 # The scripts drive the program that the gate has built, four side by side.
 program := crates/studio_main/out/studio_main
 scripts := memory/check tests/captures tests/sdp tests/package tests/library diff/run $(addprefix examples/,check faults statuses blocks wav chart)
-# Live runs wait for most of their time. Three of them leave a processor free, so that none is disturbed. The longest begin first.
-live := senders loopback page desk library control sockets networks faders
+# Live runs wait for most of their time, so three of them leave a processor free. The longest begin first. What a busy machine would
+# disturb all the same, because other programs send or listen, runs alone behind them.
+live := loopback page desk library control sockets faders
 
 try:
 	@gate/try
@@ -69,6 +70,8 @@ test:
 	gate/progress rt ci $(ANEW)
 	$(MAKE) -j4 --no-print-directory PROVED=--proved $(addsuffix .ran,$(scripts))
 	$(MAKE) -j3 -O --no-print-directory $(addsuffix .live,$(live))
+	tests/networks $(program)
+	tests/senders $(program)
 	@cat bin/gate-time
 	@echo "gate: pages, proofs, edits, tests, examples, faults, statuses, blocks, WAV files, charts, captures, SDP files, package, library, engine, memory, live runs, pages, faders, control, a desk, networks and senders passed in $$(( ($$(date +%s) - $$(cat bin/gate-begun)) / 60 )) minutes"
 
