@@ -81,9 +81,6 @@ test:
 %.live:
 	tests/$* $(program)
 
-faders.live:
-	tests/faders
-
 library.live:
 	tests/library $(program) live
 
