@@ -1,9 +1,9 @@
--- A feed's answers, one after another.
+-- The results of a feed, one after another.
 use Rattle.std.proofs.Common.{◌≡◌, ℕ, true, List, [], ◌∷◌, refl}
 use Rattle.studio_io.specs.Answers.{Answer, Tells, answer_of, reaches_end}
 use Rattle.studio_io.specs.declared.feed.FeedAnswer.{FeedAnswer}
 
--- what was told is what was answered
+-- if the results of a feed are known to its end, the first of them is the one that was returned
 pub told-next : (k : ℕ) (left : List Answer) (b : List ℕ) (r : FeedAnswer) (rest : List Answer) → reaches_end k left ≡ true → Tells left b r rest → left ≡ answer_of b r ∷ rest
 unfolding reaches_end
 told-next k [] b r rest w t = absurd (cc)

@@ -20,7 +20,7 @@ rows_joined n (suc m) gains e =
     ap (λ l. take n gains ++ l) (rows_joined n m (drop n gains) (omega (arith, e, length-drop n gains)))
     ∙ take-append-drop n gains
 
--- the gains of these rows are those
+-- splitting gains into rows and joining the rows again returns the same gains
 pub gains_joined : (rows : List (List ℤ)) (gains : List ℤ) → rows_of (ins_of rows) (length rows) gains ≡ rows → length gains ≡ length rows * ins_of rows → gains_in rows ≡ gains
 gains_joined rows gains e long = ap gains_in (sym e) ∙ rows_joined (ins_of rows) (length rows) gains long
 
@@ -43,7 +43,7 @@ module _ (action : GainAction) (schedule : Changes) (next at : ℤ) (gains : Lis
       → answer_at action schedule next at gains ≡ fitting_answer (is_change action) schedule next at (wanted_gains action (matrix_at schedule at) gains)
   answer-fit e = ap (λ b. if b then fitting_answer (is_change action) schedule next at (wanted_gains action (matrix_at schedule at) gains) else Refused Shape) e
 
-  -- a change that has this fault, or none
+  -- the answer to a request that fits and is a change, by the change's fault or none
   pub answer-change : (fault : Option ChangeFault) → fits_request action (matrix_at schedule at) gains ≡ true → is_change action ≡ true
       → change_fault_of schedule next at (wanted_gains action (matrix_at schedule at) gains) ≡ fault → answer_at action schedule next at gains ≡ change_answer fault at
   answer-change fault e changes is =
@@ -51,6 +51,6 @@ module _ (action : GainAction) (schedule : Changes) (next at : ℤ) (gains : Lis
       ∙ ap (λ b. fitting_answer b schedule next at (wanted_gains action (matrix_at schedule at) gains)) changes
       ∙ ap (λ o. change_answer o at) is
 
-  -- gains that are only shown
+  -- the answer to a request that fits and only shows gains
   pub answer-show : fits_request action (matrix_at schedule at) gains ≡ true → is_change action ≡ false → answer_at action schedule next at gains ≡ Shown (int_max at next)
   answer-show e none = answer-fit e ∙ ap (λ b. fitting_answer b schedule next at (wanted_gains action (matrix_at schedule at) gains)) none

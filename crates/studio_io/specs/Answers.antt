@@ -1,4 +1,4 @@
--- The answers of a feed, and the packets of its datagrams.
+-- The results of `Feed::next`, and the packets of the datagrams that it returns.
 use Rattle.std.specs.Prelude.{◌≡◌, ℕ, ◌+◌, ◌≤◌, Bool, true, false, nat_eq, List, [], ◌∷◌, take, count_by, flat_map, ◌⊎◌, if◌then◌else◌}
 use Rattle.rtp_stream.specs.declared.stream_spec.Stream.{Stream}
 use Rattle.rtp_stream.specs.declared.packet.Packet.{Packet}
@@ -15,26 +15,26 @@ pub data Answer : Type 0 where
   Fails : Answer
   Stops : Answer
 
--- an answer, with the octets of its datagram
+-- a result of `next`, with the octets that it wrote to the buffer if it is a datagram
 abbrev pub answer_of : List ℕ → FeedAnswer → Answer
 answer_of octets (Datagram n) = Gives (take n octets)
 answer_of octets Nothing = Waits
 answer_of octets Fault = Fails
 answer_of octets Ended = Stops
 
--- the answer is the next one told, if one was
+-- if the next result of a feed is known, `next` returns it, and the known results after it are left
 abbrev pub Tells : List Answer → List ℕ → FeedAnswer → List Answer → Type 0
 Tells [] octets answer rest = Unit {0}
 Tells (next ∷ told) octets answer rest = (answer_of octets answer ≡ next) × (rest ≡ told)
 
--- a datagram lies in the buffer
+-- a datagram is at most as long as the buffer
 abbrev pub IsWithin : FeedAnswer → ℕ → Type 0
 IsWithin (Datagram n) room = n ≤ room
 IsWithin Nothing room = Unit {0}
 IsWithin Fault room = Unit {0}
 IsWithin Ended room = Unit {0}
 
--- whether the answers reach the end, so many faults having come in a row: the feed ends, or fails 1,000 times in a row
+-- whether a feed ends with these results, after `faults` faults in a row: it says so, or fails 1,000 times in a row
 unfoldable pub reaches_end : ℕ → List Answer → Bool
 reaches_end faults [] = false
 reaches_end faults (Gives octets ∷ told) = reaches_end 0 told
@@ -52,7 +52,7 @@ packet_in WrongLength = []
 abbrev pub packets_of : Stream → List ℕ → List Packet
 packets_of stream octets = packet_in (reception_of stream octets)
 
--- the datagrams before the end, so many faults having come in a row
+-- the datagrams that these results bring before the feed ends, after `faults` faults in a row
 unfoldable pub told_datagrams : ℕ → List Answer → List (List ℕ)
 told_datagrams faults [] = []
 told_datagrams faults (Gives octets ∷ told) = octets ∷ told_datagrams 0 told
@@ -64,11 +64,11 @@ told_datagrams faults (Stops ∷ told) = []
 abbrev pub packets_in : Stream → List (List ℕ) → List Packet
 packets_in stream datagrams = flat_map (packets_of stream) datagrams
 
--- how many of these datagrams a stream receives so
+-- the number of these datagrams whose reception by the stream passes the test
 abbrev pub received_as : (Reception → Bool) → Stream → List (List ℕ) → ℕ
 received_as test stream datagrams = count_by (λ octets. test (reception_of stream octets)) datagrams
 
--- the stream's packets among the datagrams before the end, so many faults having come in a row
+-- the stream's packets among these datagrams, `told_datagrams`
 abbrev pub told_packets : Stream → ℕ → List Answer → List Packet
 told_packets stream faults told = packets_in stream (told_datagrams faults told)
 
@@ -77,7 +77,7 @@ unfoldable pub IsPartOf : List Packet → List Packet → Type 0
 IsPartOf some [] = some ≡ []
 IsPartOf some (packet ∷ packets) = IsPartOf some packets ⊎ ((rest : List Packet) × (some ≡ packet ∷ rest) × IsPartOf rest packets)
 
--- each datagram that is no packet of the stream was counted once, by what it is
+-- each datagram that is not a packet of the stream was counted once: as bad, of a wrong type or of a wrong length
 pub record CountsOthers (stream : Stream) (datagrams : List (List ℕ)) (before after : PathTally) : Type 0 where
   pub bad : after.bad ≡ before.bad + received_as is_bad stream datagrams
   pub wrong_type : after.wrong_type ≡ before.wrong_type + received_as is_wrong_type stream datagrams

@@ -4,7 +4,7 @@ use Rattle.std.specs.declared.vec.Vec.{Vec}
 use Rattle.std.specs.declared.alloc.Global.{Global}
 use Rattle.studio_io.specs.Answers.{Answer, Gives, Stops}
 
--- all datagrams, of each at most 2,048 octets, and then the end
+-- the results of a feed in memory: each of its datagrams, cut to 2,048 octets, and then the end
 abbrev pub told_of : List (Vec ℕ Global) → List Answer
 told_of datagrams = map (λ (datagram : Vec ℕ Global). Gives (take 2048 datagram.items)) datagrams ++ Stops ∷ []
 

@@ -5,7 +5,7 @@ ghost use Rattle.studio_io.specs.Memory.{told_of};
 use crate::feed::{Feed, FeedAnswer};
 use std::marker::Model;
 
-/// A feed that gives these datagrams in order, and then ends. It cuts a datagram that is longer than the buffer.
+/// A feed that returns these datagrams in order, and then ends. It cuts a datagram that is longer than the buffer.
 /// Contracts see it as the results that are left.
 #[derive(Drop)]
 pub struct MemoryFeed<'a> {
@@ -26,7 +26,7 @@ impl<'a> Model for MemoryFeed<'a> {
 }
 
 impl<'a> MemoryFeed<'a> {
-    /// Returns a feed that has given none of these datagrams yet.
+    /// Returns a feed that has returned none of these datagrams yet.
     pub fn new(datagrams: &'a [Vec<u8>]) -> MemoryFeed<'a>
         ensures { result ≡ told_of datagrams.now }
     {

@@ -7,7 +7,7 @@ use Rattle.studio_io.specs.Memory.{told_of}
 use Rattle.studio_io.specs.declared.feed.FeedAnswer.TheVariants.{Datagram}
 use Rattle.studio_io.proofs.memory_feed.MemoryFeedFeed.next.Goals as goal
 
--- the octets that were copied to the front
+-- the octets that were copied to the start of the buffer
 copied : (xs new rest : List ℕ) (count room : ℕ) → count ≡ min room (length xs) → room ≡ 2048 → new ≡ take count xs → take count (new ++ rest) ≡ take 2048 xs
 copied xs new rest count room is enough front =
     let within : count ≤ length xs = subst (λ k. k ≤ length xs) (sym is) (min-le_right room (length xs)) in
@@ -15,7 +15,7 @@ copied xs new rest count room is enough front =
     subst (λ k. take k (new ++ rest) ≡ take 2048 xs) size
     (take-append_seam new rest ∙ (front ∙ (ap (λ k. take k xs) is ∙ (ap (λ k. take (min k (length xs)) xs) enough ∙ take_min 2048 xs))))
 
--- the first that is left was given
+-- the feed returned the first of the datagrams that were left
 told-next : (ended : Bool) (ds : List (Vec ℕ Global)) (n count room : ℕ) (x : Vec ℕ Global) (new rest : List ℕ) → n < length ds → x ≡ get_or ds n x → count ≡ min room (length x.items) → room ≡ 2048 → new ≡ take count x.items
     → Tells (if ended then [] else map (λ (octets : Vec ℕ Global). Gives (take 2048 octets.items)) (drop n ds) ++ Stops ∷ []) (new ++ rest) (Datagram count)
     (if ended then [] else map (λ (octets : Vec ℕ Global). Gives (take 2048 octets.items)) (drop (n + 1) ds) ++ Stops ∷ [])
@@ -26,7 +26,7 @@ told-next false ds n count room x new rest within at is enough front =
     subst (λ l. Tells (map (λ (octets : Vec ℕ Global). Gives (take 2048 octets.items)) l ++ Stops ∷ []) (new ++ rest) (Datagram count) (map (λ (octets : Vec ℕ Global). Gives (take 2048 octets.items)) (drop (n + 1) ds) ++ Stops ∷ []))
     (sym left) (ap Gives (copied x.items new rest count room is enough front), refl)
 
--- the same, where this is what the feed tells
+-- the same, if the known results of the feed are the list `told`
 told-by : (told : List Answer) (ended : Bool) (ds : List (Vec ℕ Global)) (n count room : ℕ) (x : Vec ℕ Global) (new rest : List ℕ) → (if ended then [] else told_of (drop n ds)) ≡ told
     → n < length ds → x ≡ get_or ds n x → count ≡ min room (length x.items) → room ≡ 2048 → new ≡ take count x.items → Tells told (new ++ rest) (Datagram count) (if ended then [] else told_of (drop (n + 1) ds))
 told-by told ended ds n count room x new rest view within at is enough front =
