@@ -1,4 +1,4 @@
--- A feed's datagrams, one answer further.
+-- A feed's datagrams after one more result.
 use Rattle.std.proofs.Common.{◌≡◌, ℕ, ◌+◌, ◌≤◌, ◌<◌, true, false, nat_eq, List, [], ◌∷◌, ◌++◌, take, sym, ap, subst, ◌∙◌, arith, append_assoc, append-nil, inl, inr}
 use Rattle.std.proofs.lemmas.Bool.Decides.{nat_tests}
 use Rattle.studio_io.specs.Answers.{Answer, Gives, Waits, Fails, Stops, Tells, reaches_end, told_datagrams}
@@ -32,7 +32,7 @@ come-end : (all : List Answer) (k : ℕ) (left : List Answer) (before : List (Li
 unfolding told_datagrams
 come-end all k left before h = h.2
 
--- the datagram of an answer
+-- the datagram of a result, if it is one
 abbrev pub given_by : List ℕ → FeedAnswer → List (List ℕ)
 given_by buf (Datagram n) = take n buf ∷ []
 given_by buf Nothing = []
@@ -40,11 +40,11 @@ given_by buf Fault = []
 given_by buf Ended = []
 
 module _ {F : Type 0} (feed_told : F → List Answer) where
-  -- a feed that isn't asked
+  -- no datagram comes from a feed that is not called
   pub goes-nowhere : (reader : FeedReader F) → GoesOn feed_told reader reader []
   goes-nowhere reader = λ all before given whole. subst (λ l. HasCome all reader.state.ended reader.state.in_a_row (feed_told reader.feed) l) (sym (append-nil before)) (given whole)
 
-  -- one that gave these datagrams, and then those
+  -- a feed that returned the datagrams `first`, and then `more`
   pub goes-further : (a b c : FeedReader F) (first more : List (List ℕ)) → GoesOn feed_told a b first → GoesOn feed_told b c more → GoesOn feed_told a c (first ++ more)
   goes-further a b c first more h k = λ all before given. subst (IsGiven feed_told all c) (append_assoc before first more) (k all (before ++ first) (h all before given))
 
@@ -94,7 +94,7 @@ module _ {F : Type 0} (feed_told : F → List Answer) where
       subst (λ b. HasCome all b new.state.in_a_row (feed_told new.feed) (before ++ [])) (sym still)
       (come-end all old.state.in_a_row (feed_told new.feed) before (subst (λ l. HasCome all false old.state.in_a_row l before) next come))
 
-  -- one answer more, which is known to be this one
+  -- one more call of a feed, which returned the next of its known results
   goes-known : (old new : FeedReader F) (buf : List ℕ) (answer : FeedAnswer) → old.state.ended ≡ false → Notes answer old.state new.state → Tells (feed_told old.feed) buf answer (feed_told new.feed)
       → GoesOn feed_told old new (given_by buf answer)
   goes-known old new buf (Datagram n) yet notes tells = goes-datagram old new buf n yet (notes.1 ∙ yet) notes.0 tells

@@ -1,4 +1,4 @@
--- A feed that is asked until it gives no datagram, one answer further.
+-- A feed that is called until it returns no datagram, after one more result.
 use Rattle.std.proofs.Common.{◌≡◌, ℕ, zero, suc, ◌+◌, ◌≤◌, ◌<◌, true, false, nat_eq, List, [], ◌∷◌, ◌++◌, length, take, refl, sym, ap, subst, ◌∙◌, arith, append-nil, inl, inr}
 use Rattle.std.proofs.lemmas.Bool.Decides.{nat_tests}
 use Rattle.studio_io.specs.Answers.{Answer, Gives, Waits, Fails, Stops, Tells, reaches_end}
@@ -20,7 +20,7 @@ not_asked : (l : List Answer) → (asked_datagrams 0 l ≡ []) × (asked_left 0 
 unfolding asked_datagrams asked_left
 not_asked l = (refl, refl)
 
--- all so far were datagrams: one answer more
+-- one more call, if every result so far was a datagram
 ask-more : (k : ℕ) (l : List Answer) → length (asked_datagrams k l) ≡ k
     → (asked_datagrams (k + 1) l ≡ asked_datagrams k l ++ asked_datagrams 1 (asked_left k l)) × (asked_left (k + 1) l ≡ asked_left 1 (asked_left k l))
 unfolding asked_datagrams asked_left
@@ -34,7 +34,7 @@ ask-more (suc k) (Waits ∷ l) h = absurd (omega (arith, h))
 ask-more (suc k) (Fails ∷ l) h = absurd (omega (arith, h))
 ask-more (suc k) (Stops ∷ l) h = absurd (omega (arith, h))
 
--- and the next is none: asking more often gives no more
+-- if every result so far was a datagram, and the next is none, then more calls return no more datagrams
 ask-stops : (k n : ℕ) (l : List Answer) → length (asked_datagrams k l) ≡ k → k + 1 ≤ n → asked_datagrams 1 (asked_left k l) ≡ []
     → (asked_datagrams n l ≡ asked_datagrams k l) × (asked_left n l ≡ asked_left 1 (asked_left k l))
 unfolding asked_datagrams asked_left
@@ -51,7 +51,7 @@ ask-stops (suc k) (suc n) (Waits ∷ l) h le none = absurd (omega (arith, h))
 ask-stops (suc k) (suc n) (Fails ∷ l) h le none = absurd (omega (arith, h))
 ask-stops (suc k) (suc n) (Stops ∷ l) h le none = absurd (omega (arith, h))
 
--- one answer of a list that is known to the end
+-- one result of a feed whose results are known to its end
 known_datagram : (k : ℕ) (octets : List ℕ) (rest : List Answer) → reaches_end k (Gives octets ∷ rest) ≡ true
     → (reaches_end 0 rest ≡ true) × (octets ∷ [] ≡ asked_datagrams 1 (until_end k (Gives octets ∷ rest))) × (until_end 0 rest ≡ asked_left 1 (until_end k (Gives octets ∷ rest)))
 unfolding reaches_end until_end asked_datagrams asked_left
@@ -76,17 +76,17 @@ unfolding until_end asked_datagrams asked_left
 known_end k rest = (refl, refl)
 
 module _ {F : Type 0} (feed_told : F → List Answer) where
-  -- a feed that has ended gives nothing
+  -- a feed that has ended returns nothing
   pub asks-ended : (most : ℕ) (reader : FeedReader F) → reader.state.ended ≡ true → Asks feed_told most reader reader []
   asks-ended most reader over = λ known.
       let none : left_in feed_told reader ≡ [] = ap (λ b. left_by b reader.state.in_a_row (feed_told reader.feed)) over in
       (known, sym (ap (asked_datagrams most) none ∙ (none_asked most).0), none ∙ sym (ap (asked_left most) none ∙ (none_asked most).1))
 
-  -- nor does one that isn't asked
+  -- a feed that is not called returns nothing
   pub asks-none : (reader : FeedReader F) → Asks feed_told 0 reader reader []
   asks-none reader = λ known. (known, sym (not_asked (left_in feed_told reader)).0, sym (not_asked (left_in feed_told reader)).1)
 
-  -- a feed that gave a datagram each time is asked once more
+  -- a feed that returned a datagram each time is called once more
   pub asks-more : (k : ℕ) (a b c : FeedReader F) (first one : List (List ℕ)) → length first ≡ k → Asks feed_told k a b first → Asks feed_told 1 b c one → Asks feed_told (k + 1) a c (first ++ one)
   asks-more k a b c first one full f s = λ known.
       let h = f known in
@@ -98,7 +98,7 @@ module _ {F : Type 0} (feed_told : F → List Answer) where
         g.2 ∙ (ap (asked_left 1) h.2 ∙ sym m.1),
       )
 
-  -- and gave none then
+  -- a feed that returned a datagram each time, and then none
   pub asks-stop : (k most : ℕ) (a b c : FeedReader F) (first one : List (List ℕ)) → length first ≡ k → k + 1 ≤ most → one ≡ [] → Asks feed_told k a b first → Asks feed_told 1 b c one → Asks feed_told most a c (first ++ one)
   asks-stop k most a b c first one full le none f s = λ known.
       let h = f known in
@@ -179,7 +179,7 @@ module _ {F : Type 0} (feed_told : F → List Answer) where
       let one = known_end old.state.in_a_row rest in
       (over new ended, one.0 ∙ sym (ap (asked_datagrams 1) left), gone new ended ∙ (one.1 ∙ sym (ap (asked_left 1) left)))
 
-  -- one answer, which is known to be this one
+  -- one call of a feed, which returned the next of its known results
   asks-known : (old new : FeedReader F) (buf : List ℕ) (answer : FeedAnswer) → old.state.ended ≡ false → Notes answer old.state new.state → Tells (feed_told old.feed) buf answer (feed_told new.feed)
       → Asks feed_told 1 old new (given_by buf answer)
   asks-known old new buf (Datagram n) yet notes tells = asks-datagram old new buf n yet (notes.1 ∙ yet) notes.0 tells

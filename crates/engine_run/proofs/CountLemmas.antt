@@ -8,7 +8,7 @@ use Rattle.studio_engine.specs.Engine.{EngineState}
 use Rattle.studio_engine.specs.Session.{HasSession}
 use Rattle.studio_engine.proofs.EngineLemmas.{pulled_at}
 
--- one element, read twice
+-- two values that were read from the same place are equal
 pub one : {X : Type 0} (x y : X) → Some x ≡ Some y → x ≡ y
 one x y e = cc
 

@@ -20,7 +20,7 @@ with_each-append : (schedule : Changes) (first more : List (ℤ × List (List �
 with_each-append schedule [] more = refl
 with_each-append schedule (change ∷ first) more = with_each-append (with_change schedule change.0 change.1) first more
 
--- some changes, and then more
+-- changes of a studio that already has changes
 pub with_changes-append : (studio : Studio) (first more : List (ℤ × List ℤ)) → with_changes (with_changes studio first) more ≡ with_changes studio (first ++ more)
 with_changes-append studio first more =
     ap (λ (schedule : Changes). record studio { schedule = schedule })
@@ -30,7 +30,7 @@ with_changes-append studio first more =
 more_taken : (a b c first more : List (ℤ × List ℤ)) → b ≡ a ++ first → c ≡ b ++ more → c ≡ a ++ (first ++ more)
 more_taken a b c first more e f = f ∙ (ap (λ l. l ++ more) e ∙ append_assoc a first more)
 
--- a list that did not grow
+-- nothing was added to a list that stayed the same
 no_more : (a more : List (ℤ × List ℤ)) → a ≡ a ++ more → more ≡ []
 no_more a [] e = refl
 no_more a (x ∷ more) e = let long = ap length e in absurd (omega (arith, long, length-append a (x ∷ more)))
@@ -45,12 +45,12 @@ pub settled-same : (studio : Studio) (all : List (List Answer)) (clock : List �
     → IsSettledRun studio all clock report before after earlier later → IsSettledRunWith studio all clock report before after earlier later taken taken
 settled-same studio all clock report before after earlier later taken h = record { changes = []; taken = sym (append-nil taken); run = h }
 
--- no change
+-- no change was taken
 pub taken-none : (studio : Studio) (engine : EngineState) (events : List TraceEvent) (datagrams : List (List ℕ)) (taken : List (ℤ × List ℤ)) → HasSession studio engine events datagrams
     → HasTakenChanges studio engine events datagrams taken taken
 taken-none studio engine events datagrams taken s = record { changes = []; taken = sym (append-nil taken); stands = s }
 
--- changes, and then more
+-- changes were taken, and then more
 pub taken-more : (studio : Studio) (mid new : EngineState) (events : List TraceEvent) (datagrams : List (List ℕ)) (a b c : List (ℤ × List ℤ)) → (h : HasTakenChanges studio mid events datagrams a b)
     → HasTakenChanges (with_changes studio h.changes) new events datagrams b c → HasTakenChanges studio new events datagrams a c
 taken-more studio mid new events datagrams a b c h k = record {
@@ -66,7 +66,7 @@ module _ {F C K T : Type 0} (feed_told : F → List Answer) (clock_told : C → 
       → IsUnderWayWith feed_told clock_told sink_handed tap_heard studio all clock before earlier state taken taken
   run-as-it-was state taken h = record { changes = []; taken = sym (append-nil taken); run = h }
 
-  -- one whose engine did, and whose tap was told nothing else
+  -- a run whose engine took changes, and whose observer got no other notification
   pub run-asked : (old : RunState F C K T) (engine : EngineState) (tap : T) (a b : List (ℤ × List ℤ)) → (h : IsUnderWay feed_told clock_told sink_handed tap_heard studio all clock before earlier old) → engine.time ≡ old.engine.time
       → Hears (tap_heard old.tap) [] (tap_heard tap) → HasTakenChanges studio engine (events_by studio.open_at h.rounds) h.datagrams a b
       → IsUnderWayWith feed_told clock_told sink_handed tap_heard studio all clock before earlier (record old { engine = engine; tap = tap }) a b
@@ -89,7 +89,7 @@ module _ {F C K T : Type 0} (feed_told : F → List Answer) (clock_told : C → 
         };
       }
 
-  -- and then took more
+  -- a run that took changes, and then more
   pub run-took-more : (mid new : RunState F C K T) (a b c : List (ℤ × List ℤ)) → (h : IsUnderWayWith feed_told clock_told sink_handed tap_heard studio all clock before earlier mid a b)
       → IsUnderWayWith feed_told clock_told sink_handed tap_heard (with_changes studio h.changes) all clock before earlier new b c
       → IsUnderWayWith feed_told clock_told sink_handed tap_heard studio all clock before earlier new a c

@@ -1,4 +1,4 @@
--- The feeds of a studio, one stream further.
+-- The feeds of a studio, after one more stream.
 use Rattle.std.proofs.Common.{◌≡◌, ℕ, zero, suc, ◌+◌, ◌≤◌, ◌<◌, List, [], ◌∷◌, ◌++◌, drop, get_or, length, map, take, refl, sym, ap, ◌∙◌, arith, length-append}
 use Rattle.std.proofs.lemmas.List.{drop-map, length-drop, take-append-drop, take-map, take_all, take_more}
 use Rattle.std.proofs.lemmas.List.Sums.{sum_by-append}
@@ -15,13 +15,13 @@ module _ {X : Type 0} where
   none_left : (k : ℕ) (xs : List X) → drop k xs ≡ [] → length xs ≤ k
   none_left k xs e = let l = length-drop k xs in let h = ap length e in omega (arith, l, h)
 
-  -- where nothing is left there is no more to take
+  -- if nothing is left after `k` elements, taking more takes no more
   pub take-over : (k n : ℕ) (xs : List X) → k ≤ n → drop k xs ≡ [] → (take k xs ≡ take n xs) × (drop k xs ≡ drop n xs)
   take-over k n xs le e =
       let few = none_left k xs e in
       (take_all k xs few ∙ sym (take_all n xs (omega (arith, few, le))), e ∙ sym (drop_past n xs (omega (arith, few, le))))
 
-  -- the next one was taken
+  -- the next element was taken
   pub take-next : (k : ℕ) (xs : List X) (x : X) (rest : List X) → drop k xs ≡ x ∷ rest → (take (k + 1) xs ≡ take k xs ++ x ∷ []) × (rest ≡ drop (k + 1) xs)
   take-next zero [] x rest e = absurd (cc)
   take-next (suc k) [] x rest e = absurd (cc)
@@ -31,7 +31,7 @@ module _ {X : Type 0} where
       let h = take-next k ys x rest e in
       (ap (λ n. take n (y ∷ ys)) more ∙ ap (λ l. y ∷ l) h.0, h.1 ∙ ap (λ n. drop n (y ∷ ys)) (sym more))
 
-  -- what is left after these streams
+  -- the items that are left after those of these streams
   abbrev pub rest_of : List Stream → List X → List X
   rest_of [] xs = xs
   rest_of (stream ∷ streams) xs = rest_of streams (drop stream.paths xs)
@@ -44,7 +44,7 @@ module _ {X : Type 0} where
   rest-more [] stream xs = refl
   rest-more (s ∷ streams) stream xs = rest-more streams stream (drop s.paths xs)
 
-  -- the streams up to a place, and one more
+  -- the items of the streams up to a place, and of one more
   pub grouped-next : (streams : List Stream) (i : ℕ) (stream : Stream) (xs : List X) → i < length streams → stream ≡ get_or streams i stream
       → grouped (take (i + 1) streams) xs ≡ grouped (take i streams) xs ++ take stream.paths (rest_of (take i streams) xs) ∷ []
   grouped-next streams i stream xs within is =
@@ -55,7 +55,7 @@ module _ {X : Type 0} where
   rest-next streams i stream xs within is =
       ap (λ l. rest_of l xs) (take_more streams i stream within ∙ ap (λ s. take i streams ++ s ∷ []) (sym is)) ∙ rest-more (take i streams) stream xs
 
-  -- so many paths more, where there was a feed for each
+  -- the number of paths after one more stream, if there was a feed for each of its paths
   pub total-next : (streams : List Stream) (i : ℕ) (stream : Stream) (all old new : List X) → i < length streams → stream ≡ get_or streams i stream
       → new ≡ drop stream.paths old → length (take stream.paths old) ≡ stream.paths → path_total (take i streams) + length old ≡ length all
       → path_total (take (i + 1) streams) + length new ≡ length all

@@ -29,22 +29,22 @@ use Rattle.engine_run.proofs.RoundLemmas.{answers-last, answers-more, last-takes
 use Rattle.engine_run.proofs.TakeLemmas.{given-more, given-none, given-turned}
 use Rattle.engine_run.proofs.TellLemmas.{adds_more, adds_none, heard_turned, hears_close, hears_on}
 
--- what an answer that is no fault ensures
+-- what a result ensures that is not an error
 pub on-fine : {T E : Type 0} (r : Result T E) (P : Type 0) → is_err r ≡ false → OnOk r P → P
 on-fine (Ok x) P fine p = p
 on-fine (Err e) P fine p = absurd (false≢true (sym fine))
 
--- five facts of an answer together
+-- five facts of an `Ok` result together
 pub if-five : {T E : Type 0} (r : Result T E) (A B C D F Q : T → Type 0) → IfOk r A → IfOk r B → IfOk r C → IfOk r D → IfOk r F → ((x : T) → A x → B x → C x → D x → F x → Q x) → IfOk r Q
 if-five (Ok x) A B C D F Q a b c d f all = all x a b c d f
 if-five (Err e) A B C D F Q a b c d f all = tt
 
--- one fact of an answer
+-- one fact of an `Ok` result
 pub if-one : {T E : Type 0} (r : Result T E) (A Q : T → Type 0) → IfOk r A → ((x : T) → A x → Q x) → IfOk r Q
 if-one (Ok x) A Q a all = all x a
 if-one (Err e) A Q a all = tt
 
--- more that was sent and counted
+-- the count after more datagrams were sent and counted
 count-more : (old mid : ℕ) (xs ys : List (List ℕ)) → (length xs < 2 ^ 64 → old ≡ length xs) → (old + length ys < 2 ^ 64 → mid ≡ old + length ys) → length (xs ++ ys) < 2 ^ 64 → mid ≡ length (xs ++ ys)
 count-more old mid xs ys h k few =
     let sum = length-append xs ys in
@@ -54,7 +54,7 @@ count-more old mid xs ys h k few =
 
 module _ {F C K T : Type 0} (feed_told : F → List Answer) (clock_told : C → List ℤ) (sink_handed : K → Option (List (List ℕ))) (tap_heard : T → Option (List Heard))
     (studio : Studio) (all : List (List (List Answer))) (clock : List ℤ) (before : Option (List (List ℕ))) (earlier : Option (List Heard)) where
-  -- before the first round
+  -- a run before its first round is under way
   pub run-begins : (feeds : List F) (state : RunState F C K T) (streams : List Stream) → streams ≡ studio.streams → all ≡ grouped studio.streams (map feed_told feeds) → clock ≡ clock_told state.clock → before ≡ sink_handed state.sink → earlier ≡ tap_heard state.tap
       → HasSession studio state.engine [] [] → HaveBegun streams feeds state.readers.items → state.counts.blocks ≡ 0 → IsUnderWay feed_told clock_told sink_handed tap_heard studio all clock before earlier state
   run-begins feeds state streams streams_are all_is clock_is before_is earlier_is s begun none = record {
@@ -70,7 +70,7 @@ module _ {F C K T : Type 0} (feed_told : F → List Answer) (clock_told : C → 
     heard = subst (λ o. Hears o [] (tap_heard state.tap)) (sym earlier_is) (adds_none (tap_heard state.tap));
   }
 
-  -- a reading more
+  -- a run after one more clock reading
   pub turn-more : (old new : RunState F C K T) (h : IsUnderWay feed_told clock_told sink_handed tap_heard studio all clock before earlier old) (answer now : ℤ)
       → now ≡ time_with old.engine.time answer → TellsTime (clock_told old.clock) answer (clock_told new.clock)
       → HasSent studio new.engine (turned old.engine.time now (events_by studio.open_at h.rounds)) h.datagrams (sink_handed old.sink) (sink_handed new.sink) old.counts.blocks new.counts.blocks
@@ -101,7 +101,7 @@ module _ {F C K T : Type 0} (feed_told : F → List Answer) (clock_told : C → 
         last = refl;
       }
 
-  -- a tap that looked was told nothing
+  -- a call of the observer that is no notification changes nothing
   pub looked : (old : RunState F C K T) (tap : T) → IsTurned feed_told clock_told sink_handed tap_heard studio all clock before earlier old → Hears (tap_heard old.tap) [] (tap_heard tap)
       → IsTurned feed_told clock_told sink_handed tap_heard studio all clock before earlier (record old { tap = tap })
   looked old tap h none =
@@ -125,7 +125,7 @@ module _ {F C K T : Type 0} (feed_told : F → List Answer) (clock_told : C → 
         last = h.last;
       }
 
-  -- what arrived since the last
+  -- a run after the datagrams that arrived since the last clock reading
   pub take-more : (old new : RunState F C K T) (h : IsTurned feed_told clock_told sink_handed tap_heard studio all clock before earlier old) (olds news : List (Vec (FeedReader F) Global)) (count : ℕ) → count ≡ length olds
       → old.readers.items ≡ olds → new.readers.items ≡ news → new.clock ≡ old.clock → new.sink ≡ old.sink → new.counts ≡ old.counts
       → TakesAll feed_told studio new.engine (events_by studio.open_at h.run.rounds) h.run.datagrams olds news (tap_heard old.tap) (tap_heard new.tap) count
@@ -154,7 +154,7 @@ module _ {F C K T : Type 0} (feed_told : F → List Answer) (clock_told : C → 
             (hears_on studio.open_at before_it earlier (tap_heard old.tap) (tap_heard new.tap) t.arrivals run.heard t.heard);
       }
 
-  -- the end
+  -- a run that was closed, and whose datagrams were all sent, has come to its end
   pub run-ends : (old new : RunState F C K T) (mid : EngineState) (h : IsUnderWay feed_told clock_told sink_handed tap_heard studio all clock before earlier old) → AllEnded old.readers.items
       → HasSession studio mid (shut old.engine.closed (events_by studio.open_at h.rounds)) h.datagrams
       → ((events : List TraceEvent) → HasSession studio mid events h.datagrams → HasSent studio new.engine events h.datagrams (sink_handed old.sink) (sink_handed new.sink) old.counts.blocks new.counts.blocks)
@@ -186,7 +186,7 @@ module _ {F C K T : Type 0} (feed_told : F → List Answer) (clock_told : C → 
         heard = hears_close studio.open_at (events_by studio.open_at h.rounds) earlier (tap_heard old.tap) (tap_heard new.tap) mid.time closed.time h.heard told;
       }
 
-  -- and its report
+  -- the report of a run that has come to its end
   pub run-settled : (feeds : List (List Answer)) (state : RunState F C K T) (report : WorkReport) (after : Option (List (List ℕ))) (later : Option (List Heard)) (d : IsDone sink_handed tap_heard studio all clock before earlier state)
       → all ≡ grouped studio.streams feeds → AreCounts studio (events_of studio d.rounds) report.streams.items → report.blocks ≡ state.counts.blocks → after ≡ sink_handed state.sink → later ≡ tap_heard state.tap
       → IsSettledRun studio feeds clock report before after earlier later

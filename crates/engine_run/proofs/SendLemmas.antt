@@ -10,14 +10,14 @@ use Rattle.studio_io.specs.Sinks.{Hands}
 use Rattle.engine_run.specs.Output.{HasSent}
 use Rattle.engine_run.proofs.TellLemmas.{adds_more, adds_none}
 
--- one turn after another, to the same reading
+-- two turns to the same reading, one after the other
 pub turned_twice : (now first mid last : ℤ) (events : List TraceEvent) → (mid ≡ first) ⊎ (mid ≡ now) → (last ≡ mid) ⊎ (last ≡ now) → turned mid last (turned first mid events) ≡ turned first last events
 turned_twice now first mid last events (inl e) moves = ap (λ l. turned mid last l) (sym (turned_same first mid events e)) ∙ ap (λ t. turned t last events) e
 turned_twice now first mid last events (inr e) moves =
     let same : last ≡ mid = elim moves [ inl f ↦ f | inr f ↦ f ∙ sym e ] in
     sym (turned_same mid last (turned first mid events) same) ∙ ap (λ t. turned first t events) (sym same)
 
--- where a turn is after another
+-- the time after two turns to the same reading
 pub time_twice : (now first mid last : ℤ) → (mid ≡ first) ⊎ (mid ≡ now) → (last ≡ mid) ⊎ (last ≡ now) → (last ≡ first) ⊎ (last ≡ now)
 time_twice now first mid last (inl e) (inl f) = inl (f ∙ e)
 time_twice now first mid last (inr e) (inl f) = inr (f ∙ e)
@@ -25,12 +25,12 @@ time_twice now first mid last (inl e) (inr f) = inr f
 time_twice now first mid last (inr e) (inr f) = inr f
 
 module _ (studio : Studio) where
-  -- none was sent yet
+  -- no datagram was sent
   pub sent_none : (engine : EngineState) (events : List TraceEvent) (datagrams : List (List ℕ)) (handed : Option (List (List ℕ))) (count : ℕ) → HasSession studio engine events datagrams
       → HasSent studio engine events datagrams handed handed count count
   sent_none engine events datagrams handed count s = record { more = []; stands = subst (λ l. HasSession studio engine events l) (sym (append-nil datagrams)) s; count = λ h. omega arith; handed = adds_none handed }
 
-  -- and then one more
+  -- one more datagram was sent
   pub sent_more : (old new : EngineState) (events later : List TraceEvent) (datagrams : List (List ℕ)) (first mid last : Option (List (List ℕ))) (none some all : ℕ) (before after : List ℕ) (len : ℕ)
       → length after ≡ length before → len ≤ length before → (sent : HasSent studio old events datagrams first mid none some) → Gives studio new later (datagrams ++ sent.more) before after len
       → Hands mid (take len after ∷ []) last → (some + 1 < 2 ^ 64 → all ≡ some + 1) → HasSent studio new later datagrams first last none all

@@ -1,4 +1,4 @@
--- The datagrams that were taken of the feeds, one answer, one feed and one stream further.
+-- The datagrams that were taken from the feeds, after one more result, one more feed and one more stream.
 use Rattle.std.proofs.Common.{◌≡◌, ◌≢◌, inl, inr, ℕ, zero, suc, ◌+◌, ◌≤◌, ◌<◌, true, false, List, [], ◌∷◌, ◌++◌, length, map, get_or, ℤ, Option, Some, slice_get, unwrap_or, refl, sym, ap, subst, ◌∙◌, arith, append_assoc, append-nil, length-append}
 use Rattle.std.specs.declared.vec.Vec.{Vec}
 use Rattle.std.specs.declared.alloc.Global.{Global}
@@ -26,13 +26,13 @@ use Rattle.engine_run.proofs.GroupLemmas.{grouped-map}
 use Rattle.engine_run.proofs.RoundLemmas.{are_arrivals, arrivals-append, by-rounds-front, by-rounds-more, datagrams-append, datagrams-turned, more_beside, more_elsewhere, more_here, none_more, none_before}
 use Rattle.engine_run.proofs.TellLemmas.{adds_none, hears_more}
 
--- an element beside one that was written
+-- an element at another place than the one that was written
 set_apart : {X : Type 0} (xs : List X) (i j : ℕ) (v w : X) → j ≢ i → slice_get xs j ≡ Some w → slice_get (set xs i v) j ≡ Some w
 set_apart xs i j v w ne at =
     let within : j < length xs = slice_get_within xs j w at in
     slice_get_read (set xs i v) (length xs) j w (sym (length-set xs i v)) within (sym (get_or-set_other xs i j v w ne ∙ get_or_from_slice_get xs j w w at))
 
--- what two reads of one place give
+-- `get_or` returns the element that `slice_get` finds
 same_at : {X : Type 0} (xs : List X) (i : ℕ) (d w : X) → slice_get xs i ≡ Some w → get_or xs i d ≡ w
 same_at xs i d w at = get_or_from_slice_get xs i w d at
 
@@ -43,7 +43,7 @@ arrivals-more : (stream path : ℕ) (xs ys : List (List ℕ)) → arrivals_on st
 arrivals-more stream path [] ys = refl
 arrivals-more stream path (x ∷ xs) ys = ap (λ l. Arrival stream path x ∷ l) (arrivals-more stream path xs ys)
 
--- one element more was made of another
+-- one more element was made from the next of the elements that are left
 pub begun-more : {A B : Type 0} (v : A → B) (taken news : List B) (x : A) (y : B) (rest left : List A) (all : List B) → taken ++ map v rest ≡ all → rest ≡ x ∷ left → news ≡ taken ++ y ∷ [] → y ≡ v x
     → news ++ map v left ≡ all
 begun-more v taken news x y rest left all h rest_is news_is y_is =
@@ -51,7 +51,7 @@ begun-more v taken news x y rest left all h rest_is news_is y_is =
     ∙ (append_assoc taken (v x ∷ []) (map v left) ∙ (ap (λ r. taken ++ map v r) (sym rest_is) ∙ h))
 
 module _ {F : Type 0} where
-  -- the first so many feeds of a stream have ended, or those of the first streams
+  -- the first `count` feeds of a stream have ended; `FirstAllEnded` says so of the feeds of the first `count` streams
   abbrev pub FirstEnded : List (FeedReader F) → ℕ → Type 0
   FirstEnded readers count = (path : ℕ) (reader : FeedReader F) → path < count → slice_get readers path ≡ Some reader → reader.state.ended ≡ true
 
@@ -83,7 +83,7 @@ module _ {F : Type 0} where
   all-ended-all streams i before all = λ stream own at. let within : stream < length streams = slice_get_within streams stream own at in before stream own (omega (arith, within, all)) at
 
 module _ {F : Type 0} (feed_told : F → List Answer) where
-  -- a feed that gave nothing
+  -- a feed that returned no datagram
   pub takes-none : (studio : Studio) (engine : EngineState) (events : List TraceEvent) (datagrams : List (List ℕ)) (stream path : ℕ) (old new : FeedReader F) (o : Option (List Heard)) (most : ℕ)
       → HasSession studio engine events datagrams → GoesOn feed_told old new [] → Asks feed_told most old new []
       → (t : Takes feed_told studio engine events datagrams stream path old new o o most) × (t.given ≡ [])
@@ -109,7 +109,7 @@ module _ {F : Type 0} (feed_told : F → List Answer) where
     heard_more = subst (λ l. Hears o (heard_by (time_at studio.open_at events) l) q) (sym (arrivals-more stream path t.given one.given))
         (hears_more studio.open_at events o p q (arrivals_on stream path t.given) (arrivals_on stream path one.given) t.heard one.heard)
 
-    -- one datagram more, all so far being one each
+    -- one more call returned a datagram, as each call before it did
     pub takes-more : length one.given ≡ 1 → (s : Takes feed_told studio new events datagrams stream path a c o q (k + 1)) × (length s.given ≡ k + 1)
     takes-more single = (
       record {
@@ -123,7 +123,7 @@ module _ {F : Type 0} (feed_told : F → List Answer) where
       omega (arith, full, single, length-append t.given one.given),
     )
 
-    -- one answer more, which was no datagram: a feed that is asked more often gives no more
+    -- one more call returned no datagram: this is so for any greater number of calls
     pub takes-last : (most : ℕ) → k + 1 ≤ most → one.given ≡ [] → Takes feed_told studio new events datagrams stream path a c o q most
     takes-last most le none = record {
       given = t.given ++ one.given;
@@ -134,7 +134,7 @@ module _ {F : Type 0} (feed_told : F → List Answer) where
       asks = asks-stop feed_told k most a b c t.given one.given full le none t.asks one.asks;
     }
 
-  -- no feed of a stream yet
+  -- no feed of a stream was called yet
   pub stream-none : (studio : Studio) (engine : EngineState) (events : List TraceEvent) (datagrams : List (List ℕ)) (stream : ℕ) (readers : List (FeedReader F)) (o : Option (List Heard))
       → HasSession studio engine events datagrams → TakesStream feed_told studio engine events datagrams stream readers readers o o 0
   stream-none studio engine events datagrams stream readers o s = record {
@@ -158,7 +158,7 @@ module _ {F : Type 0} (feed_told : F → List Answer) where
     beside : (path : ℕ) → path ≢ i → datagrams_on stream path (before.arrivals ++ arrivals_on stream i t.given) ≡ datagrams_on stream path before.arrivals
     beside path ne = more_beside stream i path before.arrivals t.given ne
 
-    -- one feed more
+    -- one more feed of a stream was called
     pub stream-more : TakesStream feed_told studio new events datagrams stream olds (set now i moved) o q (i + 1)
     stream-more = record {
       arrivals = before.arrivals ++ arrivals_on stream i t.given;
@@ -187,7 +187,7 @@ module _ {F : Type 0} (feed_told : F → List Answer) where
       ];
     }
 
-  -- no stream's feeds yet
+  -- no feed of any stream was called yet
   pub all-none : (studio : Studio) (engine : EngineState) (events : List TraceEvent) (datagrams : List (List ℕ)) (readers : List (Vec (FeedReader F) Global)) (o : Option (List Heard))
       → HasSession studio engine events datagrams → TakesAll feed_told studio engine events datagrams readers readers o o 0
   all-none studio engine events datagrams readers o s = record {
@@ -210,7 +210,7 @@ module _ {F : Type 0} (feed_told : F → List Answer) where
     other : (stream path : ℕ) → stream ≢ i → datagrams_on stream path (before.arrivals ++ t.arrivals) ≡ datagrams_on stream path before.arrivals
     other stream path ne = none_more stream path before.arrivals t.arrivals (t.others stream path ne)
 
-    -- one stream's more
+    -- the feeds of one more stream were called
     pub all-more : TakesAll feed_told studio new events datagrams olds (set now i moved) o q (i + 1)
     all-more = record {
       arrivals = before.arrivals ++ t.arrivals;
@@ -246,7 +246,7 @@ module _ {F : Type 0} (feed_told : F → List Answer) where
       ];
     }
 
-  -- what the feeds gave stays so after a reading
+  -- a clock reading changes nothing about what the feeds returned
   pub given-turned : (all : List (List (List Answer))) (readers : List (Vec (FeedReader F) Global)) (old new : ℤ) (events : List TraceEvent) (rounds : List Round) (answer : ℤ)
       → HaveGiven feed_told all readers events rounds → HaveGiven feed_told all readers (turned old new events) (rounds ++ record { answer = answer; asked = false; arrivals = [] } ∷ [])
   given-turned all readers old new events rounds answer h = record {
@@ -264,7 +264,7 @@ module _ {F : Type 0} (feed_told : F → List Answer) where
         );
   }
 
-  -- and goes on by what was taken
+  -- the datagrams that were taken after the last reading are added to those that the feeds returned
   pub given-more : (studio : Studio) (engine : EngineState) (all : List (List (List Answer))) (olds news : List (Vec (FeedReader F) Global)) (events : List TraceEvent) (datagrams : List (List ℕ)) (o p : Option (List Heard)) (count : ℕ) (front : List Round) (answer : ℤ) → count ≡ length olds
       → HaveGiven feed_told all olds events (front ++ record { answer = answer; asked = false; arrivals = [] } ∷ []) → (t : TakesAll feed_told studio engine events datagrams olds news o p count)
       → HaveGiven feed_told all news (events ++ t.arrivals) (front ++ record { answer = answer; asked = true; arrivals = t.arrivals } ∷ [])
@@ -292,7 +292,7 @@ module _ {F : Type 0} (feed_told : F → List Answer) where
         );
   }
 
-  -- an element of a list that was made of another
+  -- an element of a list that was made from another by `map`
   map_at : {A B : Type 0} (v : A → B) (xs : List A) (i : ℕ) (y : B) → slice_get (map v xs) i ≡ Some y → (x : A) × (slice_get xs i ≡ Some x) × (y ≡ v x)
   map_at v [] zero y e = absurd (cc)
   map_at v [] (suc i) y e = absurd (cc)
@@ -305,7 +305,7 @@ module _ {F : Type 0} (feed_told : F → List Answer) where
   at_map v (y ∷ xs) zero x e = ap (λ o. Some (v (unwrap_or o x))) e
   at_map v (y ∷ xs) (suc i) x e = at_map v xs i x e
 
-  -- before the first round
+  -- no feed has returned a datagram before the first round
   pub given-none : (streams : List Stream) (feeds : List F) (readers : List (Vec (FeedReader F) Global)) → HaveBegun streams feeds readers → HaveGiven feed_told (grouped streams (map feed_told feeds)) readers [] []
   given-none streams feeds readers begun = record {
     each = λ stream own at.

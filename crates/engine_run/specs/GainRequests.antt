@@ -7,11 +7,11 @@ use Rattle.studio_session.specs.Event.{TraceEvent}
 use Rattle.studio_engine.specs.Engine.{EngineState}
 use Rattle.studio_engine.specs.Session.{HasSession}
 
--- where the engine's next block begins
+-- the time at which the engine's next block begins
 abbrev pub next_start : EngineState → ℤ
 next_start engine = block_start engine.mixer.packer.spec engine.mixer.packer.number
 
--- exactly the changes that were taken more are those of the studio
+-- the engine has a session of the studio with exactly the changes of gains that were taken from `before` to `after`
 pub record HasTakenChanges (studio : Studio) (engine : EngineState) (events : List TraceEvent) (datagrams : List (List ℕ)) (before after : List (ℤ × List ℤ)) : Type 0 where
   pub changes : List (ℤ × List ℤ)
   pub taken : after ≡ before ++ changes

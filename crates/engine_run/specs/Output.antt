@@ -6,7 +6,8 @@ use Rattle.studio_engine.specs.Engine.{EngineState}
 use Rattle.studio_engine.specs.Session.{HasSession}
 use Rattle.studio_io.specs.Sinks.{Hands}
 
--- after these datagrams the engine gave more of its events, of which each was counted, and the sink was handed exactly those
+-- the engine returned further datagrams after these. Exactly the further ones were passed to the sink, and each was
+-- counted
 pub record HasSent (studio : Studio) (engine : EngineState) (events : List TraceEvent) (datagrams : List (List ℕ)) (before after : Option (List (List ℕ))) (old new : ℕ) : Type 0 where
   pub more : List (List ℕ)
   pub stands : HasSession studio engine events (datagrams ++ more)

@@ -1,4 +1,4 @@
--- The rounds of a run: what the clock told, and what arrived by then.
+-- The rounds of a run: the clock readings, and the datagrams that arrived in each round.
 use Rattle.std.specs.Prelude.{◌≡◌, ℕ, ◌≤◌, Bool, true, false, ◌&&◌, nat_eq, List, [], ◌∷◌, ◌++◌, length, map, flat_map, ℤ, if◌then◌else◌}
 use Rattle.studio_config.specs.Studio.{Studio}
 use Rattle.studio_session.specs.Event.{TraceEvent, Arrival, Reading, Closing}
@@ -7,17 +7,17 @@ use Rattle.studio_io.specs.Answers.{Answer}
 use Rattle.studio_io.specs.Clocks.{time_with}
 use Rattle.engine_run.specs.Asked.{round_datagrams, round_left}
 
--- the datagram, where it arrived on this path of this stream
+-- the datagram of an event, if it arrived on this path of this stream
 abbrev pub datagram_in : ℕ → ℕ → TraceEvent → List (List ℕ)
 datagram_in stream path (Arrival s p octets) = if nat_eq s stream && nat_eq p path then octets ∷ [] else []
 datagram_in stream path (Reading time) = []
 datagram_in stream path Closing = []
 
--- all that arrived there
+-- all datagrams that arrived on this path of this stream
 abbrev pub datagrams_on : ℕ → ℕ → List TraceEvent → List (List ℕ)
 datagrams_on stream path events = flat_map (λ event. datagram_in stream path event) events
 
--- arrivals on one path
+-- the arrivals of these datagrams on one path
 abbrev pub arrivals_on : ℕ → ℕ → List (List ℕ) → List TraceEvent
 arrivals_on stream path datagrams = map (λ octets. Arrival stream path octets) datagrams
 
@@ -26,18 +26,19 @@ is_arrival (Arrival stream path octets) = true
 is_arrival (Reading time) = false
 is_arrival Closing = false
 
--- these are arrivals, and nothing else
+-- all of these events are arrivals
 abbrev pub AreArrivals : List TraceEvent → Type 0
 AreArrivals [] = Unit {0}
 AreArrivals (event ∷ events) = (is_arrival event ≡ true) × AreArrivals events
 
--- what the clock answered, whether the feeds were asked after it, and what arrived then
+-- a round: the clock reading, whether the feeds were called after it, and the arrivals of the datagrams that they
+-- returned
 pub record Round : Type 0 where
   pub answer : ℤ
   pub asked : Bool
   pub arrivals : List TraceEvent
 
--- arrivals alone, at most 64 of each path, and none where no feed was asked
+-- a round has at most 64 arrivals on each path and no other events, and none at all if the feeds were not called
 pub record IsRound (round : Round) : Type 0 where
   pub arrive : AreArrivals round.arrivals
   pub few : (stream path : ℕ) → length (datagrams_on stream path round.arrivals) ≤ 64
@@ -47,12 +48,13 @@ abbrev pub AreRounds : List Round → Type 0
 AreRounds [] = Unit {0}
 AreRounds (round ∷ rounds) = IsRound round × AreRounds rounds
 
--- the greatest answer, from a time on and to 2^60
+-- the greatest of this time and the clock readings of these rounds, of which at most 2^60 counts
 abbrev pub time_by : ℤ → List Round → ℤ
 time_by time [] = time
 time_by time (round ∷ rounds) = time_by (time_with time round.answer) rounds
 
--- the events of rounds from a time on: of each a reading, where the greatest answer went on, and the arrivals
+-- the events of rounds from this time on: for each round a reading, if the greatest clock reading rose, and its
+-- arrivals
 abbrev pub events_by : ℤ → List Round → List TraceEvent
 events_by time [] = []
 events_by time (round ∷ rounds) = turned time (time_with time round.answer) [] ++ (round.arrivals ++ events_by (time_with time round.answer) rounds)
@@ -64,13 +66,14 @@ events_of studio rounds = events_by studio.open_at rounds ++ Closing ∷ []
 abbrev pub answers_of : List Round → List ℤ
 answers_of rounds = map (λ (round : Round). round.answer) rounds
 
--- as far as the answers were known, they are those
+-- the clock readings are the known ones, as far as these go
 abbrev pub AreNext : List ℤ → List ℤ → Type 0
 AreNext [] answers = Unit {0}
 AreNext (next ∷ told) [] = Unit {0}
 AreNext (next ∷ told) (answer ∷ answers) = (answer ≡ next) × AreNext told answers
 
--- of a feed with these answers came in each round what asking it then gives; so many answers are left
+-- the datagrams that arrived on this path in each round are those that a feed with the results `told` returns in the
+-- round; the results `left` are left after the rounds
 abbrev pub GivesByRounds : ℕ → ℕ → List Answer → List Round → List Answer → Type 0
 GivesByRounds stream path told [] left = told ≡ left
 GivesByRounds stream path told (round ∷ rounds) left =

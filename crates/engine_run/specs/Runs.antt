@@ -17,19 +17,19 @@ use Rattle.engine_run.specs.Intake.{HaveGiven}
 use Rattle.engine_run.specs.Observers.{Heard, Hears, heard_by}
 use Rattle.engine_run.specs.declared.state.RunState.{RunState}
 
--- path by path the events have all datagrams of each feed that is known to reach its end
+-- for each feed whose results are known to its end, the events have exactly its datagrams on its path
 abbrev pub HaveAllArrived : Studio → List (List (List Answer)) → List Round → Type 0
 HaveAllArrived studio all rounds = (stream path : ℕ) (own : List (List Answer)) (told : List Answer) → slice_get all stream ≡ Some own → slice_get own path ≡ Some told
     → reaches_end 0 told ≡ true → datagrams_on stream path (events_by studio.open_at rounds) ≡ told_datagrams 0 told
 
--- and in each round that asks the feeds such a feed was asked until it gave no datagram, but at most 64 times: so each of
--- its datagrams has the reading of the round that it was taken in
+-- each round that calls the feeds called each feed whose results are known to its end until it returned no datagram,
+-- but at most 64 times: so each of its datagrams has the reading of the round in which it was taken
 abbrev pub AreTakenByRounds : List (List (List Answer)) → List Round → Type 0
 AreTakenByRounds all rounds = (stream path : ℕ) (own : List (List Answer)) (told : List Answer) → slice_get all stream ≡ Some own → slice_get own path ≡ Some told
     → reaches_end 0 told ≡ true → GivesByRounds stream path (until_end 0 told) rounds []
 
 module _ {F C K T : Type 0} where
-  -- a run that began with such feeds and such a clock is on its way
+  -- a run that began with these known results of its feeds and readings of its clock is under way
   pub record IsUnderWay (feed_told : F → List Answer) (clock_told : C → List ℤ) (sink_handed : K → Option (List (List ℕ))) (tap_heard : T → Option (List Heard)) (studio : Studio) (all : List (List (List Answer))) (clock : List ℤ) (before : Option (List (List ℕ))) (earlier : Option (List Heard)) (state : RunState F C K T) : Type 0 where
     pub rounds : List Round
     pub datagrams : List (List ℕ)
@@ -42,20 +42,20 @@ module _ {F C K T : Type 0} where
     pub handed : Hands before datagrams (sink_handed state.sink)
     pub heard : Hears earlier (heard_by studio.open_at (events_by studio.open_at rounds)) (tap_heard state.tap)
 
-  -- on its way, of the studio with exactly the changes of gains that its source took since
+  -- a run is under way, of the studio with exactly the changes of gains that its source took from `first` to `last`
   pub record IsUnderWayWith (feed_told : F → List Answer) (clock_told : C → List ℤ) (sink_handed : K → Option (List (List ℕ))) (tap_heard : T → Option (List Heard)) (studio : Studio) (all : List (List (List Answer))) (clock : List ℤ) (before : Option (List (List ℕ))) (earlier : Option (List Heard)) (state : RunState F C K T) (first last : List (ℤ × List ℤ)) : Type 0 where
     pub changes : List (ℤ × List ℤ)
     pub taken : last ≡ first ++ changes
     pub run : IsUnderWay feed_told clock_told sink_handed tap_heard (with_changes studio changes) all clock before earlier state
 
-  -- and nothing has arrived since its last reading
+  -- a run is under way, and nothing has arrived since its last clock reading
   pub record IsTurned (feed_told : F → List Answer) (clock_told : C → List ℤ) (sink_handed : K → Option (List (List ℕ))) (tap_heard : T → Option (List Heard)) (studio : Studio) (all : List (List (List Answer))) (clock : List ℤ) (before : Option (List (List ℕ))) (earlier : Option (List Heard)) (state : RunState F C K T) : Type 0 where
     pub run : IsUnderWay feed_told clock_told sink_handed tap_heard studio all clock before earlier state
     pub front : List Round
     pub answer : ℤ
     pub last : run.rounds ≡ front ++ record { answer = answer; asked = false; arrivals = [] } ∷ []
 
-  -- and has come to its end
+  -- a run has come to its end: the engine was closed, and all its datagrams were returned
   pub record IsDone (sink_handed : K → Option (List (List ℕ))) (tap_heard : T → Option (List Heard)) (studio : Studio) (all : List (List (List Answer))) (clock : List ℤ) (before : Option (List (List ℕ))) (earlier : Option (List Heard)) (state : RunState F C K T) : Type 0 where
     pub rounds : List Round
     pub datagrams : List (List ℕ)
@@ -70,10 +70,11 @@ module _ {F C K T : Type 0} where
     pub handed : Hands before datagrams (sink_handed state.sink)
     pub heard : Hears earlier (heard_by studio.open_at (events_of studio rounds)) (tap_heard state.tap)
 
--- what a settled run came to, of feeds that stand path by path: rounds that go by what the clock was known to tell, in
--- which all arrived that the feeds were known to give, round by round. None of their events is at fault, the report has the counts of
--- `run_studio` for them, a sink that tells at the end was handed its datagrams, in order, and a tap that does was told its
--- arrivals, each with the reading before it, and its close
+-- the result of a settled run, whose feeds are ordered by stream and then by path. Its rounds have the clock readings
+-- that were known, and all datagrams of the feeds that are known to their end, round by round. None of their events has
+-- a fault. The report has the counts of `run_studio` for these events. If the contents of the sink are known at the
+-- end, it was passed the datagrams of `run_studio`, in order. If the observer's notifications are known at the end, it
+-- was notified of each arrival, with the reading before it, and of the close
 pub record IsSettledRun (studio : Studio) (all : List (List Answer)) (clock : List ℤ) (report : WorkReport) (before after : Option (List (List ℕ))) (earlier later : Option (List Heard)) : Type 0 where
   pub rounds : List Round
   pub bounded : AreRounds rounds
@@ -88,7 +89,7 @@ pub record IsSettledRun (studio : Studio) (all : List (List Answer)) (clock : Li
   pub handed : Hands before datagrams after
   pub heard : Hears earlier (heard_by studio.open_at (events_of studio rounds)) later
 
--- a settled run that began with this studio: a settled run of the studio with exactly the changes of gains that its source took
+-- a settled run that began with this studio, and ran the studio with exactly the changes of gains that its source took
 pub record IsSettledRunWith (studio : Studio) (all : List (List Answer)) (clock : List ℤ) (report : WorkReport) (before after : Option (List (List ℕ))) (earlier later : Option (List Heard)) (first last : List (ℤ × List ℤ)) : Type 0 where
   pub changes : List (ℤ × List ℤ)
   pub taken : last ≡ first ++ changes

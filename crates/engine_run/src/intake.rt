@@ -26,7 +26,7 @@ const FAULT_REST: i64 = 96;
 /// The outcome of asking a feed once.
 #[derive(Clone, Copy, PartialEq, Eq, Debug)]
 enum FeedOutcome {
-    /// The feed gave a datagram, which the engine took.
+    /// The feed returned a datagram, which the engine took.
     Datagram,
     /// The feed returned a fault.
     Fault,

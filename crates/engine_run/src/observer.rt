@@ -19,7 +19,7 @@ pub trait RunObserver<F>: Drop {
     /// the gains, row by row; `None` if they are not known. Once they are not known they never are again.
     ghost noted: { Self → Option (List (ℤ × List ℤ)) };
 
-    /// Notes a datagram of a path, which `feed` just gave. The engine took it at its time and returned `receipt`.
+    /// Notes a datagram of a path, which `feed` just returned. The engine took it at its time and returned `receipt`.
     fn arrived(
         &mut self,
         engine: &Engine,

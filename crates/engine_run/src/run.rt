@@ -107,7 +107,7 @@ fn run_rounds<R: Wait, F: Feed, C: Clock, K: Sink, T: RunObserver<F>, P: IdleWai
 {
     // The first round does not rest: no feed was asked yet.
     let mut most = 0;
-    // The length for which `Feed::next` says what it gives.
+    // The contract of `Feed::next` says what it returns for a buffer of this length only.
     let mut buf = [0u8; MAX_ARRIVAL_OCTETS];
     let mut room = [0i32; MAX_GAINS];
     for _ in rt.forever() {

@@ -2,7 +2,7 @@ use Rattle.std.proofs.Common.{sym, subst}
 use Rattle.studio_session.specs.Report.{AreCounts}
 use Rattle.engine_run.proofs.report.work_report.Goals as goal
 
--- the report's counts of the streams are those that were made
+-- the report's counts of the streams are those that were passed to it
 pub returns-clause-counts : goal.returns-clause-counts
 returns-clause-counts g c = λ studio events datagrams has all are.
     subst (λ s. AreCounts studio events s.items) (sym c.new-report.ensures.streams) (c.in_ok-streams.ensures studio events datagrams has all are)
