@@ -1,4 +1,4 @@
--- The ready blocks of a studio come to an end, so there is a list of them.
+-- A studio has finitely many ready blocks, so there is a list of them.
 use Rattle.std.proofs.Common.{◌≡◌, inl, inr, ◌<◌, ◌≤◌, ◌+◌, ◌*◌, ◌-ℤ◌, ◌<ℤ◌, ◌≤ℤ◌, ℕ, zero, suc, ℤ, pos, negsuc, int_le, true, false, not, ◌&&◌, ◌||◌, nat_lt, List, [], ◌∷◌, ◌++◌, Option, Some, None, length, refl, sym, ap, ◌∙◌, arith}
 use Rattle.std.proofs.Math.Bool.{and-false}
 use Rattle.std.proofs.Math.Nat.{le-mul_of_pos_right}
@@ -26,12 +26,12 @@ use Rattle.studio_session.specs.Run.{AreDatagrams}
 not_le : (a b : ℤ) → b <ℤ a → int_le a b ≡ false
 not_le a b h = grind (arith, ints, nat_tests)
 
--- a list that has not ended covers no time after one
+-- marks without an end cover no time after some time
 open_from : (reached : Option ℤ) → (t : ℤ) × ((u : ℤ) → t <ℤ u → covers (cover_to false reached) u ≡ false)
 open_from None = (pos 0, λ u late. refl)
 open_from (Some t) = (t, λ u late. not_le u t late)
 
--- streams that have not all ended cover no time after one
+-- streams that have not all ended cover no time after some time
 uncovered : (feeds : List Feed) → have_ended feeds ≡ false → (t : ℤ) × ((u : ℤ) → t <ℤ u → are_covered feeds u ≡ false)
 uncovered [] going = absurd (false≢true (sym going))
 uncovered (feed ∷ feeds) going = elim (cases_Bool (has_end feed.marks)) [
@@ -48,7 +48,7 @@ at_least : (d : ℤ) → d ≤ℤ pos (natural d)
 at_least (pos n) = omega (arith, ints)
 at_least (negsuc n) = omega (arith, ints)
 
--- some block is past the last
+-- there is a block that is not ready
 last_block : (out : Output) (feeds : List Feed) → 0 < out.frames → (n : ℕ) × (is_ready out feeds n ≡ false)
 last_block out feeds some = elim (cases_Bool (have_ended feeds)) [
   | inl ended ↦
@@ -64,7 +64,7 @@ last_block out feeds some = elim (cases_Bool (have_ended feeds)) [
       (n, ap (λ b. b && (not (have_ended feeds) || nat_lt n (block_count out feeds))) (after.1 (block_start out (n + 1)) late))
 ]
 
--- the blocks after some, up to one that is not ready
+-- the ready blocks, from the first ones that are known up to one that is not ready
 blocks_from : (studio : Studio) (feeds : List Feed) (n : ℕ) → is_ready studio.output feeds n ≡ false → (left : ℕ) (some : List (List ℕ)) → AreFirstBlocks studio feeds some → length some + left ≡ n + 1
     → (all : List (List ℕ)) × AreBlocks studio feeds all
 blocks_from studio feeds n stop zero some first long =

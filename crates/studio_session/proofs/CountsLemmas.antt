@@ -16,7 +16,7 @@ use Rattle.rtp_stream.specs.Reception.{is_any, is_bad, is_sent, is_wrong_length,
 use Rattle.studio_session.specs.Counts.{AreTallies, HasCounted, path_counts_of, with_step}
 use Rattle.studio_session.specs.Cursor.{HaveFew}
 
--- one more where the test holds
+-- one more if the test holds
 abbrev one_if : Bool → ℕ → ℕ
 one_if b n = if b then n + 1 else n
 
@@ -36,14 +36,14 @@ received_more test stream number path events i event at = elim (cases_Bool (is_o
     here : get_or events i event ≡ event
     here = get_or_from_slice_get events i event event at
 
--- the numbers of a path
+-- the tally of a path, by its numbers
 abbrev tally : ℕ → ℕ → ℕ → ℕ → ℕ → PathTally
 tally a b c d e = record { offered = a; sent = b; bad = c; wrong_type = d; wrong_length = e; full = 0 }
 
 same_tally : (a b c d e a' b' c' d' e' : ℕ) → a ≡ a' → b ≡ b' → c ≡ c' → d ≡ d' → e ≡ e' → tally a b c d e ≡ tally a' b' c' d' e'
 same_tally a b c d e a' b' c' d' e' p q r s t = cc
 
--- the numbers of one datagram more
+-- the tally of a path after one more datagram
 by_reception : (on : Bool) (reception : Reception) (more before : (Reception → Bool) → ℕ) → ((test : Reception → Bool) → more test ≡ one_if (on && test reception) (before test))
     → tally (more is_any) (more is_sent) (more is_bad) (more is_wrong_type) (more is_wrong_length)
     ≡ (if on then with_reception (tally (before is_any) (before is_sent) (before is_bad) (before is_wrong_type) (before is_wrong_length)) reception else tally (before is_any) (before is_sent) (before is_bad) (before is_wrong_type) (before is_wrong_length))
@@ -53,7 +53,7 @@ by_reception true (Bad fault) more before is = same_tally _ _ _ _ _ _ _ _ _ _ (i
 by_reception true WrongType more before is = same_tally _ _ _ _ _ _ _ _ _ _ (is is_any) (is is_sent) (is is_bad) (is is_wrong_type) (is is_wrong_length)
 by_reception true WrongLength more before is = same_tally _ _ _ _ _ _ _ _ _ _ (is is_any) (is is_sent) (is is_bad) (is is_wrong_type) (is is_wrong_length)
 
--- those of one event more
+-- the counts of a path after one more event
 pub counts_more : (stream : Stream) (number path : ℕ) (events : List TraceEvent) (i : ℕ) (event : TraceEvent) → slice_get events i ≡ Some event
     → path_counts_of stream number path (take (i + 1) events) ≡ with_step (path_counts_of stream number path (take i events)) path (step_of stream number event)
 counts_more stream number path events i event at =
@@ -72,7 +72,7 @@ counts_more stream number path events i event at =
     by_step (Clock u) is = same_tally _ _ _ _ _ _ _ _ _ _ (is is_any) (is is_sent) (is is_bad) (is is_wrong_type) (is is_wrong_length)
     by_step End is = same_tally _ _ _ _ _ _ _ _ _ _ (is is_any) (is is_sent) (is is_bad) (is is_wrong_type) (is is_wrong_length)
 
--- the tallies of one event more
+-- the tallies of a stream's paths after one more event
 pub counted_more : (stream : Stream) (number : ℕ) (events : List TraceEvent) (i : ℕ) (event : TraceEvent) (old new : List PathTally) → slice_get events i ≡ Some event
     → AreTallies stream number (take i events) old → HasCounted (step_of stream number event) old new → AreTallies stream number (take (i + 1) events) new
 counted_more stream number events i event old new at are counted = λ path tally there.
@@ -81,11 +81,11 @@ counted_more stream number events i event old new at are counted = λ path tally
     ∙ ap (λ t. with_step t path (step_of stream number event)) (are path before.0 before.1)
     ∙ sym (counts_more stream number path events i event at)
 
--- what is no datagram of the stream counts on no path
+-- an event that is no datagram of the stream changes no path's tally
 pub uncounted : (tallies : List PathTally) (step : Step) → ((path : ℕ) (tally : PathTally) → with_step tally path step ≡ tally) → HasCounted step tallies tallies
 uncounted tallies step same = λ path tally at. (tally, at, sym (same path tally))
 
--- an event is one datagram at most
+-- an event adds at most one datagram
 adds_one : (on : Bool) (tally : PathTally) (reception : Reception) → (if on then with_reception tally reception else tally).offered ≤ tally.offered + 1
 adds_one false tally reception = omega arith
 adds_one true tally (Sent packet) = omega arith
@@ -144,7 +144,7 @@ counted_none stream number t empty = λ path tally at. in_four t tally path at �
 pub few_none : (t : PathTally) → t ≡ empty_path_tally → HaveFew 0 (four_of t)
 few_none t empty = λ path tally at. let is : tally.offered ≡ 0 = ap (λ (x : PathTally). x.offered) (in_four t tally path at ∙ empty) in omega (arith, is)
 
--- a datagram counts on its own path alone
+-- a datagram changes the tally of its own path only
 pub counted_on : (tallies : List PathTally) (p : ℕ) (reception : Reception) (before after : PathTally) → slice_get tallies p ≡ Some before → after ≡ with_reception before reception
     → HasCounted (Datagram p reception) tallies (set tallies p after)
 counted_on tallies p reception before after here is = λ path tally at. by_test path tally at (nat_eq p path) refl

@@ -30,7 +30,7 @@ use Rattle.studio_session.specs.Session.{Other, Datagram, step_of, event_in, str
 use Rattle.studio_session.specs.Counts.{AreTallies, HasCounted}
 use Rattle.studio_session.proofs.CountsLemmas.{counted_more}
 
--- one event more
+-- a stream's history after one more event
 pub history_more : (stream : Stream) (number : ℕ) (events : List TraceEvent) (i : ℕ) (event : TraceEvent) → slice_get events i ≡ Some event
     → stream_history stream number (take (i + 1) events) ≡ stream_history stream number (take i events) ++ event_in (step_of stream number event)
 history_more stream number events i event at =
@@ -56,7 +56,7 @@ mark_of_whole stream number open_at events i k m run is =
     next_in_whole (marks_of stream open_at first) (marks_of stream open_at (stream_history stream number events)) k m
     (ap (λ l. take (length (marks_of stream open_at first)) (marks_of stream open_at l)) (sym whole) ∙ marks_stay stream open_at run.some_frames first rest timed) is
 
--- one event more was taken
+-- the cursor took one more event
 pub pulled_more : (stream : Stream) (number : ℕ) (open_at : ℤ) (events : List TraceEvent) (event : TraceEvent) (k : ℕ) (old new : CursorState)
     → HasPulled stream number open_at events old k → slice_get events old.place ≡ Some event
     → new.spec ≡ old.spec → new.number ≡ old.number → new.place ≡ old.place + 1
@@ -71,12 +71,12 @@ pulled_more stream number open_at events event k old new pulled at spec same pla
   stands = subst (λ h. IsOnWay stream open_at new.merge new.reading h k) (sym (ap (λ p. stream_history stream number (take p events)) place ∙ history_more stream number events old.place event at)) stands;
 }
 
--- with nothing on the way, the merge has the history
+-- a merge without a reading that it still has to reach has the history
 pub settled : (stream : Stream) (open_at : ℤ) (merge : MergeState) (reading : Option ℤ) (events : List Event) (k : ℕ) → reading ≡ None → IsOnWay stream open_at merge reading events k → HasHistory stream open_at merge events k
 settled stream open_at merge None events k e way = way
 settled stream open_at merge (Some u) events k e way = absurd (let f : Some u ≡ None = e in cc)
 
--- a reading in order is set out for
+-- a merge can begin to move to a reading that is in order
 pub set_out : (stream : Stream) (number : ℕ) (open_at : ℤ) (events : List TraceEvent) (i k : ℕ) (u : ℤ) (merge : MergeState) → IsRunnable stream number open_at events
     → slice_get events i ≡ Some (Reading u) → HasHistory stream open_at merge (stream_history stream number (take i events)) k
     → IsOnWay stream open_at merge (Some u) (stream_history stream number (take i events) ++ Tick u ∷ []) k
@@ -96,7 +96,7 @@ way_of stream open_at merge reading events k e stands = subst (λ r. IsOnWay str
 pub way_settled : (stream : Stream) (open_at : ℤ) (merge : MergeState) (reading : Option ℤ) (events : List Event) (k : ℕ) → reading ≡ None → HasHistory stream open_at merge events k → IsOnWay stream open_at merge reading events k
 way_settled = way_of
 
--- a mark on the way to a reading is the next of what was taken
+-- a mark on the way to a reading is the next mark of the events that were taken
 pub due_on_way : (stream : Stream) (number : ℕ) (open_at : ℤ) (events : List TraceEvent) (k : ℕ) (x : CursorState) (new : MergeState) (u : ℤ) (mark : Option MarkView) (reading : Option ℤ)
     → HasPulled stream number open_at events x k → reading ≡ on_way_after mark u
     → WentOn stream open_at new u (stream_history stream number (take x.place events)) k mark
@@ -109,7 +109,7 @@ due_on_way stream number open_at events k x new u mark reading pulled after went
   stands = subst (λ r. IsOnWay stream open_at new r (stream_history stream number (take x.place events)) (k + length (option_to_list mark))) (sym after) went.stands;
 }
 
--- a mark that is left is the next of what was taken
+-- a mark that is left after a close is the next mark of the events that were taken
 pub due_left : (stream : Stream) (number : ℕ) (open_at : ℤ) (events : List TraceEvent) (k : ℕ) (x : CursorState) (new : MergeState) (mark : Option MarkView) (reading : Option ℤ)
     → HasPulled stream number open_at events x k → x.reading ≡ None → reading ≡ None
     → ((h : List Event) → HasHistory stream open_at x.merge h k → Drains stream open_at new h k mark)
@@ -128,16 +128,16 @@ due_left stream number open_at events k x new mark reading pulled none none_new 
       };
     }
 
--- the reading that is still to be reached, by whether the mark was a slot
+-- the reading that is still to be reached, computed from whether the mark is a slot
 still_on_way : (mark : Option MarkView) (u : ℤ) → (if is_slot_mark mark then Some u else None) ≡ on_way_after mark u
 still_on_way None u = refl
 still_on_way (Some mark) u = refl
 
--- to the end there is always a way
+-- a merge without a reading that it still has to reach can always move to the end
 pub can_settled : (merge : MergeState) (reading : Option ℤ) → reading ≡ None → CanReach merge (goal_of reading)
 can_settled merge reading none = subst (λ r. CanReach merge (goal_of r)) (sym none) tt
 
--- the next mark was given
+-- the cursor returned the next mark
 pub passed : (stream : Stream) (number : ℕ) (open_at : ℤ) (events : List TraceEvent) (k : ℕ) (x : CursorState) (new : MergeState) (more : Bool) (reading : Option ℤ)
     → IsRunnable stream number open_at events → HasPulled stream number open_at events x k
     → ((h : List Event) (j : ℕ) → HasHistory stream open_at x.merge h j → Gives stream open_at x.merge new h j (goal_of x.reading) (next_of x))
@@ -167,7 +167,7 @@ passed stream number open_at events k x new more reading run pulled gives moves 
           stands = due_on_way stream number open_at events k x new u (next_of x) reading pulled (is ∙ ap (λ r. if more then r else None) some ∙ ap (λ b. if b then Some u else None) slot ∙ still_on_way (next_of x) u) went;
         }
 
--- where all was given, no mark is left of what was taken
+-- once a merge has returned all its marks, no mark is left of the events that were taken
 pub none_due : (stream : Stream) (number : ℕ) (open_at : ℤ) (events : List TraceEvent) (cursor : CursorState) (k : ℕ) → IsRunnable stream number open_at events
     → HasPulled stream number open_at events cursor k → cursor.reading ≡ None → HasGivenAll cursor.merge
     → [] ≡ take 1 (drop k (marks_of stream open_at (stream_history stream number (take cursor.place events))))
@@ -176,7 +176,7 @@ none_due stream number open_at events cursor k run pulled none all =
     let whole : k ≡ length (marks_of stream open_at h) = all stream open_at h k run.some_frames (settled stream open_at cursor.merge cursor.reading h k none pulled.stands) in
     sym (ap (take 1) (drop_all k (marks_of stream open_at h) (omega (arith, whole))))
 
--- an event by its outline
+-- an event is determined by its header, but for an arrival's octets
 abbrev stream_in : EventHeader → ℕ
 stream_in (ArriveOf s p) = s
 stream_in (TickOf u) = 0
@@ -215,7 +215,7 @@ own_arrival stream number path octets = by_test (nat_eq number number) refl
     by_test true e = refl
     by_test false e = absurd (grind (arith, nat_tests))
 
--- and what it is to another
+-- what an arrival is to another stream
 pub others_arrival : (stream : Stream) (s number path : ℕ) (octets : List ℕ) → s ≢ number → step_of stream number (Arrival s path octets) ≡ Other
 others_arrival stream s number path octets other = by_test (nat_eq s number) refl
   where

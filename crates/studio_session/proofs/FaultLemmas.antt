@@ -35,7 +35,7 @@ pub in_order : (place : ℕ) (b : Bool) → clock_fault place b ≡ None → b �
 in_order place true e = refl
 in_order place false e = absurd (let f : clock_fault place false ≡ None = e in cc)
 
--- a datagram changes no time
+-- a datagram does not change the time
 same_time : (time : ℤ) (closed : Bool) (path : ℕ) (reception : Reception) (history : List Event) → is_well_timed_from time closed history ≡ true
     → is_well_timed_from time closed (event_in (Datagram path reception) ++ history) ≡ true
 same_time time closed path (Sent packet) history e = e
@@ -43,7 +43,7 @@ same_time time closed path (Bad fault) history e = e
 same_time time closed path WrongType history e = e
 same_time time closed path WrongLength history e = e
 
--- the readings of each stream are in order
+-- if the events have no fault, the clock readings of each stream are in order
 pub timed_from : (streams : List Stream) (stream : Stream) (number place : ℕ) (time : ℤ) (closed : Bool) (events : List TraceEvent)
     → session_fault_from streams place time closed events ≡ None → is_well_timed_from time closed (stream_history stream number events) ≡ true
 timed_from streams stream number place time closed [] e = refl
@@ -72,7 +72,7 @@ on_path place path (Some s) stream is e = subst (λ (x : Stream). path < x.paths
     by_test true less e = grind (arith, nat_tests, less)
     by_test false less e = absurd (let f : Some (NoPath place) ≡ None = e in cc)
 
--- each arrival is on a path of its stream
+-- if the events have no fault, each arrival is on a path of its stream
 pub paths_from : (streams : List Stream) (stream : Stream) (number place : ℕ) (time : ℤ) (closed : Bool) (events : List TraceEvent)
     → session_fault_from streams place time closed events ≡ None → slice_get streams number ≡ Some stream
     → (i path : ℕ) (octets : List ℕ) → slice_get events i ≡ Some (Arrival number path octets) → path < stream.paths
@@ -87,12 +87,12 @@ paths_from streams stream number place time closed (event ∷ events) e is zero 
 paths_from streams stream number place time closed (event ∷ events) e is (suc i) path octets at =
     paths_from streams stream number (suc place) (time_after time event) (closed_after closed event) events (later_none (event_fault streams place time closed event) _ e) is i path octets at
 
--- the fault of the events from a place on, where that one has none
+-- the first fault of the events from a place on, if the event at that place has none
 pub fault_later : (streams : List Stream) (place : ℕ) (time : ℤ) (closed : Bool) (event : TraceEvent) (events : List TraceEvent) → event_fault streams place time closed event ≡ None
     → session_fault_from streams place time closed (event ∷ events) ≡ session_fault_from streams (suc place) (time_after time event) (closed_after closed event) events
 fault_later streams place time closed event events none = ap (λ o. or_later o (session_fault_from streams (suc place) (time_after time event) (closed_after closed event) events)) none
 
--- what is left from a place on begins with its event
+-- the events from a place on begin with the event at that place
 drop_here : (events : List TraceEvent) (place : ℕ) (event : TraceEvent) → slice_get events place ≡ Some event → drop place events ≡ event ∷ drop (suc place) events
 drop_here [] place event at = absurd (let f : None ≡ Some event = at in cc)
 drop_here (e ∷ events) zero event at = ap (λ x. x ∷ events) (here e event at)
@@ -101,7 +101,7 @@ drop_here (e ∷ events) zero event at = ap (λ x. x ∷ events) (here e event a
     here x y e = cc
 drop_here (e ∷ events) (suc place) event at = drop_here events place event at
 
--- an event with no fault is passed
+-- an event with no fault is passed over
 pub fault_past : (streams : List Stream) (place : ℕ) (time : ℤ) (closed : Bool) (events : List TraceEvent) (event : TraceEvent) (outline : EventHeader) → slice_get events place ≡ Some event → outline ≡ outline_of event
     → outline_fault streams place time closed outline ≡ None
     → session_fault_from streams place time closed (drop place events) ≡ session_fault_from streams (place + 1) (time_past time outline) (closed_past closed outline) (drop (place + 1) events)
@@ -111,12 +111,12 @@ fault_past streams place time closed events event outline at is none =
     ∙ ap (λ o. session_fault_from streams (suc place) (time_past time o) (closed_past closed o) (drop (suc place) events)) (sym is)
     ∙ ap (λ n. session_fault_from streams n (time_past time outline) (closed_past closed outline) (drop n events)) (let e : suc place ≡ place + 1 = omega arith in e)
 
--- and where it has one
+-- the first fault of the events from a place on, if the event at that place has a fault
 pub fault_here : (streams : List Stream) (place : ℕ) (time : ℤ) (closed : Bool) (event : TraceEvent) (events : List TraceEvent) (fault : StudioFault) → event_fault streams place time closed event ≡ Some fault
     → session_fault_from streams place time closed (event ∷ events) ≡ Some fault
 fault_here streams place time closed event events fault is = ap (λ o. or_later o (session_fault_from streams (suc place) (time_after time event) (closed_after closed event) events)) is
 
--- an event at fault is the first
+-- the fault of an event is the first fault of the events from its place on
 pub fault_found : (streams : List Stream) (place : ℕ) (time : ℤ) (closed : Bool) (events : List TraceEvent) (event : TraceEvent) (outline : EventHeader) (fault : StudioFault) → slice_get events place ≡ Some event → outline ≡ outline_of event
     → outline_fault streams place time closed outline ≡ Some fault → session_fault_from streams place time closed (drop place events) ≡ Some fault
 fault_found streams place time closed events event outline fault at is found =
@@ -148,7 +148,7 @@ with_paths studio events none = record {
   each = λ i stream at. record { paths = λ place path octets there. paths_from studio.streams stream i 0 studio.open_at false events none at place path octets there };
 }
 
--- no event's fault is want of memory
+-- no event's fault is an allocation failure
 abbrev IsOfEvent : Option StudioFault → Type 0
 IsOfEvent None = Unit {0}
 IsOfEvent (Some (Clock place)) = Unit {0}
@@ -182,14 +182,14 @@ of_events streams place time closed [] = tt
 of_events streams place time closed (event ∷ events) =
     of_first (event_fault streams place time closed event) _ (of_event streams place time closed event) (of_events streams (suc place) (time_after time event) (closed_after closed event) events)
 
--- what was found first is why there is no report
+-- the fault that was found first is the reason why there is no report
 pub run_fault : (studio : Studio) (events : List TraceEvent) (fault : StudioFault) → session_fault_of studio events ≡ Some fault → IsRunFault studio events fault
 run_fault studio events (Clock place) e = e
 run_fault studio events (NoStream place) e = e
 run_fault studio events (NoPath place) e = e
 run_fault studio events (Memory a) e = absurd (subst IsOfEvent e (of_events studio.streams 0 studio.open_at false events))
 
--- one more event with no fault
+-- events with no fault, and one more event with no fault
 fault_more : (streams : List Stream) (place : ℕ) (time : ℤ) (closed : Bool) (events : List TraceEvent) (event : TraceEvent) → session_fault_from streams place time closed events ≡ None
     → ((p : ℕ) → event_fault streams p (time_at time events) (closed_at closed events) event ≡ None) → session_fault_from streams place time closed (events ++ event ∷ []) ≡ None
 fault_more streams place time closed [] event none last = fault_later streams place time closed event [] (last place)
@@ -211,7 +211,7 @@ pub closed_more : (closed : Bool) (events : List TraceEvent) (event : TraceEvent
 closed_more closed [] event = refl
 closed_more closed (e ∷ events) event = closed_more (closed_after closed e) events event
 
--- and the streams can be run over one more
+-- the clock readings stay in order after one more event with no fault
 pub runnable_more : (studio : Studio) (events : List TraceEvent) (event : TraceEvent) → IsRunnableBy studio events → session_fault_of studio (events ++ event ∷ []) ≡ None → IsRunnableBy studio (events ++ event ∷ [])
 runnable_more studio events event run none = record {
   some_frames = run.some_frames;
@@ -236,7 +236,7 @@ reading_fault streams time false u none p = ap (clock_fault p) (in_turn (int_lt 
     in_turn false true b f e = absurd (let g : Some TooFar ≡ None = e in cc)
     in_turn false false b f e = grind (arith, ints, nat_tests, b, f)
 
--- nor has a datagram on a path that its stream has
+-- a datagram on a path that its stream has has no fault
 pub arrival_fault : (streams : List Stream) (time : ℤ) (closed : Bool) (number path : ℕ) (octets : List ℕ) (stream : Stream) → slice_get streams number ≡ Some stream → path < stream.paths
     → (p : ℕ) → event_fault streams p time closed (Arrival number path octets) ≡ None
 arrival_fault streams time closed number path octets stream at less p =

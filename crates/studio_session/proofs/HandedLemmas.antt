@@ -1,4 +1,4 @@
--- Events that come one by one: each is at the end of those so far.
+-- Events that come one by one: each is appended to the events so far.
 use Rattle.std.proofs.Common.{◌≡◌, ◌<◌, ◌≤◌, ◌+◌, ℕ, min, nat_lt, true, List, [], ◌∷◌, ◌++◌, length, take, drop, get_or, slice_get, ℤ, Some, refl, sym, ap, subst, ◌∙◌, arith, append-nil, length-append, length-take}
 use Rattle.std.proofs.lemmas.Bool.Decides.{nat_tests}
 use Rattle.std.proofs.lemmas.Grind.{flat_map-append}
@@ -27,7 +27,7 @@ use Rattle.studio_session.specs.Cursor.{CursorState, HasPulled, IsRunnable, at_p
 use Rattle.studio_session.proofs.CountsLemmas.{uncounted}
 use Rattle.studio_session.proofs.CursorLemmas.{pulled_more}
 
--- what was taken of a list was taken of a longer one
+-- what a cursor took of a list of events, it took of a longer list that begins with these
 pub pulled_longer : (stream : Stream) (number : ℕ) (open_at : ℤ) (events more : List TraceEvent) (cursor : CursorState) (k : ℕ)
     → HasPulled stream number open_at events cursor k → HasPulled stream number open_at (events ++ more) cursor k
 pulled_longer stream number open_at events more cursor k p =
@@ -42,7 +42,7 @@ pulled_longer stream number open_at events more cursor k p =
       stands = subst (λ l. IsOnWay stream open_at cursor.merge cursor.reading (stream_history stream number l) k) (sym same) p.stands;
     }
 
--- the event at the end
+-- the event at the end of a list
 pub last_here : (events : List TraceEvent) (event : TraceEvent) → slice_get (events ++ event ∷ []) (length events) ≡ Some event
 last_here [] event = refl
 last_here (e ∷ events) event = last_here events event
@@ -50,7 +50,7 @@ last_here (e ∷ events) event = last_here events event
 pub handed_at : (events : List TraceEvent) (event : TraceEvent) (place : ℕ) → place ≡ length events → slice_get (events ++ event ∷ []) place ≡ Some event
 handed_at events event place end = subst (λ p. slice_get (events ++ event ∷ []) p ≡ Some event) (sym end) (last_here events event)
 
--- another stream's datagram at the end: a cursor that passes over it took all events
+-- a cursor that passes over another stream's datagram at the end has taken all events
 pub handed_other : (event : TraceEvent) (number : ℕ) (cursor : CursorState) → ((stream : Stream) → step_of stream number event ≡ Other) → IsHanded event number cursor (at_place (cursor.place + 1) cursor)
 handed_other event number cursor other = record {
   spec = refl;
@@ -65,7 +65,7 @@ handed_other event number cursor other = record {
       (subst (λ l. IsOnWay stream open_at cursor.merge cursor.reading l k) (sym (append-nil before)) longer.stands));
 }
 
--- the marks so far are the first of those with more events
+-- the marks of some events are the first of the marks of these and further events
 marks_longer : (stream : Stream) (number : ℕ) (open_at : ℤ) (events more : List TraceEvent) → IsRunnable stream number open_at (events ++ more)
     → take (length (stream_marks stream number open_at events)) (stream_marks stream number open_at (events ++ more)) ≡ stream_marks stream number open_at events
 marks_longer stream number open_at events more run =
@@ -74,7 +74,7 @@ marks_longer stream number open_at events more run =
     ap (λ h. take (length (stream_marks stream number open_at events)) (marks_of stream open_at h)) both
     ∙ marks_stay stream open_at run.some_frames (stream_history stream number events) (stream_history stream number more) (ap (is_well_timed open_at) (sym both) ∙ run.well_timed)
 
--- the first of them are the first of all
+-- the first marks of a list are the first marks of a longer list that begins with it
 first_longer : (marks some all : List MarkView) → marks ≡ take (length marks) some → take (length some) all ≡ some → marks ≡ take (length marks) all
 first_longer marks some all is longer =
     let k = length marks in
@@ -82,7 +82,7 @@ first_longer marks some all is longer =
     let within : k ≤ length some = omega (arith, n) in
     is ∙ ap (take k) (sym longer) ∙ take-take k (length some) all within
 
--- the marks that one stream gave are the first of all with an event more
+-- the marks that a stream's cursor returned are the first of all its marks after one more event
 pub given_handed : (studio : Studio) (events : List TraceEvent) (event : TraceEvent) (mixer : MixerState) (first cursors : List CursorState) (next : ℕ)
     → IsRunnableBy studio (events ++ event ∷ []) → HaveTaken events first → AreHanded event first cursors (length first)
     → (played : HasPlayed studio events (record { mixer = mixer; cursors = first }) next)
@@ -102,7 +102,7 @@ given_handed studio events event mixer first cursors next run taken handed playe
           (marks_longer feed.stream i studio.open_at events (event ∷ []) runs);
     }
 
--- what was played of a list of events was played of one with an event more
+-- what was played of a list of events was played of the list with one more event
 pub played_handed : (studio : Studio) (events : List TraceEvent) (event : TraceEvent) (mixer : MixerState) (first cursors : List CursorState) (next : ℕ)
     → IsRunnableBy studio (events ++ event ∷ []) → HaveTaken events first → AreHanded event first cursors (length first)
     → HasPlayed studio events (record { mixer = mixer; cursors = first }) next
@@ -114,7 +114,7 @@ played_handed studio events event mixer first cursors next run taken handed play
   given = given_handed studio events event mixer first cursors next run taken handed played;
 }
 
--- and each cursor took all of them
+-- each cursor took all events, one more included
 pub taken_handed : (events : List TraceEvent) (event : TraceEvent) (first cursors : List CursorState) → HaveTaken events first → AreHanded event first cursors (length first)
     → HaveTaken (events ++ event ∷ []) cursors
 taken_handed events event first cursors taken handed = λ i d within.
@@ -123,7 +123,7 @@ taken_handed events event first cursors taken handed = λ i d within.
     let one = handed.each i (get_or first i d) (get_or cursors i d) here (slice_get-get_or first i d here) (slice_get-get_or cursors i d within) in
     one.place ∙ ap (λ n. n + 1) (taken i d here) ∙ sym (length_push events event)
 
--- all marks of a studio's streams with more events
+-- all marks of a studio's streams after more events
 pub feeds_longer : (studio : Studio) (events more : List TraceEvent) → IsRunnableBy studio (events ++ more) → AreLonger (feeds_of studio events) (feeds_of studio (events ++ more))
 feeds_longer studio events more run = record {
   count = length_whole studio.open_at (events ++ more) 0 studio.streams ∙ sym (length_whole studio.open_at events 0 studio.streams);
@@ -153,7 +153,7 @@ feeds_longer studio events more run = record {
     some_same : {f g : Feed} → Some f ≡ Some g → f ≡ g
     some_same e = cc
 
--- ready blocks stay, with their datagrams
+-- blocks that are ready stay ready after more events, with the same datagrams
 pub blocks_handed : (studio : Studio) (events more : List TraceEvent) (datagrams : List (List ℕ)) → IsRunnableBy studio (events ++ more)
     → AreFirstBlocks studio (feeds_of studio events) datagrams → AreFirstBlocks studio (feeds_of studio (events ++ more)) datagrams
 blocks_handed studio events more datagrams run blocks =

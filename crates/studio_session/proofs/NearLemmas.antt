@@ -1,4 +1,4 @@
--- Two histories that differ in marks of silence alone go on so, whatever comes.
+-- Two histories that differ in Quiets alone differ in nothing else, whatever comes.
 use Rattle.std.proofs.Common.{◌≡◌, ℕ, zero, suc, ◌+◌, ◌-◌, ◌^◌, ◌<◌, Bool, true, false, not, ◌&&◌, ◌||◌, List, [], ◌∷◌, ◌++◌, length, Option, Some, None, ℤ, pos, ◌≤ℤ◌, refl, sym, ap, subst, ◌∙◌, arith, append_assoc, append-nil, if◌then◌else◌}
 use Rattle.std.specs.Prelude.{nat_eq, nat_le, nat_lt}
 use Rattle.std.proofs.lemmas.Bool.{false≢true}
@@ -40,7 +40,7 @@ timed_part open_at events more h = and_left _ _ (sym (is_well_timed_from-append 
     and_left false b h = absurd (false≢true h)
 
 module _ (stream : Stream) (open_at : ℤ) where
-  -- all but the marks of silence and the places is the same of both
+  -- two histories agree in all but Quiets and places
   pub record AreNear (e f : List Event) : Type 0 where
     pub timed : is_well_timed open_at e ≡ true
     pub other_timed : is_well_timed open_at f ≡ true
@@ -64,16 +64,16 @@ module _ (stream : Stream) (open_at : ℤ) where
   counting_near : (e f : List Event) → AreNear e f → is_counting e ≡ is_counting f
   counting_near e f near = ap (λ b. not b && nat_lt (arrival_count e) (2 ^ 62)) near.closed ∙ ap (λ n. not (is_closed f) && nat_lt n (2 ^ 62)) near.arrived
 
-  -- one arrival more
+  -- both histories after one more arrival
   module _ (e f : List Event) (near : AreNear e f) (path : ℕ) (packet : Packet) where
-    -- whether it restarts the stream, by what that hangs on
+    -- whether the arrival restarts the stream, by what this depends on
     abbrev decides : ℤ → Anchor → List (ℕ × Packet) → List (Bool × Packet) → Bool → Bool
     decides time anchor copies heard slips =
         continues_media_time stream time anchor packet
         && (nat_le (end_of_copies copies) (next_number stream anchor time)
         && (is_source_wanted stream.ssrc packet.ssrc && (completes_probation stream heard || slips)))
 
-    -- whether it shows that the sender is astray, by how arrivals stood before it and stand with it
+    -- whether the arrival shows that the sender is astray, by the standings of the arrivals before it and with it
     abbrev shows : ℤ → Anchor → List Standing → List Standing → Bool
     shows time anchor before after =
         is_following stream.clock
@@ -81,7 +81,7 @@ module _ (stream : Stream) (open_at : ℤ) where
         && (is_astray (standing_after stream anchor (next_number stream anchor time) before path packet)
         && are_many is_astray (standings_on path after)))
 
-    -- how it stands itself
+    -- the standings after the arrival
     abbrev stands : Bool → ℤ → Anchor → List Standing → List Standing
     stands counting time anchor before =
         if is_following stream.clock && (counting && is_source_wanted stream.ssrc packet.ssrc)
@@ -103,7 +103,7 @@ module _ (stream : Stream) (open_at : ℤ) where
     since_near : since_of stream open_at (last_of (anchors_of stream open_at e)) e ≡ since_of stream open_at (last_of (anchors_of stream open_at f)) f
     since_near = sym (copies_of-since stream open_at e) ∙ copies_near e f near ∙ copies_of-since stream open_at f
 
-    -- what is heard with it
+    -- what is heard after the arrival
     heard_near : (on : ℕ) → heard_of stream open_at (last_of (anchors_of stream open_at e)) (e ++ Arrive path packet ∷ []) on ≡ heard_of stream open_at (last_of (anchors_of stream open_at f)) (f ++ Arrive path packet ∷ []) on
     heard_near on =
         heard_of-push stream open_at (last_of (anchors_of stream open_at e)) e (Arrive path packet) on (place_within stream open_at e)
@@ -123,7 +123,7 @@ module _ (stream : Stream) (open_at : ℤ) where
         ∙ ap (stands (is_counting f) (time_of open_at f) a) stood
         ∙ ap (λ x. stands (is_counting f) (time_of open_at f) x (standings_since stream open_at j b f)) is
 
-    -- how arrivals stand with it
+    -- the standings of the arrivals after this one
     standings_near : standings_of stream open_at (last_of (anchors_of stream open_at e)) (e ++ Arrive path packet ∷ []) ≡ standings_of stream open_at (last_of (anchors_of stream open_at f)) (f ++ Arrive path packet ∷ [])
     standings_near =
         standings_of-push stream open_at (last_of (anchors_of stream open_at e)) e (Arrive path packet) (place_within stream open_at e)
@@ -140,7 +140,7 @@ module _ (stream : Stream) (open_at : ℤ) where
         ∙ ap (shows (time_of open_at f) a (standings_since stream open_at j b f)) stand
         ∙ ap (λ x. shows (time_of open_at f) x (standings_since stream open_at j b f) (standings_since stream open_at j b (f ++ Arrive path packet ∷ []))) is
 
-    -- the room that it finds
+    -- the room of the window that the arrival finds
     room_near : (o p : Option (ℕ × Anchor)) → anchor_in o ≡ anchor_in p → standings_of stream open_at o e ≡ standings_of stream open_at p f → room_in_force stream open_at o e ≡ room_in_force stream open_at p f
     room_near None None same stood = refl
     room_near None (Some q) same stood = absurd (cc)
@@ -151,7 +151,8 @@ module _ (stream : Stream) (open_at : ℤ) where
         ∙ ap (room_after stream a (next_number stream a (time_of open_at f))) stood
         ∙ ap (λ x. room_after stream x (next_number stream x (time_of open_at f)) (standings_since stream open_at j b f)) is
 
-    -- what is heard, and how arrivals stand before it and with it, is the same of both since these anchors
+    -- since these anchors both histories agree in what is heard, and in the standings of arrivals before this one and
+    -- with it
     record SameSince (o p : Option (ℕ × Anchor)) : Type 0 where
       copies : since_of stream open_at o e ≡ since_of stream open_at p f
       heard : heard_of stream open_at o (e ++ Arrive path packet ∷ []) path ≡ heard_of stream open_at p (f ++ Arrive path packet ∷ []) path
@@ -175,7 +176,7 @@ module _ (stream : Stream) (open_at : ℤ) where
     restart_near (Some p) None same since = absurd (cc)
     restart_near (Some (i, a)) (Some (j, b)) same since = can_near i j a b (let is : a ≡ b = cc in is) since
 
-    -- the anchors that it makes
+    -- the anchors that the arrival makes
     made_near : (o p : Option (ℕ × Anchor)) → anchor_in o ≡ anchor_in p → SameSince o p → anchors_after stream open_at o e path packet ≡ anchors_after stream open_at p f path packet
     made_near None None same since = ap (λ t. if can_anchor stream t packet then anchor_from stream t packet ∷ [] else []) near.time
     made_near None (Some q) same since = absurd (cc)
@@ -194,7 +195,7 @@ module _ (stream : Stream) (open_at : ℤ) where
         ap (λ c. if c then anchors_after stream open_at (last_of (anchors_of stream open_at e)) e path packet else []) (counting_near e f near)
         ∙ ap (λ l. if is_counting f then l else []) (made_near (last_of (anchors_of stream open_at e)) (last_of (anchors_of stream open_at f)) anchor_near same_since)
 
-    -- the last anchor with it
+    -- the last anchor after the arrival
     last_is : (events : List Event) → last_of (anchors_of stream open_at (events ++ Arrive path packet ∷ [])) ≡ or_else (last_of (placed (length events) (made_of events))) (last_of (anchors_of stream open_at events))
     last_is events = last-push stream open_at events (Arrive path packet) ∙ ap (λ l. or_else (last_of l) (last_of (anchors_of stream open_at events))) (by_test (is_counting events))
       where
@@ -242,7 +243,7 @@ module _ (stream : Stream) (open_at : ℤ) where
         ∙ standings_with (made_of f) (last_of (anchors_of stream open_at e)) (last_of (anchors_of stream open_at f)) standings_near
         ∙ sym (ap (λ o. standings_of stream open_at o (f ++ Arrive path packet ∷ [])) (last_is f))
 
-    -- the room that it finds under the anchor in force with it
+    -- the room of the window under the anchor that is in force after the arrival
     room_with : (made : List Anchor) (o p : Option (ℕ × Anchor)) → room_in_force stream open_at o e ≡ room_in_force stream open_at p f
         → room_in_force stream open_at (or_else (last_of (placed (length e) made)) o) e ≡ room_in_force stream open_at (or_else (last_of (placed (length f) made)) p) f
     room_with [] o p same = same
@@ -273,7 +274,7 @@ module _ (stream : Stream) (open_at : ℤ) where
         ∙ ap (λ o. copies_under_with (in_room stream (room_then_of f)) (time_of open_at f) (is_counting f) o packet) anchor_then)
         ∙ sym (copies_of_all-push stream open_at f (Arrive path packet))
 
-    -- its fate, by what that hangs on
+    -- the fate of the arrival, by what this depends on
     abbrev fate_by : Bool → ℕ → Bool → ℕ → ℤ → Option Anchor → List (ℕ × Packet) → Fate
     fate_by closed arrived restarts room time anchor copies =
         if closed then Closed
@@ -307,7 +308,7 @@ module _ (stream : Stream) (open_at : ℤ) where
         ∙ ap (λ x. if is_counting f then (path, x) ∷ [] else []) fate_near)
         ∙ sym (fates_of-push stream open_at f (Arrive path packet))
 
-  -- one event more
+  -- both histories after one more event
   module _ (some : 0 < stream.frames) (e f : List Event) (near : AreNear e f) where
     time_then : (event : Event) → time_of open_at (e ++ event ∷ []) ≡ time_of open_at (f ++ event ∷ [])
     time_then event = time_of-append open_at e (event ∷ []) ∙ ap (λ t. time_of t (event ∷ [])) near.time ∙ sym (time_of-append open_at f (event ∷ []))
@@ -381,7 +382,7 @@ module _ (stream : Stream) (open_at : ℤ) where
               (close_more stream (marks_of stream open_at e) (marks_of stream open_at f) (marks_at stream open_at (copies_of_all stream open_at f) (marks_of stream open_at f) f Close) near.marks));
         }
 
-  -- all that comes after both
+  -- both histories after any further events
   pub near_on : 0 < stream.frames → (e f rest : List Event) → AreNear e f → is_well_timed open_at (e ++ rest) ≡ true → is_well_timed open_at (f ++ rest) ≡ true → AreNear (e ++ rest) (f ++ rest)
   near_on some e f [] near timed others = rw (append-nil e, append-nil f) near
   near_on some e f (event ∷ rest) near timed others =
@@ -392,7 +393,7 @@ module _ (stream : Stream) (open_at : ℤ) where
       let next = near_more some e f near event (timed_part open_at (e ++ event ∷ []) rest timed') (timed_part open_at (f ++ event ∷ []) rest others') in
       subst (λ l. AreNear l (f ++ event ∷ rest)) one (subst (AreNear ((e ++ event ∷ []) ++ rest)) two (near_on some (e ++ event ∷ []) (f ++ event ∷ []) rest next timed' others'))
 
--- the slots of a way are those of its parts
+-- the slots of a range of numbers are those of its two parts
 slots_split : (stream : Stream) (a : Anchor) (copies : List (ℕ × Packet)) (n i j : ℕ) → slots_from stream a copies n (i + j) ≡ slots_from stream a copies n i ++ slots_from stream a copies (n + i) j
 slots_split stream a copies n zero j =
     let same : n ≡ n + 0 = omega arith in
@@ -423,7 +424,7 @@ between_slot : (stream : Stream) (copies : List (ℕ × Packet)) (o : Option Anc
 between_slot stream copies None t u = tt
 between_slot stream copies (Some a) t u = from_slot stream a copies (next_number stream a t) (next_number stream a u - next_number stream a t)
 
--- two readings, and the second alone
+-- a history with two clock readings, and with the second alone
 module _ (stream : Stream) (open_at : ℤ) (some : 0 < stream.frames) (events : List Event) (a b : ℤ) (first : IsTickAt open_at events a) (low : a ≤ℤ b) (high : b ≤ℤ pos (2 ^ 60)) where
   still : is_closed (events ++ Tick a ∷ []) ≡ false
   still = is_closed-append events (Tick a ∷ []) ∙ ap (λ c. if c then true else false) first.open_yet

@@ -12,7 +12,7 @@ use Rattle.studio_session.specs.Event.{TraceEvent}
 use Rattle.studio_session.specs.Cursor.{CursorState, HasPaths, HasPulled, IsReadyFor}
 use Rattle.studio_session.specs.Play.{AreNew, HasPathsBy, HasPlayed, IsGiven}
 
--- one cursor more
+-- one more cursor was made
 pub new_more : (streams : List Stream) (open_at : ℤ) (cursors : List CursorState) (i : ℕ) (stream : Stream) (cursor : CursorState)
     → AreNew streams open_at cursors i → stream ≡ get_or streams i stream → cursor.place ≡ 0 → cursor.reading ≡ None
     → ((events : List TraceEvent) → HasPulled stream i open_at events cursor 0)
@@ -39,7 +39,7 @@ new_more streams open_at cursors i stream cursor before is place rests pulled =
           ];
     }
 
--- nothing was played
+-- a session before its first event has returned no mark
 pub played_none : (studio : Studio) (events : List TraceEvent) (mixer : MixerState) (cursors : List CursorState) → HasFeeds studio mixer (unfed studio.streams) 0
     → AreNew studio.streams studio.open_at cursors (length studio.streams) → HasPlayed studio events (record { mixer = mixer; cursors = cursors }) 0
 played_none studio events mixer cursors fed new =
@@ -58,7 +58,7 @@ played_none studio events mixer cursors fed new =
           subst (IsGiven i studio.open_at events cursor) is (record { pulled = at.1 events; first = refl });
     }
 
--- each cursor can take the events
+-- each cursor before its first event can take the events
 pub ready_none : (studio : Studio) (events : List TraceEvent) (cursors : List CursorState) → AreNew studio.streams studio.open_at cursors (length studio.streams)
     → HasPathsBy studio events → All (IsReadyFor events) cursors
 ready_none studio events cursors new has = λ i d h.

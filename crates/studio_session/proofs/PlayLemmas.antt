@@ -1,4 +1,4 @@
--- Marks of one stream after another, handed to the mixer.
+-- The marks of one stream after another, which the mixer is fed.
 use Rattle.std.proofs.Common.{◌≡◌, inl, inr, ◌<◌, ◌≤◌, ◌+◌, ℕ, zero, suc, true, List, [], ◌∷◌, ◌++◌, length, take, drop, set, Option, Some, None, slice_get, refl, sym, ap, subst, ◌∙◌, arith, Bool, false, not}
 use Rattle.std.specs.Option.{option_map}
 use Rattle.std.specs.Prelude.{IfSome}
@@ -26,7 +26,7 @@ take_next zero xs = refl
 take_next (suc k) [] = ap (λ n. take n []) (let e : suc (k + 1) ≡ suc k + 1 = omega arith in e)
 take_next (suc k) (x ∷ xs) = ap (λ l. x ∷ l) (take_next k xs) ∙ ap (λ n. take n (x ∷ xs)) (let e : suc (k + 1) ≡ suc k + 1 = omega arith in e)
 
--- none after the first k is none more
+-- if none comes after the first `k` elements, they are all
 all_taken : {X : Type 0} (k : ℕ) (xs : List X) → [] ≡ take 1 (drop k xs) → take k xs ≡ xs
 all_taken zero [] none = refl
 all_taken zero (x ∷ xs) none = absurd (let e : 0 ≡ 1 = ap length none in omega (arith, e))
@@ -43,7 +43,7 @@ set_here [] i a h = absurd (omega (arith, h))
 set_here (x ∷ xs) zero a h = refl
 set_here (x ∷ xs) (suc i) a h = set_here xs i a (omega (arith, h))
 
--- the stream of a feed is the studio's
+-- the stream of a feed is the stream of the studio with the same number
 pub stream_at : (studio : Studio) (mixer : MixerState) (feeds : List Feed) (next i : ℕ) (feed : Feed) → HasFeeds studio mixer feeds next → slice_get feeds i ≡ Some feed
     → slice_get studio.streams i ≡ Some feed.stream
 stream_at studio mixer feeds next i feed fed at =
@@ -56,7 +56,7 @@ pub runnable_at : (studio : Studio) (events : List TraceEvent) (feeds : List Fee
 runnable_at studio events feeds next number mixer cursor run within p =
     run.each number p.feed.stream (stream_at studio mixer (set feeds number p.feed) next number p.feed p.fed (set_here feeds number p.feed within))
 
--- one mark more
+-- one more mark was returned
 pub plays_more : (studio : Studio) (events : List TraceEvent) (feeds : List Feed) (next number : ℕ) (mixer new : MixerState) (cursor moved : CursorState) (m : MarkView)
     → IsRunnableBy studio events → number < length feeds → (p : Plays studio events feeds next number mixer cursor)
     → m ∷ [] ≡ take 1 (drop (length p.feed.marks) (stream_marks p.feed.stream number studio.open_at (take moved.place events)))
@@ -84,7 +84,7 @@ plays_more studio events feeds next number mixer new cursor moved m run within p
       };
     }
 
--- nothing more, and the cursor is further
+-- no mark was returned, and the cursor took more events
 pub plays_on : (studio : Studio) (events : List TraceEvent) (feeds : List Feed) (next number : ℕ) (mixer : MixerState) (cursor moved : CursorState)
     → (p : Plays studio events feeds next number mixer cursor) → HasPulled p.feed.stream number studio.open_at events moved (length p.feed.marks)
     → Plays studio events feeds next number mixer moved
@@ -94,7 +94,7 @@ plays_on studio events feeds next number mixer cursor moved p pulled = record {
   given = record { pulled = pulled; first = p.given.first };
 }
 
--- one mark more, if there is one
+-- one more mark was returned, if there was one
 pub plays_given : (studio : Studio) (events : List TraceEvent) (feeds : List Feed) (next number : ℕ) (mixer new : MixerState) (cursor moved : CursorState) (mark : Option MarkView)
     → IsRunnableBy studio events → number < length feeds → (p : Plays studio events feeds next number mixer cursor)
     → IsOnTheWay p.feed.stream number studio.open_at events moved (length p.feed.marks) mark
@@ -111,7 +111,7 @@ covered_of : (wants covered : Bool) → wants ≡ false → wants ≡ not covere
 covered_of wants true e f = refl
 covered_of wants false e f = absurd (false≢true (sym e ∙ f))
 
--- a stream that isn't wanted is final
+-- a stream of which the mixer wants no mark for the next block is final
 pub plays_covered : (studio : Studio) (events : List TraceEvent) (feeds : List Feed) (next number : ℕ) (mixer : MixerState) (cursor : CursorState) (wants : Bool)
     → number < length feeds → Plays studio events feeds next number mixer cursor → wants ≡ false
     → ((fs : List Feed) (f : Feed) → HasFeeds studio mixer fs next → slice_get fs number ≡ Some f → wants ≡ not (covers (cover_of (format_of f.stream) f.marks) (block_start studio.output (next + 1))))
@@ -121,7 +121,7 @@ plays_covered studio events feeds next number mixer cursor wants within p done i
   final = inl (covered_of wants _ done (is (set feeds number p.feed) p.feed p.fed (set_here feeds number p.feed within)));
 }
 
--- and so is one that gave all its marks
+-- a stream whose cursor returned all its marks is final
 pub plays_all : (studio : Studio) (events : List TraceEvent) (feeds : List Feed) (next number : ℕ) (mixer : MixerState) (cursor moved : CursorState)
     → PlaysOut studio events feeds next number mixer cursor → length events ≤ cursor.place → moved ≡ cursor → PlaysFinal studio events feeds next number mixer moved
 plays_all studio events feeds next number mixer cursor moved out end same =

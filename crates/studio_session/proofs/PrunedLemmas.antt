@@ -1,4 +1,4 @@
--- A studio's events with a reading that another one follows, and without it.
+-- A studio's events with a clock reading that is directly followed by another, and without it.
 use Rattle.std.proofs.Common.{◌≡◌, ℕ, zero, suc, ◌+◌, ◌-◌, ◌/◌, ◌<◌, Bool, true, false, not, ◌&&◌, ◌||◌, nat_lt, List, [], ◌∷◌, ◌++◌, Option, Some, None, slice_get, ℤ, pos, ◌+ℤ◌, ◌-ℤ◌, refl, sym, ap, subst, ◌∙◌, arith, append_assoc, if◌then◌else◌, flat_map}
 use Rattle.std.specs.Prelude.{cond, count_by}
 use Rattle.std.specs.Int.{int_max}
@@ -69,7 +69,7 @@ events_anywhere streams p q time closed (event ∷ events) e =
     fault_later streams q time closed event events (event_anywhere streams p q time closed event here)
     ∙ events_anywhere streams (suc p) (suc q) (time_after time event) (closed_after closed event) events rest
 
--- a reading in order after one that is in order
+-- a reading in order after one that is in order is also in order without that one
 both_in_order : (time a b : ℤ) (closed : Bool) → is_tick_in_order time closed a ≡ true → is_tick_in_order a closed b ≡ true → is_tick_in_order time closed b ≡ true
 both_in_order time a b true one two = one
 both_in_order time a b false one two = grind (arith, ints, nat_tests, one, two)
@@ -113,7 +113,7 @@ paths_without stream number first rest a (suc count) =
     ap (λ l. l ++ path_counts_of stream number count (first ++ Reading a ∷ rest) ∷ []) (paths_without stream number first rest a count)
     ∙ ap (λ t. path_tallies stream number (first ++ rest) count ++ t ∷ []) (path_without stream number count first rest a)
 
--- the counts of the same fates, and of marks that are alike
+-- the counts are the same for the same fates and for marks that are alike
 tallies_alike : (format : PacketFormat) (fates others : List (ℕ × Fate)) (long short : List MarkView) → fates ≡ others → AreAlike format long short → tally_of_fates fates long ≡ tally_of_fates others short
 tallies_alike format fates others long short same alike =
     ap (λ f. tally_of_fates f long) same
@@ -163,7 +163,7 @@ module _ (studio : Studio) (first rest : List TraceEvent) (a b : ℤ) (none : se
     tally_same : merge_tally_of stream number studio.open_at (first ++ Reading a ∷ Reading b ∷ rest) ≡ merge_tally_of stream number studio.open_at (first ++ Reading b ∷ rest)
     tally_same = tallies_alike (format_of stream) (fates_of stream studio.open_at (stream_history stream number (first ++ Reading a ∷ Reading b ∷ rest))) (fates_of stream studio.open_at (stream_history stream number (first ++ Reading b ∷ rest))) (stream_marks stream number studio.open_at (first ++ Reading a ∷ Reading b ∷ rest)) (stream_marks stream number studio.open_at (first ++ Reading b ∷ rest)) near.fates marks_alike
 
--- all streams, whose numbers count up from one
+-- all streams, which are numbered from `number` on
 abbrev pub SameMarks : ℤ → List TraceEvent → List TraceEvent → ℕ → List Stream → Type 0
 SameMarks open_at e f number [] = Unit {0}
 SameMarks open_at e f number (stream ∷ streams) =
@@ -245,7 +245,7 @@ module _ (studio : Studio) (runs : IsRunnableBy studio []) (first rest : List Tr
   paths_same : (stream : Stream) (number count : ℕ) → path_tallies stream number (first ++ Reading a ∷ Reading b ∷ rest) count ≡ path_tallies stream number (first ++ Reading b ∷ rest) count
   paths_same stream number count = paths_without stream number first (Reading b ∷ rest) a count
 
-  -- with the reading and without it
+  -- a studio's run with the reading and without it is the same
   pub reading_left_out : IsSameRun studio (first ++ Reading a ∷ Reading b ∷ rest) (first ++ Reading b ∷ rest)
   reading_left_out = record {
     no_fault = none_without studio first rest a b none;
@@ -281,12 +281,12 @@ same_on studio e f g one two = record {
   counts_back = λ counts are. one.counts_back counts (two.counts_back counts are);
 }
 
--- all such readings
+-- a studio's run without all readings that are directly followed by another
 module _ (studio : Studio) (runs : IsRunnableBy studio []) where
   abbrev Prunes : List TraceEvent → List TraceEvent → Type 0
   Prunes first events = session_fault_of studio (first ++ events) ≡ None → IsSameRun studio (first ++ events) (first ++ pruned_events events)
 
-  -- behind an event that stays
+  -- the events after an event that is not left out
   behind : (first : List TraceEvent) (event : TraceEvent) (events : List TraceEvent) → Prunes (first ++ event ∷ []) events
       → session_fault_of studio (first ++ event ∷ events) ≡ None → IsSameRun studio (first ++ event ∷ events) (first ++ event ∷ pruned_events events)
   behind first event events prunes none =

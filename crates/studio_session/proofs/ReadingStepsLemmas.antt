@@ -1,4 +1,4 @@
--- On the way to a reading, slot by slot.
+-- A merge that moves to a clock reading, slot by slot.
 use Rattle.std.proofs.Common.{inl, inr, ◌-◌, ◌≡◌, ◌<◌, ◌+◌, ◌^◌, ℕ, Bool, true, false, List, [], ◌∷◌, ◌++◌, length, take, drop, ℤ, pos, ◌≤ℤ◌, Option, Some, None, if◌then◌else◌, refl, sym, ap, subst, ◌∙◌, arith}
 use Rattle.std.specs.Option.{option_to_list}
 use Rattle.std.proofs.lemmas.Int.{ints}
@@ -22,19 +22,19 @@ use Rattle.path_merge.proofs.JoinLemmas.{stands_alike, alike-trans}
 use Rattle.path_merge.proofs.RunLemmas.{no_fault, still_no_fault, moves_by_slot, moves_by_other}
 use Rattle.studio_session.specs.ReadingSteps.{IsOnWay, WentOn}
 
--- a reading in order more
+-- one more reading that is in order
 timed_more : (open_at : ℤ) (events : List Event) (u : ℤ) → is_well_timed open_at events ≡ true → is_closed events ≡ false → time_of open_at events ≤ℤ u → u ≤ℤ pos (2 ^ 60)
     → is_well_timed open_at (events ++ Tick u ∷ []) ≡ true
 timed_more open_at events u timed open_yet low high = is_well_timed_from-append open_at false events (Tick u ∷ []) ∙ grind (arith, ints, nat_tests, timed, open_yet, low, high)
 
--- a reading in order is refused by no merge
+-- no merge refuses a reading that is in order
 pub in_time : (open_at : ℤ) (m : MergeState) (events : List Event) (u : ℤ) → m.time ≡ time_of open_at events → m.closed ≡ is_closed events
     → is_well_timed open_at (events ++ Tick u ∷ []) ≡ true → clock_fault_of m.time m.closed u ≡ None
 in_time open_at m events u time closed well_timed =
     let tick = well_timed_tick open_at events u well_timed in
     still_no_fault m.time m.closed u (rw time tick.not_back) tick.not_far (closed ∙ tick.open_yet)
 
--- a mark that is next in a part is next in the whole
+-- a mark that is next in the first part of a list is next in the whole list
 pub next_in_whole : (xs ys : List MarkView) (k : ℕ) (m : MarkView) → take (length xs) ys ≡ xs → m ∷ [] ≡ take 1 (drop k xs) → m ∷ [] ≡ take 1 (drop k ys)
 next_in_whole xs ys k m part is = elim (cases_lt k (length xs)) [
   | inl h ↦
@@ -72,7 +72,7 @@ by_slot stream open_at old new so_far events k u m some stands free alike adv mo
       (e1, adv.stands, still_no_fault new.time new.closed u moved.1 no.1 (moved.2 ∙ no.2), alike-trans stream open_at (e1 ++ Tick u ∷ []) (so_far ++ Tick u ∷ []) events joins alike),
     )
 
--- the reading is reached
+-- the merge reached the reading
 reached : (stream : Stream) (open_at : ℤ) (old new : MergeState) (so_far events : List Event) (k : ℕ) (u : ℤ) (mark : Option MarkView)
     → IsAlike stream open_at (so_far ++ Tick u ∷ []) events → Advances stream open_at old new so_far k u mark → new.time ≡ u
     → HasHistory stream open_at new events (k + length (option_to_list mark))
@@ -97,7 +97,7 @@ abbrev mark_said : Option MarkView → MarkView → MarkView
 mark_said None d = d
 mark_said (Some m) d = m
 
--- one call on the way to a reading
+-- one call of a merge that moves to a reading
 pub went_on : (stream : Stream) (open_at : ℤ) (old new : MergeState) (events : List Event) (k : ℕ) (u : ℤ) (mark : Option MarkView) → 0 < stream.frames
     → IsOnWay stream open_at old (Some u) events k
     → ((so_far : List Event) → HasHistory stream open_at old so_far k → Advances stream open_at old new so_far k u mark) → Moves old new u mark

@@ -21,7 +21,7 @@ use Rattle.studio_session.specs.Play.{HasPlayed, SessionState}
 use Rattle.studio_session.specs.Report.{ArePulled, HasCounts, HasPulledAll, merge_tally_of}
 use Rattle.studio_session.specs.ReadingSteps.{IsOnWay}
 
--- none after the first k is none more
+-- if none comes after the first `k` elements, they are all
 pub all_taken : {X : Type 0} (k : ℕ) (xs : List X) → [] ≡ take 1 (drop k xs) → take k xs ≡ xs
 all_taken zero [] none = refl
 all_taken zero (x ∷ xs) none = absurd (let e : 0 ≡ 1 = ap length none in omega (arith, e))
@@ -48,7 +48,7 @@ finished stream number open_at events cursor settled all p =
           ∙ ap (λ l. merge_tally_of stream number open_at l) whole;
     }
 
--- what holds of the elements by their places holds of one more
+-- what holds for the elements by their places holds after one more element for which it holds
 pub places_more : {X : Type 0} (P : ℕ → X → Type 0) (xs : List X) (n : ℕ) (x : X) → length xs ≡ n → P n x → ((i : ℕ) (y : X) → slice_get xs i ≡ Some y → P i y)
     → (i : ℕ) (y : X) → slice_get (xs ++ x ∷ []) i ≡ Some y → P i y
 places_more P xs n x count p before i y at =
@@ -64,7 +64,7 @@ places_more P xs n x count p before i y at =
           subst (P i) same (subst (λ j. P j x) (sym here) p)
     ]
 
--- what was played, stream by stream
+-- what each stream's cursor took and returned in a session
 pub pulled_of : (studio : Studio) (events : List TraceEvent) (session : SessionState) (next : ℕ) → HasPlayed studio events session next → ArePulled studio events session.cursors
 pulled_of studio events session next played =
     let streams : length studio.streams ≡ length played.feeds = ap length (sym played.fed.streams) ∙ length-map played.feeds (λ (f : Feed). f.stream) in

@@ -23,7 +23,7 @@ blocks_more studio events old new datagrams datagram before ready is played = re
   first = first_more studio (feeds_of studio events) datagrams datagram before.first ready is;
 }
 
--- fewer are left after each
+-- fewer blocks are left after each block
 pub fewer_left : (old new : PackerState) → 0 < old.spec.frames → new.spec ≡ old.spec → new.number ≡ old.number + 1
     → block_start old.spec old.number ≤ℤ pos (2 ^ 61 + 192) → blocks_left new < blocks_left old
 fewer_left old new some spec number early =

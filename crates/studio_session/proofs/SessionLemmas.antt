@@ -1,4 +1,4 @@
--- A session stream by stream, and what its blocks are to all marks.
+-- A session stream by stream, and its blocks compared with those of all marks.
 use Rattle.std.proofs.Common.{◌≡◌, ◌⊎◌, inl, inr, ◌<◌, ◌≤◌, ◌+◌, ℕ, zero, suc, true, false, not, ◌&&◌, ◌||◌, nat_lt, List, [], ◌∷◌, ◌++◌, length, drop, set, ℤ, Option, Some, None, is_some, IfSome, slice_get, refl, sym, ap, subst, ◌∙◌, arith}
 use Rattle.std.proofs.lemmas.Bool.{cases_Bool, cases_eq, false≢true}
 use Rattle.std.proofs.lemmas.List.{length-map, length-set, set-get_or, take-append-drop}
@@ -26,7 +26,7 @@ use Rattle.studio_session.specs.Cursor.{CursorState}
 use Rattle.studio_session.specs.Play.{SessionState, HasFilled, HasPlayed, IsFinal, IsGiven, IsRunnableBy, Plays, PlaysFinal, feeds_from, feeds_of, stream_marks}
 use Rattle.studio_session.proofs.PlayLemmas.{stream_at}
 
--- what one stream is to begin with
+-- a stream of a session before its cursor moves
 pub plays_of : (studio : Studio) (events : List TraceEvent) (mixer : MixerState) (cursors : List CursorState) (next i : ℕ) (cursor : CursorState)
     → (played : HasPlayed studio events (record { mixer = mixer; cursors = cursors }) next) → slice_get cursors i ≡ Some cursor
     → Plays studio events played.feeds next i mixer cursor
@@ -42,7 +42,7 @@ plays_of studio events mixer cursors next i cursor played at =
       given = played.given i cursor found.0 at found.1;
     }
 
--- one stream more is filled
+-- the mixer has what the next block needs of one more stream
 pub filled_more : (studio : Studio) (events : List TraceEvent) (mixer new : MixerState) (cursors : List CursorState) (next i : ℕ) (moved : CursorState)
     → (filled : HasFilled studio events (record { mixer = mixer; cursors = cursors }) next i) → i < length cursors
     → PlaysFinal studio events filled.played.feeds next i new moved
@@ -107,7 +107,7 @@ whole_is studio events mixer feeds next i feed long fed at there =
     ap (λ o. said_or o long) (sym there ∙ is)
     ∙ ap (λ n. record { stream = feed.stream; marks = stream_marks feed.stream n studio.open_at events }) (let e : 0 + i ≡ i = omega arith in e)
 
--- what was given is the first part of all marks
+-- the marks that the cursors returned are the first part of all marks
 pub are_longer : (studio : Studio) (events : List TraceEvent) (session : SessionState) (next : ℕ) → IsRunnableBy studio events → (played : HasPlayed studio events session next)
     → AreLonger played.feeds (feeds_of studio events)
 are_longer studio events session next run played = record {
@@ -136,7 +136,8 @@ are_longer studio events session next run played = record {
     cursor_at (cursor ∷ cursors) zero h = (cursor, refl)
     cursor_at (cursor ∷ cursors) (suc i) h = cursor_at cursors i (omega (arith, h))
 
--- where a stream is final to a time, or gave all its marks, all its marks cover that time only where those given do
+-- if the marks that a stream returned are final to a time, or are all its marks, then they cover the time if all its
+-- marks do
 covers_same : (feed long : Feed) (t : ℤ) → IsLonger feed long → (covers (cover_of (format_of feed.stream) feed.marks) t ≡ true) ⊎ (long ≡ feed)
     → covers (cover_of (format_of long.stream) long.marks) t ≡ true → covers (cover_of (format_of feed.stream) feed.marks) t ≡ true
 covers_same feed long t l (inl covered) h = covered
@@ -153,7 +154,7 @@ covered_same (feed ∷ feeds) (long ∷ longer) t l final h =
     (λ i f g at there. final (suc i) f g at there)
     (both_right (covers (cover_of (format_of long.stream) long.marks) t) (are_covered longer t) h)
 
--- so the next block of what was given is ready exactly where it is of all marks, with the same datagram
+-- the next block is ready by the marks that were returned exactly if it is ready by all marks
 pub ready_same : (studio : Studio) (events : List TraceEvent) (session : SessionState) (next count : ℕ) → IsRunnableBy studio events
     → (filled : HasFilled studio events session next count) → length session.cursors ≤ count
     → is_ready studio.output filled.played.feeds next ≡ is_ready studio.output (feeds_of studio events) next
@@ -198,7 +199,7 @@ abbrev Writes : MixerState → MixerState → List ℕ → List ℕ → ℕ → 
 Writes old new before out len = (studio : Studio) (feeds : List Feed) (next : ℕ) → HasFeeds studio old feeds next
     → (len ≡ datagram_length studio.output) × (out ≡ datagram_of studio feeds next ++ drop len before) × HasFeeds studio new feeds (next + 1)
 
--- the datagram of what was given is that of all marks
+-- the datagram made from the marks that were returned is that of all marks
 pub gives : (events : List TraceEvent) (old : SessionState) (mixer new : MixerState) (cursors kept : List CursorState) (count : ℕ) (before out : List ℕ) (o : Option ℕ)
     → kept ≡ cursors → length cursors ≤ count
     → ((studio : Studio) (next : ℕ) → IsRunnableBy studio events → HasPlayed studio events old next → HasFilled studio events (record { mixer = mixer; cursors = cursors }) next count)

@@ -1,4 +1,4 @@
--- A list of marks, and the same without a silence that another mark follows.
+-- A list of marks, and the same without a Quiet that another mark follows.
 use Rattle.std.proofs.Common.{◌≡◌, ◌⊎◌, inl, inr, ℕ, ◌+◌, Bool, true, false, not, ◌&&◌, ◌||◌, List, [], ◌∷◌, ◌++◌, map, Option, Some, None, unwrap_or, ℤ, pos, ◌+ℤ◌, ◌-ℤ◌, ◌<ℤ◌, ◌≤ℤ◌, int_lt, refl, sym, ap, subst, ◌∙◌, arith, append_assoc, append-nil, if◌then◌else◌}
 use Rattle.std.specs.Prelude.{cond, count_by}
 use Rattle.std.specs.List.{range_with_len}
@@ -22,7 +22,7 @@ use Rattle.lane_align.specs.Cover.{cover_of, cover_to, end_of, last_quiet, last_
 use Rattle.lane_align.specs.Value.{frame_at, sample_among, sample_in, value_at}
 use Rattle.lane_align.proofs.MarkListLemmas.{both_left, both_right, or_none}
 
--- a slot, or silence that is told further
+-- a mark is a slot, or a Quiet of a later time
 abbrev pub IsPast : ℤ → MarkKind → Type 0
 IsPast until (Slot epoch number media body) = Unit {0}
 IsPast until (Quiet later) = until <ℤ later
@@ -32,7 +32,7 @@ abbrev pub BeginsPast : ℤ → List MarkView → Type 0
 BeginsPast until [] = ⊥
 BeginsPast until (mark ∷ marks) = IsPast until mark.kind
 
--- one list has a silence more, which a slot or a longer silence follows
+-- the long list has one more Quiet, which a slot or a Quiet of a later time follows
 pub record HasMoreSilence (stream : Stream) (long short : List MarkView) : Type 0 where
   pub first : List MarkView
   pub until : ℤ
@@ -48,7 +48,7 @@ past_more : (until : ℤ) (rest more : List MarkView) → BeginsPast until rest 
 past_more until [] more past = absurd past
 past_more until (mark ∷ rest) more past = past
 
--- the same marks after both
+-- two lists that differ by at most such a Quiet still do after the same further marks
 pub close_more : (stream : Stream) (long short more : List MarkView) → AreClose stream long short → AreClose stream (long ++ more) (short ++ more)
 close_more stream long short more (inl same) = inl (ap (λ l. l ++ more) same)
 close_more stream long short more (inr m) = inr (record {
@@ -60,7 +60,7 @@ close_more stream long short more (inr m) = inr (record {
   past = past_more m.until m.rest more m.past;
 })
 
--- what a silence changes nothing of
+-- an additional Quiet changes none of these
 module _ (stream : Stream) (until : ℤ) (rest : List MarkView) where
   slots_with : (first : List MarkView) → has_slot (first ++ quiet_mark stream until ∷ rest) ≡ has_slot (first ++ rest)
   slots_with [] = refl
@@ -85,7 +85,7 @@ module _ (stream : Stream) (until : ℤ) (rest : List MarkView) where
   last_slot_with [] = or_none (last_slot rest)
   last_slot_with (x ∷ first) = ap (λ o. option_or o (slot_of x.kind)) (last_slot_with first)
 
--- nor of the last silence, where it is told further
+-- an additional Quiet does not change the last one, if another follows
 later_quiet : (o : Option ℤ) (u v : ℤ) → option_or (option_or o (Some v)) (Some u) ≡ option_or o (Some v)
 later_quiet None u v = refl
 later_quiet (Some w) u v = refl
@@ -105,7 +105,7 @@ past_with : (stream : Stream) (time until later : ℤ) (x : MarkView) (rest : Li
 past_with stream time until later x rest is less [] = rw is (less_too (int_lt until time) (int_lt later time) (is_past_quiets time rest) (λ h. grind (arith, ints, less, h)))
 past_with stream time until later x rest is less (y ∷ first) = ap (λ b. is_past_quiet time y.kind && b) (past_with stream time until later x rest is less first)
 
--- whether a silence would be new is the same of both
+-- whether a further Quiet would be new is the same for both lists
 module _ (stream : Stream) (open_at time : ℤ) where
   by_kind : (first : List MarkView) (until : ℤ) (x : MarkView) (rest : List MarkView) (kind : MarkKind) → x.kind ≡ kind → IsPast until kind
       → is_quiet_new stream open_at (first ++ quiet_mark stream until ∷ x ∷ rest) time ≡ is_quiet_new stream open_at (first ++ x ∷ rest) time
@@ -127,13 +127,13 @@ module _ (stream : Stream) (open_at time : ℤ) where
   new_alike long short (inl same) = ap (λ l. is_quiet_new stream open_at l time) same
   new_alike long short (inr m) = ap (λ l. is_quiet_new stream open_at l time) m.long_is ∙ by_rest m.first m.until m.rest m.past ∙ ap (λ l. is_quiet_new stream open_at l time) (sym m.short_is)
 
--- and what a reading gives
+-- a clock reading produces the same marks after both lists
 pub given_alike : (stream : Stream) (open_at : ℤ) (long short : List MarkView) (u : ℤ) (marks : List MarkView) → AreClose stream long short
     → slots_or_quiet stream open_at long u marks ≡ slots_or_quiet stream open_at short u marks
 given_alike stream open_at long short u (mark ∷ marks) close = refl
 given_alike stream open_at long short u [] close = ap (λ b. if b then quiet_mark stream (u -ℤ pos stream.latency) ∷ [] else []) (new_alike stream open_at (u -ℤ pos stream.latency) long short close)
 
--- two readings give what the second alone gives, but for a silence
+-- two clock readings produce what the second alone produces, but for a Quiet
 abbrev pub BeginsWithSlot : List MarkView → Type 0
 BeginsWithSlot [] = Unit {0}
 BeginsWithSlot (mark ∷ marks) = is_slot mark.kind ≡ true
@@ -227,7 +227,7 @@ module _ (stream : Stream) (open_at : ℤ) (marks : List MarkView) (a b : ℤ) (
       let slotted : has_slot (marks ++ x ∷ first) ≡ true = has_slot-append marks x first slots in
       inl (ap (λ l. (marks ++ x ∷ first) ++ l) (slots_or_quiet-slotted stream open_at (marks ++ x ∷ first) b second slotted) ∙ append_assoc marks (x ∷ first) second)
 
--- no silence of a mark list is told past the end of its last slot
+-- no Quiet of a mark list is later than the end of its last slot
 abbrev IsWithin : ℕ → Option LastSlot → Option ℤ → Type 0
 IsWithin frames None quiet = Unit {0}
 IsWithin frames (Some slot) None = Unit {0}
@@ -280,7 +280,7 @@ all_within format last s q (x ∷ marks) bounded h =
 within_of : (format : PacketFormat) (marks : List MarkView) → is_mark_list format marks ≡ true → IsWithin format.frames (last_slot marks) (last_quiet marks)
 within_of format marks h = rw (or_none (last_slot marks), or_none (last_quiet marks)) at (all_within format None None None marks fresh h)
 
--- so the last slot alone says how far a list reaches, where it has one
+-- so the last slot alone determines the time that a mark list reaches, if it has a slot
 by_slot : (frames : ℕ) (slot : Option LastSlot) (q r : Option ℤ) → IsWithin frames slot q → IsWithin frames slot r → (slot ≡ None → q ≡ r) → time_reached frames slot q ≡ time_reached frames slot r
 by_slot frames None q r a b same = ap (time_reached frames None) (same refl)
 by_slot frames (Some s) q r a b same = its q a ∙ sym (its r b)
@@ -289,7 +289,7 @@ by_slot frames (Some s) q r a b same = its q a ∙ sym (its r b)
     its None h = refl
     its (Some u) h = grind (arith, ints, h)
 
--- a slot is found
+-- a list with a slot has a last slot
 found : (first : List MarkView) (x : MarkView) (rest : List MarkView) (s : LastSlot) → slot_of x.kind ≡ Some s → last_slot (first ++ x ∷ rest) ≡ None → ⊥
 found [] x rest s is none = by_rest (last_slot rest) (sym (ap (λ o. option_or (last_slot rest) o) is) ∙ none)
   where
@@ -308,7 +308,7 @@ quiet_alike stream first until x rest (Slot e n m b) is past none = absurd (foun
 quiet_alike stream first until x rest (Quiet later) is past none = last_quiet_with stream until later x rest is first
 quiet_alike stream first until x rest End is past none = absurd past
 
--- what both lists say of values, ends and counts
+-- both lists have the same values, ends and counts
 pub record AreAlike (format : PacketFormat) (long short : List MarkView) : Type 0 where
   pub ended : has_end long ≡ has_end short
   pub cover : cover_of format long ≡ cover_of format short
@@ -344,7 +344,7 @@ module _ (stream : Stream) (format : PacketFormat) (first : List MarkView) (unti
         lost = count_with stream until (x ∷ rest) (λ mark. is_lost mark.kind) refl first;
       }
 
--- of mark lists
+-- mark lists that differ by at most such a Quiet have the same values, ends and counts
 pub close_alike : (stream : Stream) (format : PacketFormat) (long short : List MarkView) → AreClose stream long short → is_mark_list format long ≡ true → is_mark_list format short ≡ true → AreAlike format long short
 close_alike stream format long short (inl same) listed shorter = subst (AreAlike format long) same (alike-refl format long)
 close_alike stream format long short (inr m) listed shorter =

@@ -1,4 +1,4 @@
--- The outcome of a datagram that a stream was passed.
+-- The outcome of a datagram that was passed to a stream.
 use Rattle.std.specs.Prelude.{ℕ, ℤ, List}
 use Rattle.rtp_stream.specs.declared.stream_spec.Stream.{Stream}
 use Rattle.rtp_stream.specs.declared.event.Event.{Event}
@@ -18,6 +18,6 @@ receipt_in stream open_at events path (Bad fault) = BadOf fault
 receipt_in stream open_at events path WrongType = WrongTypeOf
 receipt_in stream open_at events path WrongLength = WrongLengthOf
 
--- what became of a datagram that came on a path after some events of the studio
+-- the outcome of a datagram that comes on a path of a stream after these events of the studio
 abbrev pub receipt_of : Stream → ℕ → ℤ → List TraceEvent → ℕ → List ℕ → ArriveOutcome
 receipt_of stream number open_at events path octets = receipt_in stream open_at (stream_history stream number events) path (reception_of stream octets)

@@ -1,4 +1,4 @@
--- The datagrams that a stream received on its paths, of a list of events.
+-- The datagrams that a stream received on its paths, among a list of events.
 use Rattle.std.specs.Prelude.{◌≡◌, ℕ, zero, suc, nat_eq, List, [], ◌∷◌, ◌++◌, Some, slice_get, if◌then◌else◌}
 use Rattle.rtp_stream.specs.declared.stream_spec.Stream.{Stream}
 use Rattle.rtp_stream.specs.PathCounts.{PathTally, with_reception}
@@ -6,7 +6,8 @@ use Rattle.rtp_stream.specs.Reception.{is_any, is_bad, is_sent, is_wrong_length,
 use Rattle.studio_session.specs.Event.{TraceEvent}
 use Rattle.studio_session.specs.Session.{Step, Other, Datagram, Clock, End, received_on}
 
--- what a stream received on a path; no datagram finds its way full where events wait
+-- the counts of the datagrams that a stream received on a path. `full` is 0, since no datagram in a list of events
+-- meets a full ring
 abbrev pub path_counts_of : Stream → ℕ → ℕ → List TraceEvent → PathTally
 path_counts_of stream number path events = record {
   offered = received_on is_any stream number path events;
@@ -17,23 +18,23 @@ path_counts_of stream number path events = record {
   full = 0;
 }
 
--- with what an event is to the stream, where the path is this one
+-- the counts of a path after one more step of its stream, which adds to them if it is a datagram on this path
 abbrev pub with_step : PathTally → ℕ → Step → PathTally
 with_step t path (Datagram p reception) = if nat_eq p path then with_reception t reception else t
 with_step t path Other = t
 with_step t path (Clock time) = t
 with_step t path End = t
 
--- what a stream received on each of so many paths
+-- the counts of the datagrams that a stream received on each of its first `count` paths
 abbrev pub path_tallies : Stream → ℕ → List TraceEvent → ℕ → List PathTally
 path_tallies stream number events zero = []
 path_tallies stream number events (suc count) = path_tallies stream number events count ++ path_counts_of stream number count events ∷ []
 
--- each path's tally is the one before, with what an event is to the stream
+-- each path's new tally is its old one after this step of the stream
 abbrev pub HasCounted : Step → List PathTally → List PathTally → Type 0
 HasCounted step old new = (path : ℕ) (tally : PathTally) → slice_get new path ≡ Some tally
     → (before : PathTally) × (slice_get old path ≡ Some before) × (tally ≡ with_step before path step)
 
--- the tallies by paths are those of what the stream received
+-- each path's tally counts the datagrams that the stream received on it
 abbrev pub AreTallies : Stream → ℕ → List TraceEvent → List PathTally → Type 0
 AreTallies stream number events tallies = (path : ℕ) (tally : PathTally) → slice_get tallies path ≡ Some tally → tally ≡ path_counts_of stream number path events

@@ -25,16 +25,16 @@ pub record CursorState : Type 0 where
   pub place : ℕ
   pub reading : Option ℤ
 
--- the cursor, with so many events taken
+-- the cursor, with this number of events taken
 abbrev pub at_place : ℕ → CursorState → CursorState
 at_place place cursor = record cursor { place = place }
 
--- where the marks of what was taken lead to
+-- the goal for the marks of the events that were taken: a reading that is still to be reached, or the end
 abbrev pub goal_of : Option ℤ → Goal
 goal_of (Some u) = ToReading u
 goal_of None = End
 
--- no path was offered more than there were events
+-- no path was offered more datagrams than this number of events
 abbrev pub HaveFew : ℕ → List PathTally → Type 0
 HaveFew place tallies = (path : ℕ) (tally : PathTally) → slice_get tallies path ≡ Some tally → tally.offered ≤ place
 
@@ -44,7 +44,7 @@ pub record IsCursor (cursor : CursorState) : Type 0 where
   pub few : HaveFew cursor.place cursor.tallies
   pub can : CanReach cursor.merge (goal_of cursor.reading)
 
--- so many events were taken and counted, and the first k marks of all of them were given
+-- a cursor took and counted the first events, up to its place, and returned the first `k` marks of them
 pub record HasPulled (stream : Stream) (number : ℕ) (open_at : ℤ) (events : List TraceEvent) (cursor : CursorState) (k : ℕ) : Type 0 where
   pub spec : cursor.spec ≡ stream
   pub stream_number : cursor.number ≡ number
@@ -52,12 +52,12 @@ pub record HasPulled (stream : Stream) (number : ℕ) (open_at : ℤ) (events : 
   pub counted : AreTallies stream number (take cursor.place events) cursor.tallies
   pub stands : IsOnWay stream open_at cursor.merge cursor.reading (stream_history stream number (take cursor.place events)) k
 
--- the readings of a stream's events are in order
+-- the clock readings among the events of a stream are in order
 pub record IsRunnable (stream : Stream) (number : ℕ) (open_at : ℤ) (events : List TraceEvent) : Type 0 where
   pub some_frames : 0 < stream.frames
   pub well_timed : is_well_timed open_at (stream_history stream number events) ≡ true
 
--- its arrivals are on paths that the stream has
+-- the arrivals of a stream are on paths that it has
 pub record HasPaths (stream : Stream) (number : ℕ) (events : List TraceEvent) : Type 0 where
   pub paths : (place path : ℕ) (octets : List ℕ) → slice_get events place ≡ Some (Arrival number path octets) → path < stream.paths
 
@@ -73,7 +73,8 @@ pub record IsSameCursor (old new : CursorState) : Type 0 where
   pub tallies : new.tallies ≡ old.tallies
   pub place : new.place ≡ old.place
 
--- how far it is from there, and from the end of the events
+-- how far a merge is from a reading that it still has to reach, or else how many marks it has left; then the same of a
+-- cursor, and the number of events that a cursor has left
 abbrev pub way_to : MergeState → Option ℤ → ℕ
 way_to merge (Some u) = natural (u -ℤ merge.time)
 way_to merge None = marks_left merge
@@ -84,11 +85,11 @@ way_left cursor = way_to cursor.merge cursor.reading
 abbrev pub events_left : List TraceEvent → CursorState → ℕ
 events_left events cursor = length events - cursor.place
 
--- the next mark of what was taken
+-- the next mark of the events that a cursor took
 abbrev pub next_of : CursorState → Option MarkView
 next_of cursor = next_to cursor.merge (goal_of cursor.reading)
 
--- a mark that was given on the way is the next of what was taken
+-- the mark that a cursor returned, if there is one, is the next mark of the events that it took
 pub record IsOnTheWay (stream : Stream) (number : ℕ) (open_at : ℤ) (events : List TraceEvent) (cursor : CursorState) (k : ℕ) (given : Option MarkView) : Type 0 where
   pub mark : (m : MarkView) → given ≡ Some m → m ∷ [] ≡ take 1 (drop k (marks_of stream open_at (stream_history stream number (take cursor.place events))))
   pub stands : HasPulled stream number open_at events cursor (k + length (option_to_list given))

@@ -5,19 +5,19 @@ use Rattle.studio_session.specs.declared.event.StudioEvent.TheVariants.{Arrive, 
 use Rattle.studio_session.specs.declared.event.EventHeader.{EventHeader}
 use Rattle.studio_session.specs.declared.event.EventHeader.TheVariants.{Arrive as ArriveOf, Tick as TickOf, Close as CloseOf}
 
--- what an event says: an arrival's stream, path and octets, a reading of the clock, or the close
+-- an event as contracts see it: an arrival's stream, path and octets, a clock reading, or the close
 pub data TraceEvent : Type 0 where
   Arrival : ℕ → ℕ → List ℕ → TraceEvent
   Reading : ℤ → TraceEvent
   Closing : TraceEvent
 
--- what an event in memory says
+-- an event in memory, as contracts see it
 abbrev pub said_by : StudioEvent → TraceEvent
 said_by (Arrive stream path octets) = Arrival stream path octets.items
 said_by (Tick time) = Reading time
 said_by Close = Closing
 
--- what happened, without the octets
+-- the header of an event: the event without the octets
 abbrev pub outline_of : TraceEvent → EventHeader
 outline_of (Arrival stream path octets) = ArriveOf stream path
 outline_of (Reading time) = TickOf time

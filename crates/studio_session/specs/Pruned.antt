@@ -1,4 +1,4 @@
--- The events of a studio without the readings that another one follows directly.
+-- The events of a studio without the clock readings that are directly followed by another reading.
 use Rattle.std.specs.Prelude.{◌≡◌, ℕ, Bool, true, false, List, [], ◌∷◌, Some, None, slice_get, if◌then◌else◌}
 use Rattle.rtp_stream.specs.declared.stream_counts.StreamCounts.{StreamCounts}
 use Rattle.rtp_stream.specs.declared.stream_spec.Stream.{Stream}
@@ -9,21 +9,22 @@ use Rattle.studio_session.specs.Counts.{path_counts_of}
 use Rattle.studio_session.specs.Report.{AreCounts, merge_tally_of}
 use Rattle.studio_session.specs.Run.{AreDatagrams}
 
--- the first event is a reading
+-- the first event is a clock reading
 abbrev pub begin_with_reading : List TraceEvent → Bool
 begin_with_reading [] = false
 begin_with_reading (Arrival stream path octets ∷ events) = false
 begin_with_reading (Reading time ∷ events) = true
 begin_with_reading (Closing ∷ events) = false
 
--- without each reading that another one follows directly
+-- the events without each clock reading that is directly followed by another reading
 abbrev pub pruned_events : List TraceEvent → List TraceEvent
 pruned_events [] = []
 pruned_events (Arrival stream path octets ∷ events) = Arrival stream path octets ∷ pruned_events events
 pruned_events (Reading time ∷ events) = if begin_with_reading events then pruned_events events else Reading time ∷ pruned_events events
 pruned_events (Closing ∷ events) = Closing ∷ pruned_events events
 
--- the other events have no fault; and the datagrams, and the counts of each path and of each merge, are those of both
+-- `others` have no fault, and both lists of events lead to the same datagrams and to the same counts of each path and
+-- merge
 pub record IsSameRun (studio : Studio) (events others : List TraceEvent) : Type 0 where
   pub no_fault : session_fault_of studio others ≡ None
   pub paths : (i path : ℕ) (stream : Stream) → slice_get studio.streams i ≡ Some stream → path_counts_of stream i path events ≡ path_counts_of stream i path others

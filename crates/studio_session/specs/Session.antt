@@ -8,7 +8,8 @@ use Rattle.studio_session.specs.Event.{TraceEvent, Arrival, Reading, Closing}
 use Rattle.rtp_stream.specs.declared.reception.Reception.{Reception}
 use Rattle.rtp_stream.specs.declared.reception.Reception.TheVariants.{Sent, Bad, WrongType, WrongLength}
 
--- what an event is to one stream: another's datagram, or its own on a path, or a reading of the clock, or the close
+-- what an event is to one stream: another stream's datagram, a datagram on one of its own paths, a clock reading, or
+-- the close
 pub data Step : Type 0 where
   Other : Step
   Datagram : ℕ → Reception → Step
@@ -20,7 +21,8 @@ step_of stream number (Arrival s path octets) = if nat_eq s number then Datagram
 step_of stream number (Reading time) = Clock time
 step_of stream number Closing = End
 
--- what the merge gets of it
+-- the events of the stream's history that a step adds: none for another stream's datagram, or one that is not a packet
+-- of the stream
 abbrev pub event_in : Step → List Event
 event_in Other = []
 event_in (Datagram path (Sent packet)) = Arrive path packet ∷ []
@@ -34,7 +36,7 @@ event_in End = Close ∷ []
 abbrev pub stream_history : Stream → ℕ → List TraceEvent → List Event
 stream_history stream number events = flat_map (λ event. event_in (step_of stream number event)) events
 
--- how many of a path's datagrams were received in a way
+-- whether a step is a datagram on this path whose reception passes the test; `received_on` counts these
 abbrev pub is_on : (Reception → Bool) → ℕ → Step → Bool
 is_on test path (Datagram p reception) = nat_eq p path && test reception
 is_on test path Other = false

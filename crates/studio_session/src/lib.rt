@@ -11,7 +11,7 @@
 //! 5. `Session::into_cursors` returns a `Cursor` for each stream. `finish_stream` brings its counts
 //!    to the end.
 //!
-//! If events come one by one, give each to every cursor: the cursor of its stream takes a datagram by
+//! If events come one by one, pass each to every cursor: the cursor of its stream takes a datagram by
 //! `push_datagram` and the others `skip` it, or pass over all that they missed by `pass_to`; all take a
 //! reading by `push_reading` and a close by `push_close`. `pull_marks` then passes the marks of a cursor
 //! on.

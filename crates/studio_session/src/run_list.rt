@@ -17,7 +17,8 @@ use studio_config::StudioSpec;
 
 /// Returns the datagrams of all blocks that are ready, and the counts of all streams after all their marks.
 ///
-/// The error is the first event at fault, which is found before anything is allocated, or an allocation failure.
+/// The error is the first event that has a fault, which is found before anything is allocated, or an allocation
+/// failure.
 pub fn run_studio(
     alloc: Global,
     spec: &StudioSpec,

@@ -85,7 +85,7 @@ impl Session {
         })
     }
 
-    /// Writes the datagram of the next block to the front of `out` and returns its length in octets, or `None` if no
+    /// Writes the datagram of the next block to the start of `out` and returns its length in octets, or `None` if no
     /// block is ready any more.
     pub fn next_datagram<E: EventSource>(&mut self, source: &E, out: &mut [u8]) -> Option<usize>
         requires room { datagram_length self.old.mixer.packer.spec ≤ length out.old }

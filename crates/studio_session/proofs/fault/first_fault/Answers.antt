@@ -9,7 +9,7 @@ use Rattle.studio_session.specs.declared.fault.StudioFault.{StudioFault}
 use Rattle.studio_session.proofs.FaultLemmas.{runnable, with_paths}
 use Rattle.studio_session.proofs.fault.first_fault.Goals as goal
 
--- no fault was found of the studio's own streams
+-- if the search by the studio's streams and opening time finds no fault, the events have none
 no_fault : (studio : Studio) (events : List TraceEvent) (streams : List Stream) (open_at : ℤ) (found : Option StudioFault) → streams ≡ studio.streams → open_at ≡ studio.open_at
     → found ≡ session_fault_from streams 0 open_at false events → found ≡ None → session_fault_of studio events ≡ None
 no_fault studio events streams open_at found same time is none =

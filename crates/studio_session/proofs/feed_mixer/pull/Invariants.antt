@@ -5,7 +5,7 @@ use Rattle.studio_session.specs.Cursor.{IsReadyFor, events_left}
 use Rattle.studio_session.specs.Play.{IsRunnableBy, Plays}
 use Rattle.studio_session.proofs.feed_mixer.pull.Given as goal
 
--- the marks of the events so far were handed on
+-- the mixer was fed the marks of the events so far
 abbrev pub invariant-events : goal.invariant-events
 invariant-events g l = record {
   ready : IsReadyFor (g.E.EventSource.events l.source) l.cursor;

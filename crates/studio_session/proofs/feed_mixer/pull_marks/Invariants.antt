@@ -7,7 +7,7 @@ use Rattle.studio_session.specs.Cursor.{IsSameCursor, way_left}
 use Rattle.studio_session.specs.Play.{IsRunnableBy, Plays}
 use Rattle.studio_session.proofs.feed_mixer.pull_marks.Given as goal
 
--- the marks so far were handed on
+-- the mixer was fed the marks so far
 abbrev pub invariant-marks : goal.invariant-marks
 invariant-marks l = record {
   stands : (studio : Studio) (events : List TraceEvent) (feeds : List Feed) (next : ℕ) → IsRunnableBy studio events → l.stream < length feeds

@@ -5,7 +5,7 @@ use Rattle.studio_session.specs.Cursor.{IsRunnable, IsSameCursor, way_left}
 use Rattle.studio_session.specs.Report.{HasPulledSome}
 use Rattle.studio_session.proofs.finish.drop_marks.Given as goal
 
--- some marks were given
+-- some marks were returned
 abbrev pub invariant-marks : goal.invariant-marks
 invariant-marks l = record {
   stands : (stream : Stream) (number : ℕ) (open_at : ℤ) (events : List TraceEvent) → IsRunnable stream number open_at events

@@ -4,7 +4,7 @@ use Rattle.studio_session.specs.Cursor.{IsReadyFor, IsRunnable, events_left}
 use Rattle.studio_session.specs.Report.{HasPulledSome}
 use Rattle.studio_session.proofs.finish.finish_stream.Given as goal
 
--- some marks were given
+-- some marks were returned
 abbrev pub invariant-events : goal.invariant-events
 invariant-events g l = record {
   ready : IsReadyFor (g.E.EventSource.events l.source) l.cursor;

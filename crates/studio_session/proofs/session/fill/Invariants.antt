@@ -4,7 +4,7 @@ use Rattle.studio_session.specs.Cursor.{IsReadyFor}
 use Rattle.studio_session.specs.Play.{HasFilled, HasPlayed, IsRunnableBy}
 use Rattle.studio_session.proofs.session.fill.Given as goal
 
--- the streams so far gave what the next block needs
+-- the mixer has what the next block needs of the streams so far
 abbrev pub invariant-loop-stream : goal.invariant-loop-stream
 invariant-loop-stream g l = record {
   ready : All (IsReadyFor (g.E.EventSource.events l.source)) l.cursors;
