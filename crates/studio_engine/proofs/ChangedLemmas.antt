@@ -16,7 +16,7 @@ use Rattle.studio_session.specs.Play.{feeds_of}
 use Rattle.studio_engine.specs.Engine.{EngineState}
 use Rattle.studio_engine.specs.Session.{HasSession}
 
--- a block ends before the later ones begin
+-- a block ends at the start of the next one, or before later ones
 block_ends : (out : Output) (n count : ℕ) → n < count → block_start out (n + 1) ≤ℤ block_start out count
 block_ends out n count h = let p : (n + 1) * out.frames ≤ count * out.frames = mul-le-mul_right out.frames (omega (arith, h)) in omega (arith, ints, p)
 

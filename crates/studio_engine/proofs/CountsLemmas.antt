@@ -42,7 +42,7 @@ ended_at [] i feed ended at = absurd (let e : None ≡ Some feed = at in cc)
 ended_at (f ∷ feeds) zero feed ended at = ap (λ (x : Feed). has_end x.marks) (sym (one f feed at)) ∙ both_left (has_end f.marks) (have_ended feeds) ended
 ended_at (f ∷ feeds) (suc i) feed ended at = ended_at feeds i feed (both_right (has_end f.marks) (have_ended feeds) ended) at
 
--- marks that have ended are all
+-- if the first marks of a mark list have an end, they are the whole list
 ended_all : (stream : Stream) (whole marks : List MarkView) → is_mark_list (format_of stream) whole ≡ true → marks ≡ take (length marks) whole → has_end marks ≡ true → marks ≡ whole
 ended_all stream whole marks list first ended =
     let k = length marks in
@@ -50,7 +50,7 @@ ended_all stream whole marks list first ended =
     let none : drop k whole ≡ [] = end_stays (format_of stream) marks (drop k whole) (ap (is_mark_list (format_of stream)) split ∙ list) ended in
     sym (append-nil marks) ∙ ap (λ l. marks ++ l) (sym none) ∙ split
 
--- a stream of the engine is the studio's
+-- a stream of the engine is the stream of the studio with the same number
 pub stream_is : (studio : Studio) (engine : EngineState) (events : List TraceEvent) (datagrams : List (List ℕ)) (i : ℕ) (cursor : CursorState) (spec : Stream)
     → HasSession studio engine events datagrams → slice_get engine.cursors i ≡ Some cursor → slice_get studio.streams i ≡ Some spec → cursor.spec ≡ spec
 stream_is studio engine events datagrams i cursor spec s at there =
@@ -62,7 +62,7 @@ stream_is studio engine events datagrams i cursor spec s at there =
     (played.given i cursor feed at found.1).pulled.spec
     ∙ one feed.stream spec (sym (stream_at studio engine.mixer played.feeds (length datagrams) i feed played.fed found.1) ∙ there)
 
--- the counts of a merge that gave all its marks
+-- the counts of a merge that returned all its marks
 pub counts_whole : (studio : Studio) (engine : EngineState) (events : List TraceEvent) (datagrams : List (List ℕ)) (i : ℕ) (cursor : CursorState) (spec : Stream)
     → IsEngine engine → HasSession studio engine events datagrams → slice_get engine.cursors i ≡ Some cursor → slice_get studio.streams i ≡ Some spec → HasAllMarks engine
     → cursor.merge.counts ≡ merge_tally_of spec i studio.open_at events
@@ -95,7 +95,7 @@ counts_whole studio engine events datagrams i cursor spec is s at there all =
     ] in
     history.counts ∙ ap (counts_of feed.stream studio.open_at h) every ∙ ap (λ (x : Stream). merge_tally_of x i studio.open_at events) same
 
--- what a path received
+-- the counts of the datagrams that a path received
 pub path_counts_so_far : (studio : Studio) (engine : EngineState) (events : List TraceEvent) (datagrams : List (List ℕ)) (i path : ℕ) (cursor : CursorState) (spec : Stream) (tally : PathTally)
     → IsEngine engine → HasSession studio engine events datagrams → slice_get engine.cursors i ≡ Some cursor → slice_get studio.streams i ≡ Some spec
     → slice_get cursor.tallies path ≡ Some tally → tally ≡ path_counts_of spec i path events
@@ -114,7 +114,7 @@ path_counts_so_far studio engine events datagrams i path cursor spec tally is s 
     ∙ ap (path_counts_of feed.stream i path) taken
     ∙ ap (λ (x : Stream). path_counts_of x i path events) same
 
--- once all streams have ended, no block is ready but those that were given
+-- once all streams have ended, no block is ready but those that were returned
 pub settled_ready : (studio : Studio) (engine : EngineState) (events : List TraceEvent) (datagrams : List (List ℕ)) → HasSession studio engine events datagrams → engine.settled ≡ true
     → is_ready studio.output (feeds_of studio events) (length datagrams) ≡ false
 settled_ready studio engine events datagrams s shut =

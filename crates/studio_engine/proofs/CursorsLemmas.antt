@@ -15,13 +15,13 @@ use Rattle.studio_engine.specs.Cursors.{AreBehind, all_at}
 use Rattle.studio_engine.specs.Engine.{AreAtRest, HaveCome}
 use Rattle.studio_engine.proofs.HandLemmas.{is_other}
 
--- each is as many events along as that
+-- cursors that are set to a number of events have taken that number
 pub all_come : (count : ℕ) (cursors : List CursorState) → HaveCome count (all_at count cursors)
 all_come count cursors = λ i d within.
     let long = length-map cursors (at_place count) in
     ap (λ (c : CursorState). c.place) (get_or-map (at_place count) cursors i d d (omega (arith, within, long)))
 
--- where that holds already nothing changes
+-- nothing changes if the cursors have taken that number already
 pub at_come : (count : ℕ) (cursors : List CursorState) → HaveCome count cursors → all_at count cursors ≡ cursors
 at_come count [] come = refl
 at_come count (cursor ∷ cursors) come =
@@ -31,21 +31,21 @@ at_come count (cursor ∷ cursors) come =
 pub length_at : (count : ℕ) (cursors : List CursorState) → length (all_at count cursors) ≡ length cursors
 length_at count cursors = length-map cursors (at_place count)
 
--- the cursor of a stream, seen there
+-- the cursor of a stream, as contracts see it
 pub seen_at : (count : ℕ) (cursors : List CursorState) (i : ℕ) (cursor : CursorState) → slice_get cursors i ≡ Some cursor → slice_get (all_at count cursors) i ≡ Some (at_place count cursor)
 seen_at count cursors i cursor at = slice_get-map (at_place count) cursors i ∙ ap (option_map (at_place count)) at
 
 pub unseen_at : (count : ℕ) (cursors : List CursorState) (i : ℕ) → slice_get cursors i ≡ None → slice_get (all_at count cursors) i ≡ None
 unseen_at count cursors i none = slice_get-map (at_place count) cursors i ∙ ap (option_map (at_place count)) none
 
--- and the one that is seen
+-- a cursor as contracts see it is one of the engine's cursors, set to the number of events
 pub is_seen : (count : ℕ) (cursors : List CursorState) (i : ℕ) (cursor d : CursorState) → slice_get (all_at count cursors) i ≡ Some cursor → at_place count (get_or cursors i d) ≡ cursor
 is_seen count cursors i cursor d at =
     let long = length-map cursors (at_place count) in
     let within : i < length (all_at count cursors) = slice_get_within (all_at count cursors) i cursor at in
     sym (get_or-map (at_place count) cursors i d cursor (omega (arith, within, long))) ∙ get_or_from_slice_get (all_at count cursors) i cursor cursor at
 
--- none is on its way
+-- cursors at rest are at rest as contracts see them
 pub rest_at : (count : ℕ) (cursors : List CursorState) → AreAtRest cursors → AreAtRest (all_at count cursors)
 rest_at count cursors rested = λ i d within.
     let long = length-map cursors (at_place count) in
@@ -57,7 +57,7 @@ rest_of count cursors rested = λ i d within.
     let long = length-map cursors (at_place count) in
     sym (ap (λ (c : CursorState). c.reading) (get_or-map (at_place count) cursors i d d within)) ∙ rested i d (omega (arith, within, long))
 
--- before the first event each is at it
+-- before the first event each cursor has taken none
 pub new_come : (streams : List Stream) (open_at : ℤ) (cursors : List CursorState) → AreNew streams open_at cursors (length streams) → HaveCome 0 cursors
 new_come streams open_at cursors new = λ i d within.
     let count = new.count_is in
@@ -70,15 +70,15 @@ new_come streams open_at cursors new = λ i d within.
     stream_at (stream ∷ streams) zero h = (stream, refl)
     stream_at (stream ∷ streams) (suc i) h = stream_at streams i (omega (arith, h))
 
--- where all have come none is ahead
+-- cursors that have taken this number of events have not taken more
 pub behind_come : (count : ℕ) (cursors : List CursorState) → HaveCome count cursors → AreBehind count cursors
 behind_come count cursors come = λ i d within. let here = come i d within in omega (arith, here)
 
--- what was said of some cursors, before and after, is said of the same ones
+-- what holds for cursors before and after a call holds for equal cursors
 pub of_both : (P : List CursorState → List CursorState → Type 0) (first seen_first cursors seen : List CursorState) → first ≡ seen_first → cursors ≡ seen → P first cursors → P seen_first seen
 of_both P first seen_first cursors seen before after said = subst (λ l. P seen_first l) after (subst (λ l. P l cursors) before said)
 
--- the cursors, caught up by an index: so many of them
+-- the first `number` cursors caught up: they passed over all events that they missed
 pub record AreCaught (count : ℕ) (first cursors : List CursorState) (number : ℕ) : Type 0 where
   pub length_is : length cursors ≡ length first
   pub each : (i : ℕ) (old new : CursorState) → i < number → slice_get first i ≡ Some old → slice_get cursors i ≡ Some new → new ≡ at_place count old
@@ -94,14 +94,14 @@ caught_none count first = record {
     one : (x y : CursorState) → Some x ≡ Some y → x ≡ y
     one x y e = cc
 
--- the next one is as it was
+-- the next cursor is as it was
 pub uncaught : (count : ℕ) (first cursors : List CursorState) (i : ℕ) (d : CursorState) → AreCaught count first cursors i → i < length cursors → get_or cursors i d ≡ get_or first i d
 uncaught count first cursors i d before within =
     let long = before.length_is in
     let here : i < length first = omega (arith, within, long) in
     before.others i (get_or first i d) (get_or cursors i d) (omega arith) (slice_get-get_or first i d here) (slice_get-get_or cursors i d within)
 
--- one more did
+-- one more cursor caught up
 pub caught_more : (count : ℕ) (first cursors : List CursorState) (i : ℕ) (d moved : CursorState) → AreCaught count first cursors i → i < length cursors
     → moved ≡ at_place count (get_or cursors i d) → AreCaught count first (set cursors i moved) (i + 1)
 caught_more count first cursors i d moved before within one = record {
@@ -119,7 +119,7 @@ caught_more count first cursors i d moved before within one = record {
   ];
 }
 
--- a list is known by its elements
+-- a list is determined by its elements
 same_all : (f : CursorState → CursorState) (xs ys : List CursorState) → length ys ≡ length xs → ((i : ℕ) (x y : CursorState) → slice_get xs i ≡ Some x → slice_get ys i ≡ Some y → y ≡ f x) → ys ≡ map f xs
 same_all f [] [] long each = refl
 same_all f [] (y ∷ ys) long each = absurd (omega (arith, long))
@@ -127,7 +127,7 @@ same_all f (x ∷ xs) [] long each = absurd (omega (arith, long))
 same_all f (x ∷ xs) (y ∷ ys) long each =
     ap (λ c. c ∷ ys) (each 0 x y refl refl) ∙ ap (λ l. f x ∷ l) (same_all f xs ys (omega (arith, long)) (λ i a b is at. each (suc i) a b is at))
 
--- all did
+-- all cursors caught up
 pub caught_all : (count : ℕ) (first cursors : List CursorState) (i : ℕ) → AreCaught count first cursors i → length cursors ≤ i → cursors ≡ all_at count first
 caught_all count first cursors i caught past =
     let long = caught.length_is in
@@ -135,7 +135,7 @@ caught_all count first cursors i caught past =
     let within : j < length cursors = slice_get_within cursors j new at in
     caught.each j old new (omega (arith, within, past)) is at)
 
--- a place of a list that was set
+-- the element at a place that was set
 pub set_at : (xs : List CursorState) (i : ℕ) (x : CursorState) → i < length xs → slice_get (set xs i x) i ≡ Some x
 set_at [] i x h = absurd (omega (arith, h))
 set_at (y ∷ ys) zero x h = refl
@@ -148,19 +148,19 @@ set_other (y ∷ ys) zero (suc j) x d ne = refl
 set_other (y ∷ ys) (suc i) zero x d ne = refl
 set_other (y ∷ ys) (suc i) (suc j) x d ne = set_other ys i j x d (λ e. ne (ap suc e))
 
--- and set again
+-- a place that was set twice has the second element
 pub set_twice : (xs : List CursorState) (i : ℕ) (x y : CursorState) → set (set xs i x) i y ≡ set xs i y
 set_twice [] i x y = refl
 set_twice (z ∷ zs) zero x y = refl
 set_twice (z ∷ zs) (suc i) x y = ap (λ l. z ∷ l) (set_twice zs i x y)
 
--- there is nothing past the end
+-- there is no element past the end
 pub past_none : (xs : List CursorState) (i : ℕ) → length xs ≤ i → slice_get xs i ≡ None
 past_none [] i h = refl
 past_none (x ∷ xs) zero h = absurd (omega (arith, h))
 past_none (x ∷ xs) (suc i) h = past_none xs i (omega (arith, h))
 
--- what follows of what there is
+-- what follows for the element of an option, if there is one
 pub each_some : {A : Type 0} (P Q : A → Type 0) (o : Option A) → ((x : A) → P x → Q x) → IfSome o P → IfSome o Q
 each_some P Q None f h = tt
 each_some P Q (Some x) f h = f x h

@@ -1,4 +1,4 @@
--- If nothing arrives, no reading before the one that is answered makes the next block ready.
+-- If nothing arrives, no clock reading before the one that is returned makes the next block ready.
 use Rattle.std.proofs.Common.{◌≡◌, ℕ, zero, suc, ◌+◌, ◌-◌, ◌*◌, ◌/◌, ◌%◌, ◌^◌, ◌<◌, ◌≤◌, Bool, true, false, not, ◌&&◌, ◌||◌, List, [], ◌∷◌, ◌++◌, length, map, get_or, set, take, Option, Some, None, slice_get, ℤ, pos, negsuc, ◌+ℤ◌, ◌-ℤ◌, ◌≤ℤ◌, ◌<ℤ◌, refl, sym, ap, subst, ◌∙◌, arith, append-nil, append_assoc, if◌then◌else◌, ◌⊎◌, inl, inr, ⊎_elim}
 use Rattle.std.specs.Prelude.{cond, int_le, int_lt, nat_eq, nat_lt, neg_ℤ, unsigned_abs, count_by}
 use Rattle.std.specs.Int.{int_max, saturate_signed, w64}
@@ -108,7 +108,7 @@ no_slot : (a b : Bool) → (not a && b) ≡ true → a ≡ false
 no_slot false b e = refl
 no_slot true b e = cc
 
--- a stream whose marks come to a time at this reading at the earliest
+-- a stream whose marks reach a time at this clock reading at the earliest
 module _ (stream : Stream) (open_at end reading : ℤ) (some : 0 < stream.frames) where
   abbrev IsUncovered : List MarkView → Type 0
   IsUncovered marks = covers (cover_of (format_of stream) marks) end ≡ false
@@ -129,7 +129,7 @@ module _ (stream : Stream) (open_at end reading : ℤ) (some : 0 < stream.frames
       subst IsUncovered (append_assoc marks (mark ∷ []) (slots_from stream a copies (suc n) count))
       (run_uncovered a copies (suc n) count (marks ++ mark ∷ []) (λ i low high. ends i (omega (arith, low)) (omega (arith, high))) (uncovered_more marks mark un (ends n (omega arith) (omega arith))))
 
-  -- where no slot was given, silence isn't told past this reading
+  -- if there was no slot, this reading is not after the deadline of the time `end`
   abbrev IsSilent : List MarkView → Type 0
   IsSilent marks = has_slot marks ≡ false → reading ≤ℤ (end +ℤ pos stream.latency)
 
@@ -164,7 +164,7 @@ module _ (stream : Stream) (open_at end reading : ℤ) (some : 0 < stream.frames
           ends i low (omega (arith, ints, due, early)))
           un
 
-  -- what holds up to this reading, if nothing arrives
+  -- what holds before this reading, if nothing arrives
   record IsPending (history : List Event) : Type 0 where
     uncovered : IsUncovered (marks_of stream open_at history)
     slots : SlotsEnd (anchor_of stream open_at history) (time_of open_at history)
@@ -191,7 +191,7 @@ module _ (stream : Stream) (open_at end reading : ℤ) (some : 0 < stream.frames
       subst (λ l. IsPending (stream_history stream number l)) (append_assoc events (Reading u ∷ []) (map Reading us))
       (read number us (events ++ Reading u ∷ []) (closed_more false events (Reading u) ∙ open_yet) (subst (λ t. RiseBetween t reading us) (sym (time_more open_at events (Reading u))) rise.2) one)
 
--- marks with no slot name none
+-- marks without a slot have no slot names
 nameless : (marks : List MarkView) → has_slot marks ≡ false → length (slot_names marks) ≡ 0
 nameless [] e = refl
 nameless (mark ∷ marks) e = by_kind mark.kind e (nameless marks)
@@ -215,7 +215,7 @@ module _ (stream : Stream) (open_at end reading : ℤ) (some : 0 < stream.frames
       let counted : next_number stream a (time_of open_at history) ≡ a.number + slot_count a.epoch (marks_in stream open_at (copies_of_all stream open_at history) history) = subst (λ o. IsBaseOf o (next_of stream open_at some o (time_of open_at history)) (marks_in stream open_at (copies_of_all stream open_at history) history)) anchor (slots_counted stream open_at some (copies_of_all stream open_at history) history at.well_timed open_yet) in
       base_of a is ∙ sym (counted ∙ ap (λ l. a.number + slot_count a.epoch l) (sym (marks_of-in stream open_at history)))
 
-  -- slots come due at packets' distance
+  -- the deadlines of slots follow at intervals of a packet's frames
   spaced : (a : Anchor) (b q : ℕ) → a.number ≤ b → media_time_of stream a (b + q) ≡ (media_time_of stream a b +ℤ pos (q * stream.frames))
   spaced a b q le =
       let first = media_time_of-from stream a b le in
@@ -345,7 +345,7 @@ unready_max studio events next a b first second = by_test (int_lt b a)
     by_test true = first
     by_test false = second
 
--- of slots at packets' distance, the last that is due before a time
+-- the reading for slots at intervals of a packet's frames: the deadline of the last one that is due before a time
 pub not_past_slot : (slot due : ℤ) (frames : ℕ) (slotless : Bool) (result : ℤ) → 0 < frames → slot <ℤ due → result ≡ ((due -ℤ pos 1) -ℤ pos (unsigned_abs ((due -ℤ pos 1) -ℤ slot) % frames))
     → IsNotPast (Some slot) slotless frames due result
 not_past_slot slot due frames slotless result some ahead is = by_distance ((due -ℤ pos 1) -ℤ slot) refl
@@ -370,33 +370,33 @@ not_past_slot slot due frames slotless result some ahead is = by_distance ((due 
 pub not_past_next : (slot due reading : ℤ) (frames : ℕ) (slotless : Bool) → reading ≤ℤ slot → (slotless ≡ true → reading ≤ℤ due) → IsNotPast (Some slot) slotless frames due reading
 not_past_next slot due reading frames slotless le silent = (λ count early. absurd (omega (arith, ints, le, early)), silent)
 
--- an earlier reading, or a later time
+-- what holds for a time holds for a later time
 pub not_past_more : (o : Option ℤ) (slotless : Bool) (frames : ℕ) (due more reading : ℤ) → due ≤ℤ more → IsNotPast o slotless frames due reading → IsNotPast o slotless frames more reading
 not_past_more None slotless frames due more reading le late = omega (arith, ints, le, late)
 not_past_more (Some slot) slotless frames due more reading le late =
     (λ count early. let before = late.0 count early in omega (arith, ints, before, le), λ none. let before = late.1 none in omega (arith, ints, before, le))
 
--- a sum that saturates is at most the sum
+-- a saturated sum is at most the sum, if the sum is not below the least value
 pub saturated : (z : ℤ) → neg_ℤ (pos (2 ^ 63)) ≤ℤ z → saturate_signed w64 z ≤ℤ z
 saturated (pos n) low = grind (arith, ints)
 saturated (negsuc n) low = grind (arith, ints, low)
 
--- the reading of a stream whose next slot is due before the time is
+-- the reading for a stream whose next slot is due before the time is
 pub slot_reading : (o : Option ℤ) (slot due more result : ℤ) (frames : ℕ) (slotless : Bool) → o ≡ Some slot → 0 < frames → slot <ℤ due → due ≤ℤ more → result ≡ ((due -ℤ pos 1) -ℤ pos (unsigned_abs ((due -ℤ pos 1) -ℤ slot) % frames))
     → IsNotPast o slotless frames more result
 slot_reading o slot due more result frames slotless is some ahead le value =
     subst (λ x. IsNotPast x slotless frames more result) (sym is) (not_past_more (Some slot) slotless frames due more result le (not_past_slot slot due frames slotless result some ahead value))
 
--- and of one whose next slot is due no earlier
+-- the reading for a stream whose next slot is due at that reading or after it
 pub next_reading : (o : Option ℤ) (slot more reading : ℤ) (frames : ℕ) (slotless : Bool) → o ≡ Some slot → reading ≤ℤ slot → (slotless ≡ true → reading ≤ℤ more) → IsNotPast o slotless frames more reading
 next_reading o slot more reading frames slotless is le silent = subst (λ x. IsNotPast x slotless frames more reading) (sym is) (not_past_next slot more reading frames slotless le silent)
 
--- a slot was given
+-- if a slot was counted, the number of slots is not 0
 pub slot_given : (got lost : ℕ) → ((got ≡ 0) × (lost ≡ 0 → ⊥)) ⊎ (got ≡ 0 → ⊥) → nat_eq (got + lost) 0 ≡ true → ⊥
 slot_given got lost (inl none) is = none.1 (let e : got + lost ≡ 0 = grind (arith, nat_tests, is) in omega (arith, e))
 slot_given got lost (inr none) is = none (let e : got + lost ≡ 0 = grind (arith, nat_tests, is) in omega (arith, e))
 
--- a later reading that is a fault before a close is past the latest
+-- if a later reading is a fault and there was no close, it is beyond 2^60
 pub too_far : (time reading : ℤ) (fault : ClockFault) → time <ℤ reading → clock_fault_of time false reading ≡ Some fault → pos (2 ^ 60 + 1) ≤ℤ reading
 too_far time reading fault later is = by_tests (int_lt reading time) (int_lt (pos (2 ^ 60)) reading) refl refl is
   where

@@ -1,4 +1,4 @@
--- An engine's events, one more at the end, and its datagrams, one more.
+-- An engine after one more event, and after one more datagram.
 use Rattle.std.proofs.Common.{◌≡◌, ◌<◌, ◌+◌, ℕ, zero, suc, Bool, true, false, not, nat_lt, ◌^◌, get_or, List, [], ◌∷◌, ◌++◌, length, ℤ, pos, ◌+ℤ◌, ◌≤ℤ◌, ◌<ℤ◌, if◌then◌else◌, Option, Some, None, IfSome, slice_get, refl, sym, ap, subst, ◌∙◌, arith}
 use Rattle.std.specs.Ordering.{int_eq}
 use Rattle.std.proofs.lemmas.Bool.{false≢true}
@@ -29,7 +29,7 @@ use Rattle.studio_engine.specs.Give.{GivesBlock, HasNoBlock}
 use Rattle.studio_engine.specs.Near.{HasRooms, IsAwaited}
 use Rattle.studio_engine.specs.Session.{Gives, HasGivenReady, HasSession, turned}
 
--- before the first event
+-- a new engine has the session of no events
 pub session_new : (studio : Studio) (mixer : MixerState) (made : CursorsState) (time : ℤ) → IsRunnableBy studio [] → HasFeeds studio mixer (unfed studio.streams) 0 → HasRooms studio mixer
     → AreNew studio.streams studio.open_at made.cursors (length studio.streams) → made.count ≡ 0 → time ≡ studio.open_at
     → HasSession studio (record { mixer = mixer; cursors = made.cursors; time = time; turning = false; closed = false; settled = false; count = made.count }) [] []
@@ -50,7 +50,7 @@ session_new studio mixer made time run fed roomy new none is = record {
   settled = λ e. absurd (false≢true e);
 }
 
--- it is an engine
+-- a new engine is an engine
 pub engine_new : (studio : Studio) (mixer : MixerState) (made : CursorsState) (time : ℤ) → IsStudio studio → HasFeeds studio mixer (unfed studio.streams) 0
     → AreNew studio.streams studio.open_at made.cursors (length studio.streams) → made.count ≡ 0 → time ≡ studio.open_at
     → IsEngine (record { mixer = mixer; cursors = made.cursors; time = time; turning = false; closed = false; settled = false; count = made.count })
@@ -79,7 +79,7 @@ engine_new studio mixer made time sound fed new none is =
     stream_at (stream ∷ streams) zero h = (stream, refl)
     stream_at (stream ∷ streams) (suc i) h = stream_at streams i (omega (arith, h))
 
--- an engine stays one when its mixer and its cursors move, and none of the events comes
+-- an engine stays an engine when its mixer and cursors change and no event comes
 pub engine_kept : (old : EngineState) (mixer : MixerState) (kept : CursorsState) (turning settled : Bool) → kept.count ≡ old.count → IsEngine old
     → length mixer.lanes ≡ length old.mixer.lanes → length kept.cursors ≡ length old.cursors → HaveCome kept.count kept.cursors
     → (turning ≡ false → AreAtRest kept.cursors) → (turning ≡ true → old.closed ≡ false) → (settled ≡ true → old.closed ≡ true)
@@ -100,7 +100,7 @@ engine_kept old mixer kept turning settled same is lanes count come rested open_
 pub taken_of : (events : List TraceEvent) (cursors : List CursorState) (count : ℕ) → count ≡ length events → HaveCome count cursors → HaveTaken events cursors
 taken_of events cursors count is come = subst (λ n. HaveCome n cursors) is come
 
--- one event more
+-- an engine after one more event
 pub session_handed : (studio : Studio) (old : EngineState) (kept : List CursorState) (event : TraceEvent) (time : ℤ) (turning closed : Bool) (count : ℕ) (events : List TraceEvent) (datagrams : List (List ℕ))
     → AreHanded event old.cursors kept (length old.cursors) → HaveCome old.count old.cursors → count ≡ old.count + 1
     → time ≡ time_after old.time event → closed ≡ closed_after old.closed event
@@ -133,7 +133,7 @@ session_handed studio old kept event time turning closed count events datagrams 
       settled = s.settled;
     }
 
--- each stream's cursor gave some marks of the events
+-- each stream's cursor returned some marks of the events
 pub pulled_at : (studio : Studio) (engine : EngineState) (events : List TraceEvent) (datagrams : List (List ℕ)) (i : ℕ) (spec : Stream) → HasSession studio engine events datagrams → slice_get studio.streams i ≡ Some spec
     → (cursor : CursorState) × (k : ℕ) × (slice_get engine.cursors i ≡ Some cursor) × HasPulled spec i studio.open_at events cursor k
 pulled_at studio engine events datagrams i spec s at =
@@ -180,11 +180,11 @@ taken_arrival studio engine events datagrams stream path octets s fine =
     stream_at (stream ∷ streams) zero h = (stream, refl)
     stream_at (stream ∷ streams) (suc i) h = stream_at streams i (omega (arith, h))
 
--- the same rooms
+-- lanes with the same room as before have the room that their streams need
 still_roomy : (studio : Studio) (old new : MixerState) → rooms_of new.lanes ≡ rooms_of old.lanes → HasRooms studio old → HasRooms studio new
 still_roomy studio old new same roomy = record { rooms = same ∙ roomy.rooms }
 
--- the same events, with other datagrams
+-- an engine after the same events, with other datagrams
 session_same : (studio : Studio) (old new : EngineState) (events : List TraceEvent) (datagrams more : List (List ℕ)) → new.time ≡ old.time → new.closed ≡ old.closed → new.count ≡ old.count → new.settled ≡ false
     → rooms_of new.mixer.lanes ≡ rooms_of old.mixer.lanes
     → HasSession studio old events datagrams → HasGivenBlocks studio events (session_of new) more → HasSession studio new events more
@@ -199,7 +199,7 @@ session_same studio old new events datagrams more time closed count open_yet roo
   settled = λ e. absurd (false≢true (sym open_yet ∙ e));
 }
 
--- one datagram more
+-- an engine after one more datagram
 pub session_gives : (studio : Studio) (old new : EngineState) (events : List TraceEvent) (datagrams : List (List ℕ)) (before after : List ℕ) (len : ℕ)
     → new.time ≡ old.time → new.closed ≡ old.closed → new.count ≡ old.count → new.settled ≡ false → rooms_of new.mixer.lanes ≡ rooms_of old.mixer.lanes
     → HasSession studio old events datagrams → GivesBlock studio events (session_of new) datagrams before after len → Gives studio new events datagrams before after len
@@ -210,7 +210,7 @@ session_gives studio old new events datagrams before after len time closed count
   stands = session_same studio old new events datagrams (datagrams ++ block.datagram ∷ []) time closed count open_yet rooms s block.given;
 }
 
--- all that is ready was given
+-- an engine that returned the datagrams of all blocks that are ready
 pub session_stops : (studio : Studio) (old new : EngineState) (events : List TraceEvent) (datagrams : List (List ℕ))
     → new.time ≡ old.time → new.closed ≡ old.closed → new.count ≡ old.count → new.settled ≡ false → rooms_of new.mixer.lanes ≡ rooms_of old.mixer.lanes
     → HasSession studio old events datagrams → HasNoBlock studio events (session_of new) datagrams → HasGivenReady studio new events datagrams
@@ -219,7 +219,7 @@ session_stops studio old new events datagrams time closed count open_yet rooms s
   none = stop.none;
 }
 
--- and after a close all is given
+-- an engine that was closed and returned all datagrams
 pub session_settles : (studio : Studio) (old new : EngineState) (events : List TraceEvent) (datagrams : List (List ℕ))
     → new.time ≡ old.time → new.closed ≡ old.closed → new.count ≡ old.count → old.closed ≡ true → rooms_of new.mixer.lanes ≡ rooms_of old.mixer.lanes
     → HasSession studio old events datagrams → HasNoBlock studio events (session_of new) datagrams → HasSession studio new events datagrams
@@ -234,7 +234,7 @@ session_settles studio old new events datagrams time closed count shut rooms s s
   settled = λ e. stop.left (sym s.closed ∙ shut);
 }
 
--- what was kept changes nothing that was given
+-- keeping more marks changes nothing about the datagrams that were returned
 pub stops_kept : (studio : Studio) (events : List TraceEvent) (old new : SessionState) (datagrams : List (List ℕ))
     → HasNoBlock studio events old datagrams → HasPlayed studio events new (length datagrams) → closed_at false events ≡ false → HasNoBlock studio events new datagrams
 stops_kept studio events old new datagrams stop played open_yet = record {
@@ -243,7 +243,8 @@ stops_kept studio events old new datagrams stop played open_yet = record {
   left = λ shut. absurd (false≢true (sym open_yet ∙ shut));
 }
 
--- where no block is ready before a close, all marks so far are kept, and no stream is on its way any more
+-- if no block is ready before a close, all marks so far are kept, and no stream has a reading that it still has to
+-- reach
 pub comes_to_rest : (studio : Studio) (old : EngineState) (mixer : MixerState) (cursors : List CursorState) (events : List TraceEvent) (datagrams : List (List ℕ)) (there : Bool) → HasSession studio old events datagrams
     → old.closed ≡ false → rooms_of mixer.lanes ≡ rooms_of old.mixer.lanes → HaveCome old.count cursors → HasNoBlock studio events (record { mixer = mixer; cursors = cursors }) datagrams
     → ((next : ℕ) → IsAwaited studio events next → HasRooms studio mixer → HaveTaken events cursors → HasPlayed studio events (record { mixer = mixer; cursors = cursors }) next → there ≡ true)
@@ -252,7 +253,7 @@ comes_to_rest studio old mixer cursors events datagrams there s open_yet rooms c
     ap not (keeps (length datagrams) (record { runs = s.runnable; open_yet = sym s.closed ∙ open_yet; unready = stop.none }) (still_roomy studio old.mixer mixer rooms s.rooms)
     (taken_of events cursors old.count s.count come) stop.given.played)
 
--- a reading that doesn't go on is no event
+-- a turn that does not change the time adds no event
 pub turned_same : (old new : ℤ) (events : List TraceEvent) → new ≡ old → events ≡ turned old new events
 turned_same old new events e = by_test (int_eq old new) (grind (arith, ints, nat_tests, e))
   where
@@ -260,7 +261,7 @@ turned_same old new events e = by_test (int_eq old new) (grind (arith, ints, nat
     by_test true e = refl
     by_test false e = absurd (false≢true e)
 
--- a later one is
+-- a turn to a later time adds a reading
 pub turned_on : (old new : ℤ) (events : List TraceEvent) → old <ℤ new → events ++ Reading new ∷ [] ≡ turned old new events
 turned_on old new events h = by_test (int_eq old new) (grind (arith, ints, nat_tests, h))
   where
@@ -279,7 +280,7 @@ gives_after first mid after before between out (Some len) now same later time se
     (subst (λ t. Gives studio after (events ++ Reading t ∷ []) datagrams before out len) (sym time)
     (subst (λ b. Gives studio after (events ++ Reading now ∷ []) datagrams b out len) same (gives studio (events ++ Reading now ∷ []) datagrams (sets studio events datagrams s))))
 
--- and none
+-- a turn after a reading, which returned no datagram
 pub ready_after : (first mid after : EngineState) (now : ℤ) → first.time <ℤ after.time → after.time ≡ now
     → ((studio : Studio) (events : List TraceEvent) (datagrams : List (List ℕ)) → HasSession studio first events datagrams → HasSession studio mid (events ++ Reading now ∷ []) datagrams)
     → ((studio : Studio) (events : List TraceEvent) (datagrams : List (List ℕ)) → HasSession studio mid events datagrams → HasGivenReady studio after events datagrams)

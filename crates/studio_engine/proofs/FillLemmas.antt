@@ -37,7 +37,7 @@ use Rattle.studio_session.proofs.RunLemmas.{blocks_more, fewer_left}
 use Rattle.studio_session.proofs.SessionLemmas.{are_longer, datagram_same, ready_same}
 use Rattle.studio_engine.specs.Give.{GivesBlock, HasNoBlock}
 
--- a stream that isn't wanted any more is final, and so is one that gave all marks of the events
+-- a stream is final if the mixer wants none of its marks for the next block, or if it returned all marks of the events
 pub final_either : (studio : Studio) (events : List TraceEvent) (feeds : List Feed) (next number : ℕ) (mixer : MixerState) (cursor : CursorState) (all : Bool) → length events ≤ cursor.place
     → (all ≡ true → PlaysOut studio events feeds next number mixer cursor) → (all ≡ false → PlaysFinal studio events feeds next number mixer cursor)
     → PlaysFinal studio events feeds next number mixer cursor
@@ -52,7 +52,7 @@ abbrev Fills : List CursorState → SessionState → SessionState → ℕ → Ty
 Fills first old new count = (studio : Studio) (events : List TraceEvent) (next : ℕ) → IsRunnableBy studio events → HaveTaken events first → HasPlayed studio events old next
     → HasFilled studio events new next count
 
--- one block more was given
+-- one more block was returned
 pub gives_block : (first cursors : List CursorState) (old : SessionState) (mixer new : MixerState) (count : ℕ) (before out : List ℕ) (o : Option ℕ) → Fills first old (record { mixer = mixer; cursors = cursors }) count
     → ((studio : Studio) (feeds : List Feed) (next : ℕ) → HasFeeds studio mixer feeds next → is_some o ≡ is_ready studio.output feeds next)
     → IfSome o (Writes mixer new before out)
@@ -95,7 +95,7 @@ still_closed path (Bad fault) events = refl
 still_closed path WrongType events = refl
 still_closed path WrongLength events = refl
 
--- what is closed for the studio is closed for each stream
+-- if the studio is closed, so is each stream
 pub closed_for : (stream : Stream) (number : ℕ) (closed : Bool) (events : List TraceEvent) → closed_at closed events ≡ (closed || is_closed (stream_history stream number events))
 closed_for stream number closed [] = or_none closed
 closed_for stream number closed (Reading u ∷ events) = closed_for stream number closed events
@@ -133,7 +133,7 @@ final_covers studio events next number feed shut (inr all) =
     ended_covers (time_reached (format_of feed.stream).frames (last_slot feed.marks) (last_quiet feed.marks)) (has_end feed.marks) (block_start studio.output (next + 1))
     (ap has_end all ∙ closed_ends studio events number feed.stream shut)
 
--- a covered block is not ready only where all streams have ended
+-- if a covered block is not ready, all streams have ended
 all_ended : (ended below : Bool) → (true && (not ended || below)) ≡ false → ended ≡ true
 all_ended true below e = refl
 all_ended false below e = absurd (false≢true (sym e))
@@ -164,7 +164,7 @@ no_block studio events mixer cursors old count datagrams ready run all given fil
           };
     }
 
--- fewer blocks are left behind one that was given
+-- fewer blocks are left after one that was returned
 pub fewer_given : (old filled new : PackerState) (o : Option ℕ) → filled ≡ old → 0 < filled.spec.frames → new.spec ≡ filled.spec → IfSome o (λ (len : ℕ). new.number ≡ filled.number + 1)
     → IfSome o (λ (len : ℕ). block_start filled.spec filled.number ≤ℤ pos (2 ^ 61 + 192)) → IfSome o (λ (len : ℕ). blocks_left new < blocks_left old)
 fewer_given old filled new None same some spec number early = tt

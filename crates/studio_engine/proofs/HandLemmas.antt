@@ -1,4 +1,4 @@
--- An event, handed to one stream after another.
+-- An event that one stream after another takes.
 use Rattle.std.proofs.Common.{◌≡◌, ◌≢◌, inl, inr, ◌<◌, ◌≤◌, ◌+◌, ℕ, nat_eq, false, List, length, set, get_or, Some, slice_get, refl, sym, ap, subst, ◌∙◌, arith}
 use Rattle.std.proofs.lemmas.Bool.{cases_eq}
 use Rattle.std.proofs.lemmas.Bool.Decides.{nat_tests}
@@ -12,7 +12,7 @@ use Rattle.studio_session.specs.Cursor.{CursorState}
 use Rattle.studio_session.specs.PushedEvents.{AreHanded, IsHanded}
 use Rattle.studio_engine.specs.Engine.{HaveCome}
 
--- none was handed it yet
+-- no cursor took the event yet
 pub handed_none : (event : TraceEvent) (first : List CursorState) → AreHanded event first first 0
 handed_none event first = record {
   length_is = refl;
@@ -23,14 +23,14 @@ handed_none event first = record {
     one : (x y : CursorState) → Some x ≡ Some y → x ≡ y
     one x y e = cc
 
--- the next one is as it was
+-- the next cursor is as it was
 pub unhanded : (event : TraceEvent) (first cursors : List CursorState) (i : ℕ) (d : CursorState) → AreHanded event first cursors i → i < length cursors → get_or cursors i d ≡ get_or first i d
 unhanded event first cursors i d before within =
     let long = before.length_is in
     let here : i < length first = omega (arith, within, long) in
     before.others i (get_or first i d) (get_or cursors i d) (omega arith) (slice_get-get_or first i d here) (slice_get-get_or cursors i d within)
 
--- one more was
+-- one more cursor took the event
 pub handed_more : (event : TraceEvent) (first cursors : List CursorState) (i : ℕ) (d moved : CursorState) → AreHanded event first cursors i → i < length cursors
     → IsHanded event i (get_or cursors i d) moved → AreHanded event first (set cursors i moved) (i + 1)
 handed_more event first cursors i d moved before within one = record {
@@ -48,7 +48,7 @@ handed_more event first cursors i d moved before within one = record {
   ];
 }
 
--- each has come one event further
+-- each cursor took one more event
 pub come_handed : (event : TraceEvent) (first cursors : List CursorState) (count : ℕ) → HaveCome count first → AreHanded event first cursors (length first) → HaveCome (count + 1) cursors
 come_handed event first cursors count come handed = λ i d within.
     let long = handed.length_is in
@@ -56,14 +56,14 @@ come_handed event first cursors count come handed = λ i d within.
     let one = handed.each i (get_or first i d) (get_or cursors i d) here (slice_get-get_or first i d here) (slice_get-get_or cursors i d within) in
     one.place ∙ ap (λ n. n + 1) (come i d here)
 
--- all were
+-- all cursors took the event
 pub handed_all : (event : TraceEvent) (first cursors : List CursorState) (i : ℕ) → AreHanded event first cursors i → length cursors ≤ i → i ≤ length cursors → AreHanded event first cursors (length first)
 handed_all event first cursors i handed past within =
     let long = handed.length_is in
     let e : i ≡ length first = omega (arith, past, within, long) in
     subst (AreHanded event first cursors) e handed
 
--- another stream's datagram is none of this one's
+-- a datagram of another stream is not a datagram of this stream
 pub is_other : (stream path number : ℕ) (octets : List ℕ) → number ≢ stream → (spec : Stream) → step_of spec number (Arrival stream path octets) ≡ Other
 is_other stream path number octets ne spec =
     let no : nat_eq stream number ≡ false = grind (arith, nat_tests, ne) in

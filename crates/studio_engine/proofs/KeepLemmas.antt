@@ -16,7 +16,7 @@ use Rattle.studio_engine.specs.Engine.{AreAtRest}
 use Rattle.studio_engine.specs.Near.{HasRooms, IsAwaited}
 use Rattle.studio_engine.proofs.NearLemmas.{lent_has_room}
 
--- what one stream gave joins what was played
+-- a session after the cursor of one stream returned more marks
 pub played_more : (studio : Studio) (events : List TraceEvent) (mixer new : MixerState) (cursors : List CursorState) (next i : ℕ) (moved : CursorState)
     → (played : HasPlayed studio events (record { mixer = mixer; cursors = cursors }) next) → i < length cursors
     → Plays studio events played.feeds next i new moved
@@ -41,7 +41,7 @@ played_more studio events mixer new cursors next i moved played within last =
       ];
     }
 
--- one stream more has come to rest
+-- one more stream has come to rest
 pub rested_more : (cursors : List CursorState) (i : ℕ) (moved : CursorState) (all kept : Bool) → i < length cursors
     → (all ≡ true → (j : ℕ) (cursor : CursorState) → j < i → slice_get cursors j ≡ Some cursor → cursor.reading ≡ None)
     → (kept ≡ true → moved.reading ≡ None)
@@ -53,7 +53,7 @@ rested_more cursors i moved all kept within before last both j cursor h at = eli
   | inr ne ↦ before (both_left all kept both) j cursor (omega (arith, h, ne)) (set_other_at cursors i j moved cursor ne at)
 ]
 
--- so have all
+-- all streams have come to rest
 pub all_rested : (cursors : List CursorState) (n : ℕ) → length cursors ≤ n → ((j : ℕ) (cursor : CursorState) → j < n → slice_get cursors j ≡ Some cursor → cursor.reading ≡ None) → AreAtRest cursors
 all_rested cursors n all each = λ i d within. each i (get_or cursors i d) (omega (arith, within, all)) (slice_get-get_or cursors i d within)
 

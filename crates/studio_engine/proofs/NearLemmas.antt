@@ -1,4 +1,4 @@
--- The marks of a studio's streams lie near one another: where a block isn't ready, its lanes have room for all.
+-- The marks of a studio's streams lie near one another: while a block is not ready, the lanes have room for all marks.
 use Rattle.std.proofs.Common.{◌≡◌, ℕ, suc, ◌+◌, ◌-◌, ◌<◌, ◌≤◌, Bool, true, false, not, ◌&&◌, ◌||◌, List, [], ◌∷◌, ◌++◌, length, set, Option, Some, None, slice_get, ℤ, pos, negsuc, ◌+ℤ◌, ◌-ℤ◌, ◌≤ℤ◌, ◌<ℤ◌, All, refl, sym, ap, subst, ◌∙◌, arith, if◌then◌else◌}
 use Rattle.std.specs.Prelude.{nat_eq, nat_le, option_map}
 use Rattle.std.specs.Int.{int_max}
@@ -61,7 +61,7 @@ datagram_open path (Bad fault) history = refl
 datagram_open path WrongType history = refl
 datagram_open path WrongLength history = refl
 
--- every stream has the readings of the events
+-- every stream's time is that of the events
 pub stream_time : (stream : Stream) (number : ℕ) (time : ℤ) (events : List TraceEvent) → time_of time (stream_history stream number events) ≡ time_at time events
 stream_time stream number time [] = refl
 stream_time stream number time (Reading u ∷ events) = stream_time stream number u events
@@ -78,7 +78,7 @@ stays_closed (Reading u ∷ events) = stays_closed events
 stays_closed (Closing ∷ events) = stays_closed events
 stays_closed (Arrival s path octets ∷ events) = stays_closed events
 
--- and their close
+-- every stream is open if the events have no close
 pub stream_open : (stream : Stream) (number : ℕ) (events : List TraceEvent) → closed_at false events ≡ false → is_closed (stream_history stream number events) ≡ false
 stream_open stream number [] open_yet = refl
 stream_open stream number (Reading u ∷ events) open_yet = stream_open stream number events open_yet
@@ -123,7 +123,7 @@ last_reached frames t (mark ∷ []) reaches = by_kind mark.kind reaches
 last_reached frames t (mark ∷ next ∷ marks) reaches =
     reached_more frames t (last_slot (next ∷ marks)) (slot_of mark.kind) (last_quiet (next ∷ marks)) (quiet_of mark.kind) (last_reached frames t (next ∷ marks) reaches)
 
--- so every time before it is covered
+-- marks that reached a time cover every time up to it
 covered : (format : PacketFormat) (t limit : ℤ) (marks : List MarkView) → t ≤ℤ limit → LastReaches format.frames limit (last_of marks) → covers (cover_of format marks) t ≡ true
 covered format t limit marks le reaches = by_end (has_end marks) (time_reached format.frames (last_slot marks) (last_quiet marks)) (last_reached format.frames limit marks reaches)
   where
@@ -132,7 +132,7 @@ covered format t limit marks le reaches = by_end (has_end marks) (time_reached f
     by_end false None is = absurd is
     by_end false (Some u) is = grind (arith, ints, is, le)
 
--- every stream covers what lies before the time by the greatest lag
+-- every stream covers what is before the time of the events less the greatest lag
 all_covered : (open_at : ℤ) (events : List TraceEvent) (number : ℕ) (streams : List Stream) (t : ℤ) → ((i : ℕ) (stream : Stream) → slice_get streams i ≡ Some stream → IsRunnable stream (number + i) open_at events)
     → closed_at false events ≡ false → open_at <ℤ time_at open_at events → t ≤ℤ (time_at open_at events -ℤ pos (greatest_lag streams)) → are_covered (feeds_from open_at events number streams) t ≡ true
 all_covered open_at events number [] t runs open_yet past le = refl
@@ -169,12 +169,12 @@ waiting false some more none e = refl
 waiting true true more none e = cc
 waiting true false more none e = cc
 
--- a distance that is at most this
+-- the natural number of an integer is at most `n` if the integer is
 at_most : (z : ℤ) (n : ℕ) → z ≤ℤ pos n → natural z ≤ n
 at_most (pos k) n le = omega (arith, ints, le)
 at_most (negsuc k) n le = omega arith
 
--- a lane that lags no more has room for a mark that is due
+-- a lane that lags by no more than its room allows has room for a mark that is due
 room_for : (stream : Stream) (lane : LaneState) (lag block : ℕ) (open_at time begins : ℤ) (mark : MarkView) → lane.format ≡ format_of stream → lane.position ≡ begins → lane.room ≡ capacity_for lag block stream
     → (time -ℤ pos lag) <ℤ (begins +ℤ pos block) → IsDue stream open_at time mark.kind → has_room_for lane mark ≡ true
 room_for stream lane lag block open_at time begins mark format position room near due = by_kind mark.kind due
@@ -228,7 +228,7 @@ module _ (studio : Studio) (events : List TraceEvent) (mixer : MixerState) (feed
         (stream_marks stream i studio.open_at events) (kept stream i studio.open_at events (awaited.runs.each i stream at) awaited.open_yet).due;
   }
 
--- what a cursor that took all events lends is due by their time
+-- the next mark of a cursor that took all events is due by their time
 lent_due : (stream : Stream) (number : ℕ) (open_at : ℤ) (events : List TraceEvent) (merge : MergeState) (reading : Option ℤ) (k : ℕ) (mark : MarkView) → IsRunnable stream number open_at events → closed_at false events ≡ false
     → IsOnWay stream open_at merge reading (stream_history stream number events) k → next_to merge (goal_of reading) ≡ Some mark → IsDue stream open_at (time_at open_at events) mark.kind
 lent_due stream number open_at events merge None k mark run open_yet way is = absurd (
@@ -240,7 +240,7 @@ lent_due stream number open_at events merge (Some u) k mark run open_yet way is 
     let there : u ≡ time_at open_at events = sym (time_of-append open_at way.0 (Tick u ∷ [])) ∙ way.3.time ∙ stream_time stream number open_at events in
     subst (λ time. IsDue stream open_at time mark.kind) there (lent_is_due stream open_at u merge way.0 k run.some_frames way.1 way.2 mark is)
 
--- so its lane has room for that
+-- the lane of a cursor that took all events has room for its next mark
 pub lent_has_room : (studio : Studio) (events : List TraceEvent) (mixer : MixerState) (feeds : List Feed) (next number : ℕ) (cursor : CursorState) (mark : MarkView) → IsAwaited studio events next → HasRooms studio mixer
     → number < length feeds → Plays studio events feeds next number mixer cursor → length events ≤ cursor.place → next_of cursor ≡ Some mark → has_room_of mixer number mark ≡ true
 lent_has_room studio events mixer feeds next number cursor mark awaited roomy within p taken is =

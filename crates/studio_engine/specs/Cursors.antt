@@ -2,15 +2,16 @@
 use Rattle.std.specs.Prelude.{ℕ, ◌≤◌, List, map, All}
 use Rattle.studio_session.specs.Cursor.{CursorState, at_place}
 
--- what contracts see of them: each as if it had passed over all that it missed, and how many events they took
+-- the cursors as contracts see them, each as if it had passed over all events that it missed, and the number of events
+-- that the engine took
 pub record CursorsState : Type 0 where
   pub cursors : List CursorState
   pub count : ℕ
 
--- the cursors, each with so many events taken
+-- the cursors, each with this number of events taken
 abbrev pub all_at : ℕ → List CursorState → List CursorState
 all_at count cursors = map (at_place count) cursors
 
--- no cursor took more
+-- no cursor took more than this number of events
 abbrev pub AreBehind : ℕ → List CursorState → Type 0
 AreBehind count cursors = All (λ (cursor : CursorState). cursor.place ≤ count) cursors

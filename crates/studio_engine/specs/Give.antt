@@ -14,7 +14,7 @@ pub record HasNoMore (studio : Studio) (feeds : List Feed) (next : ℕ) : Type 0
   pub ended : have_ended feeds ≡ true
   pub none : is_ready studio.output feeds next ≡ false
 
--- one datagram more was given, at the front of the room
+-- one more datagram was returned, at the start of the buffer
 pub record GivesBlock (studio : Studio) (events : List TraceEvent) (session : SessionState) (datagrams : List (List ℕ)) (before after : List ℕ) (len : ℕ) : Type 0 where
   pub datagram : List ℕ
   pub len_is : len ≡ datagram_length studio.output

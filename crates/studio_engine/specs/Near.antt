@@ -9,7 +9,8 @@ use Rattle.studio_session.specs.Event.{TraceEvent}
 use Rattle.studio_session.specs.Fault.{closed_at}
 use Rattle.studio_session.specs.Play.{IsRunnableBy, feeds_of, stream_marks}
 
--- a block is still to come: the readings are in order, there was no close, and it isn't ready by all marks of the events
+-- a block is still to come: the clock readings are in order, there was no close, and the block is not ready by all
+-- marks of the events
 pub record IsAwaited (studio : Studio) (events : List TraceEvent) (next : ℕ) : Type 0 where
   pub runs : IsRunnableBy studio events
   pub open_yet : closed_at false events ≡ false

@@ -1,4 +1,4 @@
--- An engine that was handed a list of events.
+-- An engine that took a list of events.
 use Rattle.std.specs.Prelude.{◌≡◌, ℕ, Bool, true, false, List, [], ◌∷◌, ◌++◌, length, drop, ℤ, None, if◌then◌else◌}
 use Rattle.std.specs.Ordering.{int_eq}
 use Rattle.mix_packets.specs.OutSpec.{datagram_length}
@@ -12,7 +12,8 @@ use Rattle.studio_engine.specs.Engine.{EngineState, session_of}
 use Rattle.studio_engine.specs.Give.{HasNoMore}
 use Rattle.studio_engine.specs.Near.{HasRooms}
 
--- the engine of this studio, with room in its lanes, was handed these events, of which none is at fault, and gave these datagrams: those of the first blocks, each of which is ready
+-- the engine of this studio, with room in its lanes, took these events, none of which has a fault, and returned these
+-- datagrams: those of the first blocks, each of which is ready
 pub record HasSession (studio : Studio) (engine : EngineState) (events : List TraceEvent) (datagrams : List (List ℕ)) : Type 0 where
   pub lawful : session_fault_of studio events ≡ None
   pub runnable : IsRunnableBy studio events
@@ -23,23 +24,23 @@ pub record HasSession (studio : Studio) (engine : EngineState) (events : List Tr
   pub given : HasGivenBlocks studio events (session_of engine) datagrams
   pub settled : engine.settled ≡ true → HasNoMore studio given.played.feeds (length datagrams)
 
--- it gave one datagram more, at the front of the room
+-- the engine returned one more datagram, at the start of the buffer
 pub record Gives (studio : Studio) (engine : EngineState) (events : List TraceEvent) (datagrams : List (List ℕ)) (before after : List ℕ) (len : ℕ) : Type 0 where
   pub datagram : List ℕ
   pub len_is : len ≡ datagram_length studio.output
   pub written : after ≡ datagram ++ drop len before
   pub stands : HasSession studio engine events (datagrams ++ datagram ∷ [])
 
--- it gave all blocks that are ready
+-- the engine returned the datagrams of all blocks that are ready
 pub record HasGivenReady (studio : Studio) (engine : EngineState) (events : List TraceEvent) (datagrams : List (List ℕ)) : Type 0 where
   pub stands : HasSession studio engine events datagrams
   pub none : is_ready studio.output (feeds_of studio events) (length datagrams) ≡ false
 
--- the events after a turn that took the time from one reading to another: one that doesn't go on is none
+-- the events after a turn that took the time from `old` to `new`: a turn that does not change the time adds no event
 abbrev pub turned : ℤ → ℤ → List TraceEvent → List TraceEvent
 turned old new events = if int_eq old new then events else events ++ Reading new ∷ []
 
--- and after a close: a second one is none
+-- the events after a close: a second close adds no event
 abbrev pub shut : Bool → List TraceEvent → List TraceEvent
 shut true events = events
 shut false events = events ++ Closing ∷ []

@@ -107,7 +107,7 @@ impl Cursors {
         self.cursors.get(stream)
     }
 
-    /// Gives a datagram to its stream and returns the outcome, or `None` if there is no such stream.
+    /// Passes a datagram to its stream and returns the outcome, or `None` if there is no such stream.
     pub(crate) fn push_datagram(
         &mut self,
         stream: usize,
@@ -141,7 +141,7 @@ impl Cursors {
         Some(receipt)
     }
 
-    /// Gives a clock reading to every stream.
+    /// Passes a clock reading to every stream.
     pub(crate) fn push_reading(&mut self, now: i64)
         requires rested { AreAtRest self.old.cursors }
         requires few { self.old.count < usize.MAX }
@@ -154,7 +154,7 @@ impl Cursors {
         self.count += 1;
     }
 
-    /// Gives a close to every stream.
+    /// Passes a close to every stream.
     pub(crate) fn push_close(&mut self)
         requires rested { AreAtRest self.old.cursors }
         requires few { self.old.count < usize.MAX }
@@ -168,7 +168,7 @@ impl Cursors {
         self.count += 1;
     }
 
-    /// Writes the next datagram of the events so far to the front of `out` and returns its length in octets, or `None`
+    /// Writes the next datagram of the events so far to the start of `out` and returns its length in octets, or `None`
     /// if no block is ready.
     pub(crate) fn next_datagram(&mut self, mixer: &mut Mixer, out: &mut [u8]) -> Option<usize>
         requires room { datagram_length mixer.old.packer.spec ≤ length out.old }
@@ -233,7 +233,8 @@ impl Cursors {
             → IsAtRest studio events mixer.now self.now.cursors time next
             → IsUnreadyBefore studio events next (pos (2 ^ 60 + 1)) }
     {
-        // The cursors may be behind: their deadlines, counts and specifications are those that they have there.
+        // The cursors may be behind: the events that they missed do not change their deadlines, counts or
+        // specifications.
         reading_past(time, mixer, self.cursors.as_slice())
     }
 }

@@ -1,4 +1,4 @@
-//! An event, given to the streams of an engine.
+//! Passes an event to the streams of an engine.
 ghost use Rattle.std.specs.Prelude.{◌≡◌, ℕ, ◌<◌, ◌≤◌, ◌+◌, List, ℤ, length, slice_get, Some, None, IfSome};
 ghost use Rattle.rtp_stream.specs.declared.stream_spec.Stream.{Stream};
 ghost use Rattle.studio_session.specs.Event.{TraceEvent, Arrival, Reading, Closing};
@@ -22,8 +22,8 @@ pub(crate) fn catch_up(cursors: &mut [Cursor], count: usize)
     }
 }
 
-/// Gives a datagram to its stream and returns the outcome, or `None` if there is no such stream. The other streams pass
-/// over it once they `catch_up`.
+/// Passes a datagram to its stream and returns the outcome, or `None` if there is no such stream. The other streams
+/// pass over it once they `catch_up`.
 pub(crate) fn push_datagram(
     cursors: &mut [Cursor],
     count: usize,
@@ -54,7 +54,7 @@ pub(crate) fn push_datagram(
     Some(cursors[stream].push_datagram(path, octets))
 }
 
-/// Gives a clock reading to every stream.
+/// Passes a clock reading to every stream.
 pub(crate) fn push_reading(cursors: &mut [Cursor], count: usize, now: i64)
     requires rested { AreAtRest cursors.old }
     requires come { HaveCome count cursors.old }
@@ -67,7 +67,7 @@ pub(crate) fn push_reading(cursors: &mut [Cursor], count: usize, now: i64)
     }
 }
 
-/// Gives a close to every stream.
+/// Passes a close to every stream.
 pub(crate) fn push_close(cursors: &mut [Cursor], count: usize)
     requires rested { AreAtRest cursors.old }
     requires come { HaveCome count cursors.old }

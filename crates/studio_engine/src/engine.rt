@@ -169,7 +169,7 @@ impl Engine {
         }
     }
 
-    /// Moves all merges on to a clock reading, in sampling instants, and writes the next datagram to the front of
+    /// Moves all merges on to a clock reading, in sampling instants, and writes the next datagram to the start of
     /// `out`. Returns its length in octets, or `None` once all have reached the reading and no block is ready.
     ///
     /// Call it with the same reading until it returns `None`. A turn that isn't finished is finished first. An error
@@ -215,7 +215,7 @@ impl Engine {
         Ok(self.continue_turn(out))
     }
 
-    /// Takes a later clock reading, and gives it to every stream.
+    /// Takes a later clock reading, and passes it to every stream.
     fn set_out(&mut self, now: i64)
         requires rested { self.old.turning ≡ false }
         requires open_yet { self.old.closed ≡ false }
@@ -312,7 +312,7 @@ impl Engine {
         Ok(())
     }
 
-    /// Writes the next datagram that is left after a close to the front of `out`, and returns its length in octets,
+    /// Writes the next datagram that is left after a close to the start of `out`, and returns its length in octets,
     /// or `None` if none is left or the engine isn't closed.
     pub fn drain(&mut self, out: &mut [u8]) -> Option<usize>
         requires room { datagram_length self.old.mixer.packer.spec ≤ length out.old }
@@ -338,7 +338,7 @@ impl Engine {
     }
 
     /// Returns the clock reading before which no datagram comes if nothing arrives. `None` while a turn isn't
-    /// finished, after a close, and if no reading up to 2^60 sampling instants gives one.
+    /// finished, after a close, and if no reading up to 2^60 sampling instants leads to one.
     pub fn next_deadline(&self) -> Option<i64>
         ensures later { IfSome result (λ reading. self.now.time <ℤ reading) }
         ensures rested { IfSome result (λ _. self.now.turning ≡ false) }

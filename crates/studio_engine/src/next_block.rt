@@ -41,7 +41,7 @@ fn has_frames(mixer: &Mixer)
     let _ = mixer.output().frames();
 }
 
-/// Writes the next datagram of the events so far to the front of `out` and returns its length in octets, or `None` if
+/// Writes the next datagram of the events so far to the start of `out` and returns its length in octets, or `None` if
 /// no block is ready.
 pub(crate) fn next_datagram(
     mixer: &mut Mixer,

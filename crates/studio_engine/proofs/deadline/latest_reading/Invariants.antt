@@ -5,7 +5,7 @@ use Rattle.studio_engine.specs.Cursors.{all_at}
 use Rattle.studio_engine.specs.Deadline.{IsAtRest, IsUnreadyBefore}
 use Rattle.studio_engine.proofs.deadline.latest_reading.Given as goal
 
--- the reading so far is past the time, and the block isn't ready before it
+-- the reading so far is after the time, and the block is not ready before it
 abbrev pub invariant-loop-stream : goal.invariant-loop-stream
 invariant-loop-stream l = record {
   later : l.fn.time <ℤ l.reading;

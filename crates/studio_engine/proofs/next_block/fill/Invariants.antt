@@ -7,7 +7,7 @@ use Rattle.studio_session.specs.Play.{HasFilled, HasPlayed, IsRunnableBy}
 use Rattle.studio_engine.specs.Engine.{AreAtRest, HaveCome}
 use Rattle.studio_engine.proofs.next_block.fill.Given as goal
 
--- the streams so far gave what the next block needs
+-- the mixer has what the next block needs of the streams so far
 abbrev pub invariant-loop-stream : goal.invariant-loop-stream
 invariant-loop-stream l = record {
   stands : (studio : Studio) (events : List TraceEvent) (next : ℕ) → IsRunnableBy studio events → HaveTaken events l.fn.cursors
