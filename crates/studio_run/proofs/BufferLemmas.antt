@@ -6,19 +6,19 @@ use Rattle.std.specs.Io.KnownBytes.{Appends}
 use Rattle.std.proofs.KnownBytes.{Appends-nil, Appends-trans}
 use Rattle.studio_run.specs.Buffer.{PassesOn, BreaksOff}
 
--- nothing was written, and the octets are held
+-- nothing was written, and the buffer holds the octets
 pub PassesOn-held : (a : Option (List ℕ)) (held octets : List ℕ) → PassesOn a held a (held ++ octets) octets
 PassesOn-held a held octets = record { front = []; whole = refl; wrote = Appends-nil a }
 
--- nothing came
+-- no octets were appended
 pub PassesOn-none : (a : Option (List ℕ)) (held : List ℕ) → PassesOn a held a held []
 PassesOn-none a held = record { front = []; whole = append-nil held; wrote = Appends-nil a }
 
--- what was held is written, and nothing is held
+-- the octets that the buffer held were written, and it holds none
 pub PassesOn-written : (a b : Option (List ℕ)) (held : List ℕ) → Appends a b held → PassesOn a held b [] []
 PassesOn-written a b held wrote = record { front = held; whole = refl; wrote = wrote }
 
--- one run of octets after another
+-- two runs of octets, one after the other
 pub PassesOn-trans : (a b c : Option (List ℕ)) (h i j xs ys : List ℕ) → PassesOn a h b i xs → PassesOn b i c j ys → PassesOn a h c j (xs ++ ys)
 PassesOn-trans a b c h i j xs ys first second = record {
   front = first.front ++ second.front;
@@ -26,11 +26,11 @@ PassesOn-trans a b c h i j xs ys first second = record {
   wrote = Appends-trans a b c first.front second.front first.wrote second.wrote;
 }
 
--- the octets are held after others
+-- the buffer holds the octets after others
 pub PassesOn-grown : (a b : Option (List ℕ)) (h i j xs : List ℕ) → PassesOn a h b i [] → j ≡ i ++ xs → PassesOn a h b j xs
 PassesOn-grown a b h i j xs passes grown = rw grown (PassesOn-trans a b b h i (i ++ xs) [] xs passes (PassesOn-held b i xs))
 
--- a fault before all that was to come
+-- writing broke off before all further octets
 pub BreaksOff-longer : (a b : Option (List ℕ)) (h xs ys : List ℕ) → BreaksOff a h b xs → BreaksOff a h b (xs ++ ys)
 BreaksOff-longer a b h xs ys fault =
     let same : take fault.count (h ++ (xs ++ ys)) ≡ take fault.count (h ++ xs) =
@@ -40,7 +40,7 @@ BreaksOff-longer a b h xs ys fault =
       wrote = rw same fault.wrote;
     }
 
--- a fault after other octets
+-- writing broke off after other octets had passed
 pub BreaksOff-later : (a b c : Option (List ℕ)) (h i xs ys : List ℕ) → PassesOn a h b i xs → BreaksOff b i c ys → BreaksOff a h c (xs ++ ys)
 BreaksOff-later a b c h i xs ys passes fault =
     let whole : h ++ (xs ++ ys) ≡ passes.front ++ (i ++ ys) = sym (append_assoc h xs ys) ∙ ap (λ l. l ++ ys) passes.whole ∙ append_assoc passes.front i ys in
@@ -51,11 +51,11 @@ BreaksOff-later a b c h i xs ys passes fault =
       wrote = rw same (Appends-trans a b c passes.front (take fault.count (i ++ ys)) passes.wrote fault.wrote);
     }
 
--- what was held is written at the end
+-- the octets that the buffer held at the end were written
 pub PassesOn-finished : (a b c : Option (List ℕ)) (h xs : List ℕ) → PassesOn a [] b h xs → Appends b c h → Appends a c xs
 PassesOn-finished a b c h xs passes rest = rw passes.whole (Appends-trans a b c passes.front h passes.wrote rest)
 
--- or a part of it
+-- only a part of the octets that the buffer held at the end was written
 pub BreaksOff-finished : (a b c : Option (List ℕ)) (h xs : List ℕ) → PassesOn a [] b h xs → (n : ℕ) × (n < length h) × Appends b c (take n h) → BreaksOff a [] c xs
 BreaksOff-finished a b c h xs passes part =
     subst (BreaksOff a [] c) (append-nil xs) (BreaksOff-later a b c [] h xs [] passes

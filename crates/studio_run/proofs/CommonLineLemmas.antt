@@ -1,4 +1,4 @@
--- An arrival's line in the form of almost all: a letter, a digit and a datagram, one space after each but the last.
+-- An arrival's line in the form that almost all have: a letter, a digit and a datagram, with one space between them.
 use Rattle.std.proofs.Common.{◌≡◌, ℕ, ◌+◌, ◌-◌, ◌<◌, ◌≤◌, Bool, true, false, cond, eqb, leb, ◌&&◌, ◌||◌, List, ◌∷◌, [], Option, Some, None, length, get_or, All, refl, sym, ap, subst, ◌∙◌, arith}
 use Rattle.std.specs.Prelude.{codes, Ok, is_some, IsSome}
 use Rattle.std.specs.Str.{bytes_eq}
@@ -15,7 +15,7 @@ use Rattle.studio_run.proofs.FieldsLemmas.{chosen-Some}
 use Rattle.studio_run.proofs.NumberLemmas.{number_of-decimal}
 use Rattle.studio_run.proofs.TraceLemmas.{some_octets}
 
--- a digit is no space
+-- a digit is not a space
 digit_no_space : (x : ℕ) → is_hex_digit x ≡ true → eqb x 32 ≡ false
 digit_no_space x digit = by_test (eqb x 32) refl
   where
@@ -26,14 +26,14 @@ digit_no_space x digit = by_test (eqb x 32) refl
 no_spaces : (text : List ℕ) → is_some (octets_of text) ≡ true → All (λ x. eqb x 32 ≡ false) text
 no_spaces text spelled = λ k d h. digit_no_space (get_or text k d) (digits_of text spelled k d h)
 
--- the three fields
+-- the three fields of the line
 common_fields : (w d : ℕ) (ds : List ℕ) → eqb w 32 ≡ false → eqb d 32 ≡ false → All (λ x. eqb x 32 ≡ false) ds → fields_of (w ∷ 32 ∷ d ∷ 32 ∷ ds) ≡ (w ∷ []) ∷ (d ∷ []) ∷ ds ∷ []
 common_fields w d ds letter digit none = rw (letter, digit, slice_split_none (λ x. eqb x 32) ds none) refl
 
 digit_number : (d n : ℕ) → d ≡ 48 + n → n < 10 → number_of 15 (d ∷ []) ≡ Some n
 digit_number d n is small = ap (λ (x : ℕ). number_of 15 (x ∷ [])) is ∙ ap (number_of 15) (sym (decimal_digit n small)) ∙ number_of-decimal 15 n (omega arith) (omega arith)
 
--- a letter that names a path
+-- the range of a letter that names a path
 letter_range : (w path : ℕ) → path_of (w ∷ []) ≡ Some path → (97 ≤ w) × (w ≤ 100)
 letter_range w path is =
     let tests : (leb 97 w && leb w 100) ≡ true = (chosen-Some (leb 97 w && leb w 100) (w - 97) path is).0 in
@@ -44,7 +44,7 @@ neither : (a b : Bool) → a ≡ false → b ≡ false → (a || b) ≡ false
 neither false b p q = q
 neither true b p q = p
 
--- the line is no comment
+-- the line is not empty and not a comment
 not_silent : (w : ℕ) (rest : List ℕ) → 97 ≤ w → is_silent (w ∷ rest) ≡ false
 not_silent w rest low =
     neither (eqb (length (w ∷ rest)) 0) (eqb w 35) (ne_eqb (length (w ∷ rest)) 0 (λ e. absurd (omega arith))) (ne_eqb w 35 (λ e. absurd (omega arith)))
@@ -75,6 +75,6 @@ common_said line w d n path ds is letter digit small spelled =
     ∙ ap (λ (fs : List (List ℕ)). with_event (fields_said fs)) (common_fields w d ds no_space no_space_too (no_spaces ds spelled))
     ∙ ap with_event (fields_are w d n path ds letter (digit_number d n digit small) (some_octets ds spelled))
 
--- its datagram is at its end
+-- the datagram of the line is at its end
 pub common_last : (line : List ℕ) (w d : ℕ) (ds : List ℕ) → line ≡ w ∷ 32 ∷ d ∷ 32 ∷ ds → is_some (octets_of ds) ≡ true → EndsWith line ds × IsSome (octets_of ds)
 common_last line w d ds is spelled = let octets = some_octets ds spelled in ((w ∷ 32 ∷ d ∷ 32 ∷ [], is), rw octets)

@@ -7,7 +7,7 @@ use Rattle.studio_run.specs.CountedListing.{FailsWithCounts, FailsWithCountsOf, 
 use Rattle.studio_run.specs.declared.player.PlayFault.{PlayFault}
 use Rattle.studio_run.proofs.PlayLemmas.{fails_later, fails_read}
 
--- the events were read, and then the writing failed
+-- the events were read, and then writing failed
 pub fails_with_counts : (studio : Studio) (left left_then : Option (List ℕ)) (events : List TraceEvent) (a b x y : Option (List ℕ)) (fault : PlayFault) (reads : ReadsEvents studio left left_then events)
     → FailsWithCounts studio events a b x y fault → FailsWithCountsOf studio left left_then a b x y fault
 fails_with_counts studio left left_then events a b x y fault reads (inl (listing, none)) =

@@ -12,7 +12,7 @@ use Rattle.hex.proofs.HexLemmas.{decode_of-digits, decode_of-even, decode_of-ok}
 use Rattle.hex.proofs.Pairs.{prepend, decode_pairs-ok_pair}
 use Rattle.studio_run.specs.Trace.{octets_of}
 
--- an even number of octets decodes where all are digits
+-- an even number of octets can be decoded exactly if all are digits
 digits_decode : (text : List ℕ) (all : Bool) → length text % 2 ≡ 0 → all ≡ list_all is_hex_digit text → all ≡ is_some (result_ok (decode_of text))
 digits_decode text true even is = let read = decode_of-digits text even (AllPass-from_list_all is_hex_digit text (sym is)) in rw read.1 refl
 digits_decode text false even is = by_answer (decode_of text) refl
@@ -24,7 +24,7 @@ digits_decode text false even is = by_answer (decode_of text) refl
 pub spells_is : (text : List ℕ) (all : Bool) → 0 < length text → length text % 2 ≡ 0 → all ≡ list_all is_hex_digit text → all ≡ is_some (octets_of text)
 spells_is text all some even is = let more : eqb (length text) 0 ≡ false = grind (arith, nat_tests, some) in rw more (digits_decode text all even is)
 
--- what spells octets is digits, two for each
+-- a text that spells octets has digits only, two for each octet
 pub spelled_parts : (text : List ℕ) → is_some (octets_of text) ≡ true → AllPass is_hex_digit text × (length text % 2 ≡ 0)
 spelled_parts text spelled = by_answer (eqb (length text) 0) (decode_of text) refl spelled
   where
@@ -55,7 +55,7 @@ pair_is h l r octets sized is high low i =
     let same : read.0 ∷ [] ≡ octets = cc in
     read.1 i ∙ ap (λ (os : List ℕ). Ok (get_or os 0 0)) same
 
--- and no fault
+-- decoding two digits has no fault
 pub no_fault : (h l : ℕ) (r : Result (List ℕ) FromHexError) (e : FromHexError) → r ≡ decode_sized (h ∷ l ∷ []) 1 → r ≡ Err e → is_hex_digit h ≡ true → is_hex_digit l ≡ true → ⊥
 unfolding decode_pairs
 no_fault h l r e sized is high low =

@@ -13,7 +13,7 @@ use Rattle.gain_mix.specs.Matrix.{has_range, has_shape, matrix_fault_of}
 use Rattle.gain_mix.specs.declared.matrix.MatrixFault.TheVariants.{Shape, Range}
 use Rattle.studio_run.specs.Gains.{is_channel, is_gain, is_time, one_gain, with_gain}
 
--- the first elements of a list of which one is replaced
+-- the first elements of a list in which one element is replaced
 take-set : (n : ℕ) (gains : List ℤ) (i : ℕ) (gain : ℤ) → take n (set gains i gain) ≡ set (take n gains) i gain
 take-set zero gains i gain = refl
 take-set (suc n) [] i gain = refl
@@ -50,7 +50,7 @@ gain_changed matrix made gains written output input gain low by_row is made_is =
     ∙ sym (rows_with_gain (ins_of matrix) (length matrix) gains output input gain low)
     ∙ ap (λ (rows : List (List ℤ)). with_gain rows output input gain) by_row
 
--- the shape stays
+-- replacing a gain keeps the shape
 pub length-with_gain : (rows : List (List ℤ)) (output input : ℕ) (gain : ℤ) → length (with_gain rows output input gain) ≡ length rows
 length-with_gain [] output input gain = refl
 length-with_gain (row ∷ rows) zero input gain = refl
@@ -61,7 +61,7 @@ ins_of-with_gain [] output input gain = refl
 ins_of-with_gain (row ∷ rows) zero input gain = length-set row input gain
 ins_of-with_gain (row ∷ rows) (suc output) input gain = refl
 
--- and so does the range
+-- replacing a gain by one in range keeps the range
 range-set : (gains : List ℤ) (place : ℕ) (gain : ℤ) → has_range gains ≡ true → is_gain gain ≡ true → has_range (set gains place gain) ≡ true
 range-set [] place gain all here = refl
 range-set (g ∷ gains) zero gain all here = let (first, more) = and_parts (is_gain g) (has_range gains) all in rw (here, more)
@@ -83,7 +83,7 @@ set-no_fault outs ins gains written place gain none here is =
     let range : has_range written ≡ true = ap has_range is ∙ range-set gains place gain parts.1 here in
     rw (shape, range)
 
--- what a constructor made, which refuses what is at fault
+-- the result of a constructor that found no fault
 abbrev made_as : {A F : Type 0} → A → Result A F
 made_as made = Ok made
 
@@ -100,7 +100,7 @@ before-filter at (change ∷ later) = ap (λ (l : List (ℤ × List (List ℤ)))
 pub gain-narrow : (gain : ℤ) → is_gain gain ≡ true → to_z w32 (of_z w32 gain) ≡ gain
 gain-narrow gain small = let fits : FitsSigned w32 gain = grind (arith, common_steps) in to_z-of_z w32 gain fits
 
--- the change of one gain
+-- the change that the fields of a `gain` line specify
 pub one-said : (schedule : Changes) (at output input gain : ℤ) (made : List (List ℤ)) → is_time at ≡ true → is_channel (length schedule.first) output ≡ true
     → is_channel (ins_of schedule.first) input ≡ true → is_gain gain ≡ true
     → made ≡ with_gain (matrix_at schedule at) (unsigned_abs output) (unsigned_abs input) gain → one_gain schedule (at ∷ output ∷ input ∷ gain ∷ []) ≡ Ok (at, made)

@@ -20,7 +20,7 @@ pub behind-none : (more : Option (List ℤ)) → more ≡ behind [] more
 behind-none None = refl
 behind-none (Some more) = refl
 
--- how many octets are left of a text, one more if there is any text
+-- the number of octets that are left of a text, plus one if there is a text
 abbrev pub octets_left : Option (Bor (List ℕ)) → ℕ
 octets_left None = 0
 octets_left (Some text) = length text.now + 1
@@ -43,7 +43,7 @@ below-some size some = rw (ne_eqb size 0 some)
 pub below-zero : (size : ℕ) → size ≡ 0 → below_zero (Some size) ≡ None
 below-zero size zero_is = rw (eq-eqb size 0 zero_is)
 
--- as many numbers as fields
+-- there are as many numbers as fields
 length-step : (number : Option ℤ) (more : Option (List ℤ)) (count : ℕ) (read : List ℤ) → ((rest : List ℤ) → more ≡ Some rest → length rest ≡ count) → with_integer number more ≡ Some read → length read ≡ suc count
 length-step None more count read known is = absurd (cc)
 length-step (Some number) None count read known is = absurd (cc)
@@ -53,7 +53,7 @@ pub length-integers : (fields : List (List ℕ)) (read : List ℤ) → integers_
 length-integers [] read is = let same : [] ≡ read = cc in ap length (sym same)
 length-integers (field ∷ fields) read is = length-step (integer_of field) (integers_of fields) (length fields) read (length-integers fields) is
 
--- the numbers of so many fields
+-- `numbers_of`, by the number of fields and by whether all of them spell numbers
 pub numbers-others : (count : ℕ) (fields : List (List ℕ)) → eqb (length fields) count ≡ false → numbers_of count fields ≡ Err Fields
 numbers-others count fields others = rw others
 

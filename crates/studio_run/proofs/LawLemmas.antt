@@ -1,4 +1,4 @@
--- The gains in force after a change, and the gains that a change of one leaves.
+-- The gains in force after a change, and the gains that a change of one gain keeps.
 use Rattle.std.proofs.Common.{◌≡◌, ◌≢◌, ◌⊎◌, inl, inr, ℕ, zero, suc, ◌<◌, ◌<ℤ◌, ◌≤ℤ◌, Bool, true, false, cond, ℤ, pos, List, [], ◌∷◌, length, get_or, set, Ok, Err, refl, sym, ap, ◌∙◌, arith}
 use Rattle.std.specs.Int.RustNames.{int_lt}
 use Rattle.std.proofs.lemmas.List.{get_or-set_same, get_or-set_other}

@@ -22,13 +22,13 @@ pub not_empty : (text : List ℕ) → eqb (length text) 0 ≡ false → 0 < leng
 not_empty [] some = absurd (let no : true ≡ false = some in cc)
 not_empty (octet ∷ octets) some = omega arith
 
--- no line follows the first fault
+-- the lines after the first fault change nothing
 said-fault : (lines : List (List ℕ)) (number : ℕ) (fault : GainsFault) → lines_said number (Err fault) lines ≡ Err fault
 said-fault [] number fault = refl
 said-fault (last ∷ []) number fault = refl
 said-fault (line ∷ next ∷ more) number fault = said-fault (next ∷ more) (number + 1) fault
 
--- a text with a line feed: its first line, and those behind it
+-- a text with a line feed: its first line, and those after it
 pub said-line : (text : List ℕ) (end number : ℕ) (state next : Changes × ℤ) → position (λ octet. eqb octet 10) text ≡ Some end → line_said state (take end text) ≡ Ok next
     → lines_said number (Ok state) (lines_of text) ≡ lines_said (number + 1) (Ok next) (lines_of (take (length text - (end + 1)) (drop (end + 1) text)))
 said-line text end number state next found says =
@@ -37,7 +37,7 @@ said-line text end number state next found says =
     ∙ said-more number (Ok state) (take end text) (lines_of rest) (some_lines rest)
     ∙ ap (λ (said : Result (Changes × ℤ) GainsFaultKind). lines_said (number + 1) (in_line number said) (lines_of rest)) says
 
--- whose first line is at fault
+-- a text with a line feed, whose first line has a fault
 pub fails-line : (text : List ℕ) (end number : ℕ) (state : Changes × ℤ) (kind : GainsFaultKind) → position (λ octet. eqb octet 10) text ≡ Some end → line_said state (take end text) ≡ Err kind
     → lines_said number (Ok state) (lines_of text) ≡ Err (fault_in number kind)
 fails-line text end number state kind found says =

@@ -40,7 +40,7 @@ Stands-at text front line after (Arrive stream path digits) end whole is short l
 Stands-at text front line after (Tick time) end whole is short last = record { said = refl; place = tt; digits = omega arith }
 Stands-at text front line after Close end whole is short last = record { said = refl; place = tt; digits = omega arith }
 
--- a line that was read, from this place on, ends here
+-- a line that was read from the place `at` on ends at `end`
 pub record EndsLine (text : List ℕ) (at : ℕ) (line : List ℕ) (event : Option LineEvent) (end : ℕ) : Type 0 where
   pub front : take (end + 1) text ≡ take at text ++ (line ++ (10 ∷ []))
   pub further : at ≤ end

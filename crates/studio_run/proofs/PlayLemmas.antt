@@ -16,7 +16,7 @@ use Rattle.studio_run.specs.declared.player.PlayFault.{PlayFault}
 use Rattle.studio_run.specs.declared.player.PlayFault.TheVariants.{Read, Memory, Trace, Run, Write}
 
 module _ {T : Type 0} where
-  -- a fault is answered as it was
+  -- the fault that is returned is the one that was found
   pub told : (P : PlayFault → Type 0) (fault : PlayFault) (r : Result T PlayFault) → IsErrAnd r (λ answer. answer ≡ fault) → P fault → IfErr r P
   told P fault (Ok it) is holds = absurd is
   told P fault (Err answer) is holds = subst P (sym is) holds
@@ -31,13 +31,13 @@ stops_by_kind studio trace fault Hex of is = is
 stops_by_kind studio trace fault TooMany of is = is
 stops_by_kind studio trace fault NoMemory of is = absurd of
 
--- a trace with no events in memory
+-- a trace whose events could not be read into memory
 pub stops_at_trace : (studio : Studio) (trace : List ℕ) (fault : TraceFault) → ((fault ≡ fault_in 0 NoMemory) × BeginsWithEvents trace) ⊎ (trace_events trace ≡ Err fault)
     → StopsAt studio trace (play_fault fault.kind fault)
 stops_at_trace studio trace fault (inl want) = subst (λ (f : TraceFault). StopsAt studio trace (play_fault f.kind f)) (sym want.0) want.1
 stops_at_trace studio trace fault (inr is) = stops_by_kind studio trace fault fault.kind (subst (λ r. IfErr r IsFaultOfText) is (of_trace trace)) is
 
--- nothing was written yet
+-- a fault before anything was written
 pub fails_before : (studio : Studio) (IsText : Studio → List TraceEvent → List ℕ → Type 0) (trace : List ℕ) (a : Option (List ℕ)) (fault : PlayFault) → StopsAt studio trace fault → FailsOn studio IsText trace a a fault
 fails_before studio IsText trace a Memory stops = refl
 fails_before studio IsText trace a (Trace fault) stops = (stops, refl)
@@ -45,7 +45,7 @@ fails_before studio IsText trace a (Run fault) stops = (stops, refl)
 fails_before studio IsText trace a Read stops = absurd stops
 fails_before studio IsText trace a Write stops = absurd stops
 
--- the events run
+-- a fault of writing, after the events were found to have no fault
 pub fails_later : (studio : Studio) (IsText : Studio → List TraceEvent → List ℕ → Type 0) (trace : List ℕ) (events : List TraceEvent) (a b : Option (List ℕ)) (fault : PlayFault)
     → trace_events trace ≡ Ok events → session_fault_of studio events ≡ None → FailsWriting studio IsText events a b fault → FailsOn studio IsText trace a b fault
 fails_later studio IsText trace events a b Memory said runs fails = fails
@@ -54,7 +54,7 @@ fails_later studio IsText trace events a b Read said runs fails = absurd fails
 fails_later studio IsText trace events a b (Trace fault) said runs fails = absurd fails
 fails_later studio IsText trace events a b (Run fault) said runs fails = absurd fails
 
--- the input was not read to its end
+-- a fault while the input was read
 pub fails_reading : (studio : Studio) (IsText : Studio → List TraceEvent → List ℕ → Type 0) (left left_then a : Option (List ℕ)) (fault : PlayFault) → StopsReading left left_then fault
     → FailsOf studio IsText left left_then a a fault
 fails_reading studio IsText left left_then a Read stops = refl
@@ -63,7 +63,7 @@ fails_reading studio IsText left left_then a (Trace fault) stops = (stops.0, sto
 fails_reading studio IsText left left_then a (Run fault) stops = absurd stops
 fails_reading studio IsText left left_then a Write stops = absurd stops
 
--- it was
+-- a fault after the input was read to its end
 pub fails_read : (studio : Studio) (IsText : Studio → List TraceEvent → List ℕ → Type 0) (left left_then : Option (List ℕ)) (trace : List ℕ) (a b : Option (List ℕ)) (fault : PlayFault)
     → Consumes left left_then trace → IsAtEnd left_then → FailsOn studio IsText trace a b fault → FailsOf studio IsText left left_then a b fault
 fails_read studio IsText left left_then trace a b Read read end fails = absurd fails

@@ -11,13 +11,13 @@ use Rattle.studio_run.proofs.ReadLineLemmas.{prepend-none, prepend-prepend}
 pub gives-none : GivesEvents [] 0 0 []
 gives-none rest = sym (prepend-none (lines_said 1 0 (lines_of rest)))
 
--- one line more
+-- one more line was read
 pub gives-line : (front line : List ℕ) (lines count : ℕ) (before said : List TraceEvent) → GivesEvents front lines count before → ReadsLine line count said → GivesEvents (front ++ (line ++ (10 ∷ []))) (lines + 1) (count + length said) (before ++ said)
 gives-line front line lines count before said gives reads rest =
     ap (λ t. lines_said 1 0 (lines_of t)) (append_assoc front (line ++ (10 ∷ [])) rest ∙ ap (λ l. front ++ l) (append_assoc line (10 ∷ []) rest))
     ∙ gives (line ++ (10 ∷ rest)) ∙ ap (prepend before) (reads (lines + 1) rest) ∙ prepend-prepend before said (lines_said (lines + 1 + 1) (count + length said) (lines_of rest))
 
--- the same of a line without an event
+-- one more line without an event was read
 pub gives-silent : (front line : List ℕ) (lines count : ℕ) (before : List TraceEvent) → GivesEvents front lines count before → ReadsLine line count [] → GivesEvents (front ++ (line ++ (10 ∷ []))) (lines + 1) count (before ++ [])
 gives-silent front line lines count before gives reads rest =
     let same : count + 0 ≡ count = omega arith in
@@ -27,17 +27,17 @@ gives-silent front line lines count before gives reads rest =
 said-few : (text : List ℕ) → length text ≤ 67108864 → trace_events text ≡ lines_said 1 0 (lines_of text)
 said-few text few = rw (le-ltb 67108864 (length text) few)
 
--- with nothing behind them, lines give their events
+-- the events of whole lines are those of a text that ends after them
 pub gives-alone : (front : List ℕ) (lines count : ℕ) (events : List TraceEvent) → GivesEvents front lines count events → length front ≤ 67108864 → trace_events front ≡ Ok events
 gives-alone front lines count events gives few =
     said-few front few ∙ ap (λ t. lines_said 1 0 (lines_of t)) (sym (append-nil front)) ∙ gives [] ∙ ap Ok (append-nil events)
 
--- nothing is left
+-- the text was read to its end
 pub gives-all : (text : List ℕ) (at lines count : ℕ) (events : List TraceEvent) → GivesEvents (take at text) lines count events → length text ≤ 67108864 → length text ≤ at → trace_events text ≡ Ok events
 gives-all text at lines count events gives few ended =
     gives-alone text lines count events (subst (λ t. GivesEvents t lines count events) (take_all at text ended) gives) few
 
--- the next line is at fault
+-- the next line has a fault
 pub gives-fault : (text rest : List ℕ) (at lines count : ℕ) (events : List TraceEvent) (kind : TraceFaultKind) → GivesEvents (take at text) lines count events → length text ≤ 67108864 → rest ≡ drop at text → FailsInLine rest count kind → trace_events text ≡ Err (fault_in (lines + 1) kind)
 gives-fault text rest at lines count events kind gives few from fails =
     said-few text few ∙ ap (λ t. lines_said 1 0 (lines_of t)) (sym (ap (λ r. take at text ++ r) from ∙ take-append-drop at text)) ∙ gives rest ∙ ap (prepend events) (fails (lines + 1))

@@ -1,4 +1,4 @@
--- A schedule with one change more has no fault, if there is a place for it.
+-- A schedule with one more change has no fault, if there is a place for the change.
 use Rattle.std.proofs.Common.{◌≡◌, ◌<◌, ◌&&◌, Bool, true, false, cond, eqb, eq-eqb, ℤ, List, [], ◌∷◌, ◌++◌, length, Some, None, refl, ◌∙◌, arith}
 use Rattle.std.specs.List.{list_all}
 use Rattle.std.specs.Int.RustNames.{int_lt}
@@ -31,7 +31,7 @@ Passes-from_none first later none =
     let parts = passes_if (has_few later) (has_one_shape first later) (has_times later) (is_rising later) none in
     record { shape = parts.0; times = parts.1; rising = parts.2 }
 
--- a test that all pass, those before a time pass
+-- if all changes pass a test, so do those that are kept
 kept_passes : (test : ℤ × List (List ℤ) → Bool) (b : Bool) (change : ℤ × List (List ℤ)) (kept : List (ℤ × List (List ℤ))) → test change ≡ true → list_all test kept ≡ true → list_all test (cond b (change ∷ kept) kept) ≡ true
 kept_passes test true change kept here more = rw (here, more)
 kept_passes test false change kept here more = more
@@ -45,7 +45,7 @@ before_passes test at (change ∷ later) all =
 push_passes : (test : ℤ × List (List ℤ) → Bool) (later : List (ℤ × List (List ℤ))) (change : ℤ × List (List ℤ)) → list_all test later ≡ true → test change ≡ true → list_all test (later ++ change ∷ []) ≡ true
 push_passes test later change all here = list_all-append test later (change ∷ []) ∙ rw (all, here)
 
--- times that rise from one on rise from an earlier one on
+-- times that rise from a time on rise from an earlier time on
 rises_earlier : (t u : ℤ) (later : List (ℤ × List (List ℤ))) → int_lt t u ≡ true → rises_from u later ≡ true → rises_from t later ≡ true
 rises_earlier t u [] low rises = refl
 rises_earlier t u (change ∷ later) low rises =
@@ -57,7 +57,7 @@ rising_from : (t : ℤ) (later : List (ℤ × List (List ℤ))) → rises_from t
 rising_from t [] rises = refl
 rising_from t (change ∷ later) rises = let (here, more) = and_parts (int_lt t change.0) (rises_from change.0 later) rises in more
 
--- the times before one, and then that one
+-- the times before that of a change, followed by that change, rise
 rises_step : (t : ℤ) (change last : ℤ × List (List ℤ)) (kept : List (ℤ × List (List ℤ))) → int_lt t change.0 ≡ true
     → (int_lt change.0 last.0 ≡ true → rises_from change.0 (kept ++ last ∷ []) ≡ true) → rises_from t (kept ++ last ∷ []) ≡ true
     → (b : Bool) → int_lt change.0 last.0 ≡ b → rises_from t (cond b (change ∷ kept) kept ++ last ∷ []) ≡ true

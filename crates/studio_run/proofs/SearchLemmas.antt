@@ -7,7 +7,7 @@ use Rattle.std.proofs.lemmas.Bool.Decides.{nat_tests}
 use Rattle.std.proofs.lemmas.List.Sums.{passes_at_first, fails_before_first}
 use Rattle.memchr.specs.Find.{IsFirstByte}
 
--- it is the first place that passes
+-- the place that a search of bytes returns is the first one that passes the test
 pub place_found : (test : ℕ → Bool) (text : List ℕ) (found : Option ℕ) → IsFirstByte test text found → found ≡ position test text
 place_found test text None nowhere = elim (cases_lt (position_or_len test text) (length text)) [
   | inl there ↦ absurd (nowhere (position_or_len test text) (omega arith) there (passes_at_first test text 0 there))

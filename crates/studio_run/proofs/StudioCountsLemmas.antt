@@ -16,7 +16,7 @@ use Rattle.studio_run.specs.Report.{merge_line, path_line}
 use Rattle.studio_run.specs.Listing.{paths_text, stream_counts_text}
 use Rattle.studio_run.proofs.BufferLemmas.{PassesOn-trans, BreaksOff-longer, BreaksOff-later}
 
--- the lines of one path more
+-- the lines after those of one more path
 one_more : (stream : Stream) (number : ℕ) (events : List TraceEvent) (n path : ℕ) (tally : PathTally) → path ≡ n → tally ≡ path_counts_of stream number n events
     → paths_text stream number events (n + 1) ≡ paths_text stream number events n ++ path_line number path tally
 one_more stream number events n path tally here is =
@@ -31,7 +31,7 @@ paths_more stream number events n path tally here is a b c h i j before line =
     subst (PassesOn a h c j) (sym (one_more stream number events n path tally here is))
     (PassesOn-trans a b c h i j (paths_text stream number events n) (path_line number path tally) before line)
 
--- the lines of the first paths begin those of all
+-- the lines of all paths begin with those of the first paths
 paths_rest : (stream : Stream) (number : ℕ) (events : List TraceEvent) (n m : ℕ) → n ≤ m
     → (rest : List ℕ) × (paths_text stream number events m ≡ paths_text stream number events n ++ rest)
 paths_rest stream number events n zero h = ([], ap (paths_text stream number events) (let e : 0 ≡ n = omega (arith, h) in e) ∙ sym (append-nil (paths_text stream number events n)))
@@ -52,7 +52,7 @@ paths_broken stream number events n path m tally here is within a b c h i before
     (BreaksOff-longer a c h (paths_text stream number events n ++ path_line number path tally) rest.0
     (BreaksOff-later a b c h i (paths_text stream number events n) (path_line number path tally) before line))
 
--- the lines of a stream under the names that it was written with
+-- the lines of a stream, written with values that equal its specification, number and paths
 named : (stream spec : Stream) (number called paths : ℕ) (open_at : ℤ) (events : List TraceEvent) (tally : Tally) → spec ≡ stream → called ≡ number → paths ≡ spec.paths
     → tally ≡ merge_tally_of stream number open_at events
     → paths_text spec called events spec.paths ++ merge_line called paths tally ≡ stream_counts_text open_at events stream number
@@ -85,7 +85,7 @@ stream_broken_early stream spec number called open_at events same call a c h lin
     subst (BreaksOff a h c) (named stream spec number called spec.paths open_at events (merge_tally_of stream number open_at events) same call refl refl)
     (BreaksOff-longer a c h (paths_text spec called events spec.paths) (merge_line called spec.paths (merge_tally_of stream number open_at events)) line)
 
--- the tallies of a cursor that took all events, by its own names
+-- the tallies of a cursor that took all events, for its own specification and number
 pub own_tallies : (stream : Stream) (number : ℕ) (open_at : ℤ) (events : List TraceEvent) (cursor : CursorState) → HasCounts stream number open_at events cursor
     → AreTallies cursor.spec cursor.number events cursor.tallies
 own_tallies stream number open_at events cursor counts =

@@ -25,7 +25,7 @@ marks_text-append number [] ys = refl
 marks_text-append number (x ∷ xs) ys =
     ap (λ l. mark_line number x.kind ++ l) (marks_text-append number xs ys) ∙ sym (append_assoc (mark_line number x.kind) (marks_text number xs) (marks_text number ys))
 
--- the lines of one mark more
+-- the lines after that of one more mark
 lines_more : (number k : ℕ) (marks : List MarkView) (mark : MarkView) → mark ∷ [] ≡ take 1 (drop k marks)
     → marks_text number (take (k + 1) marks) ≡ marks_text number (take k marks) ++ mark_line number mark.kind
 lines_more number k marks mark is =
@@ -33,7 +33,7 @@ lines_more number k marks mark is =
     ∙ marks_text-append number (take k marks) (mark ∷ [])
     ∙ ap (λ l. marks_text number (take k marks) ++ l) (append-nil (mark_line number mark.kind))
 
--- the lines of the first marks, and of the rest
+-- the lines of all marks are those of the first marks and of the rest
 lines_all : (number k : ℕ) (marks : List MarkView) → marks_text number marks ≡ marks_text number (take k marks) ++ marks_text number (drop k marks)
 lines_all number k marks = ap (marks_text number) (sym (take-append-drop k marks)) ∙ marks_text-append number (take k marks) (drop k marks)
 
@@ -66,7 +66,7 @@ listed_given stream number open_at events a b c h i j old new None named run l g
       wrote = subst (PassesOn a h c j) (append-nil marks) (PassesOn-trans a b c h i j marks [] l.wrote line);
     }
 
--- no further line was written
+-- writing broke off before a further line
 pub listed_fault : (stream : Stream) (number : ℕ) (open_at : ℤ) (events : List TraceEvent) (a b c : Option (List ℕ)) (h i : List ℕ) (old : CursorState)
     → HasListed stream number open_at events a h old b i → BreaksOff b i c [] → BreaksOff a h c (stream_listing open_at events stream number)
 listed_fault stream number open_at events a b c h i old l fault =
@@ -75,7 +75,7 @@ listed_fault stream number open_at events a b c h i old l fault =
     subst (BreaksOff a h c) (sym (lines_all number l.given marks))
     (BreaksOff-longer a c h first (marks_text number (drop l.given marks)) (subst (BreaksOff a h c) (append-nil first) (BreaksOff-later a b c h i first [] l.wrote fault)))
 
--- nothing is left
+-- the lines of all marks were written
 pub listed_all : (stream : Stream) (number : ℕ) (open_at : ℤ) (events : List TraceEvent) (a b : Option (List ℕ)) (h i : List ℕ) (cursor : CursorState) → length events ≤ cursor.place
     → HasListedAll stream number open_at events a h cursor b i → PassesOn a h b i (stream_listing open_at events stream number)
 listed_all stream number open_at events a b h i cursor all l =
@@ -83,7 +83,7 @@ listed_all stream number open_at events a b h i cursor all l =
     let none = subst (λ es. [] ≡ take 1 (drop l.listed.given (stream_marks stream number open_at es))) whole l.none in
     subst (λ t. PassesOn a h b i (marks_text number t)) (all_taken l.listed.given (stream_marks stream number open_at events) none) l.listed.wrote
 
--- the cursor went on
+-- the cursor took more events, and no mark was returned
 pub listed_next : (stream : Stream) (number : ℕ) (open_at : ℤ) (events : List TraceEvent) (a b : Option (List ℕ)) (h i : List ℕ) (old new : CursorState)
     → (l : HasListed stream number open_at events a h old b i) → HasPulled stream number open_at events new l.given → HasListed stream number open_at events a h new b i
 listed_next stream number open_at events a b h i old new l pulled = record { given = l.given; pulled = pulled; wrote = l.wrote }
@@ -107,7 +107,7 @@ texts_more text number (suc i) (s ∷ streams) stream at =
     ap (λ l. text s number ++ l) (texts_more text (suc number) i streams stream at ∙ ap (λ k. texts_from text (suc number) (take i streams) ++ text stream k) n)
     ∙ sym (append_assoc (text s number) (texts_from text (suc number) (take i streams)) (text stream (suc i + number)))
 
--- and of the rest
+-- the texts of the first streams, and of the rest
 pub texts_rest : (text : Stream → ℕ → List ℕ) (number i : ℕ) (streams : List Stream)
     → texts_from text number streams ≡ texts_from text number (take i streams) ++ texts_from text (i + number) (drop i streams)
 texts_rest text number zero streams = ap (λ n. texts_from text n streams) (let e : number ≡ 0 + number = omega arith in e)
@@ -123,7 +123,7 @@ one_more text streams i stream at =
     ap (λ n. texts_from text 0 (take n streams)) (let e : i + 1 ≡ suc i = omega arith in e)
     ∙ texts_more text 0 i streams stream at ∙ ap (λ n. texts_from text 0 (take i streams) ++ text stream n) (let e : i + 0 ≡ i = omega arith in e)
 
--- the text of one stream more was written
+-- the text of one more stream was written
 pub texts_after : (text : Stream → ℕ → List ℕ) (streams : List Stream) (i : ℕ) (stream : Stream) → slice_get streams i ≡ Some stream
     → (a b c : Option (List ℕ)) (h j k : List ℕ) → PassesOn a h b j (texts_from text 0 (take i streams)) → PassesOn b j c k (text stream i)
     → PassesOn a h c k (texts_from text 0 (take (i + 1) streams))
@@ -131,7 +131,7 @@ texts_after text streams i stream at a b c h j k before own =
     subst (PassesOn a h c k) (sym (one_more text streams i stream at))
     (PassesOn-trans a b c h j k (texts_from text 0 (take i streams)) (text stream i) before own)
 
--- or broke off
+-- writing broke off in the text of one more stream
 pub texts_broken : (text : Stream → ℕ → List ℕ) (streams : List Stream) (i : ℕ) (stream : Stream) → slice_get streams i ≡ Some stream
     → (a b c : Option (List ℕ)) (h j : List ℕ) → PassesOn a h b j (texts_from text 0 (take i streams)) → BreaksOff b j c (text stream i)
     → BreaksOff a h c (texts_from text 0 streams)
@@ -160,7 +160,7 @@ pub texts_all : (text : Stream → ℕ → List ℕ) (streams : List Stream) (n 
     → (a b : Option (List ℕ)) (h j : List ℕ) → PassesOn a h b j (texts_from text 0 (take n streams)) → PassesOn a h b j (texts_from text 0 streams)
 texts_all text streams n all a b h j wrote = subst (λ (l : List Stream). PassesOn a h b j (texts_from text 0 l)) (take_all n streams all) wrote
 
--- the cursors of the first streams have given some marks
+-- the cursors of the first streams have returned some marks
 pub record AreFirstPulled (studio : Studio) (events : List TraceEvent) (cursors : List CursorState) (n : ℕ) : Type 0 where
   pub each : (i : ℕ) (stream : Stream) (cursor : CursorState) → i < n → slice_get studio.streams i ≡ Some stream → slice_get cursors i ≡ Some cursor
       → HasPulledSome stream i studio.open_at events cursor

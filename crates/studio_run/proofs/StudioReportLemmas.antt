@@ -38,13 +38,13 @@ reporting_none studio events a h session played = record {
   wrote = PassesOn-none a h;
 }
 
--- the next block's datagram was given
+-- this is the datagram of the next block, which is ready
 pub record Gives (studio : Studio) (events : List TraceEvent) (new : SessionState) (n : ℕ) (datagram : List ℕ) : Type 0 where
   pub ready : is_ready studio.output (feeds_of studio events) n ≡ true
   pub is : datagram ≡ datagram_of studio (feeds_of studio events) n
   pub played : HasPlayed studio events new (n + 1)
 
--- one block more was written
+-- one more block was written
 pub reporting_more : (studio : Studio) (events : List TraceEvent) (a b c : Option (List ℕ)) (h i j : List ℕ) (old new : SessionState) (datagram : List ℕ)
     → (r : IsReporting studio events a h old b i) → Gives studio events new (length r.datagrams) datagram → PassesOn b i c j (datagram_line datagram)
     → IsReporting studio events a h new c j
@@ -54,7 +54,7 @@ reporting_more studio events a b c h i j old new datagram r gives line = record 
   wrote = subst (PassesOn a h c j) (sym (line_more r.datagrams datagram)) (PassesOn-trans a b c h i j (datagrams_text r.datagrams) (datagram_line datagram) r.wrote line);
 }
 
--- the same list as far as both go
+-- two lists with the same elements at each place agree as far as both go
 front_of : (f : ℕ → List ℕ) (xs ys : List (List ℕ)) → ((n : ℕ) (x : List ℕ) → slice_get xs n ≡ Some x → x ≡ f n) → ((n : ℕ) (y : List ℕ) → slice_get ys n ≡ Some y → y ≡ f n)
     → length xs ≤ length ys → xs ≡ take (length xs) ys
 front_of f xs ys each other short =
@@ -75,7 +75,7 @@ first_blocks studio events session some all given are =
       | inr fits ↦ fits
     ])
 
--- all blocks are the same lists
+-- the datagrams of all ready blocks are the same in two lists
 pub same_blocks : (studio : Studio) (events : List TraceEvent) (one other : List (List ℕ)) → AreDatagrams studio events one → AreDatagrams studio events other → one ≡ other
 same_blocks studio events one other a b =
     let long = no_longer one other (λ n. a.ready n ∙ sym (b.ready n)) in
@@ -91,7 +91,7 @@ same_blocks studio events one other a b =
       | inr fits ↦ fits
     ]
 
--- the line of one block more broke off
+-- writing broke off in the line of one more block
 pub reporting_broken : (studio : Studio) (events : List TraceEvent) (a b c : Option (List ℕ)) (h i : List ℕ) (old new : SessionState) (datagram : List ℕ) (all : List (List ℕ))
     → (r : IsReporting studio events a h old b i) → Gives studio events new (length r.datagrams) datagram → AreDatagrams studio events all → BreaksOff b i c (datagram_line datagram)
     → BreaksOff a h c (datagrams_text all)
@@ -106,7 +106,7 @@ reporting_broken studio events a b c h i old new datagram all r gives are line =
     (BreaksOff-longer a c h (datagrams_text r.datagrams ++ datagram_line datagram) (datagrams_text (drop (length some) all))
     (BreaksOff-later a b c h i (datagrams_text r.datagrams) (datagram_line datagram) r.wrote line))
 
--- no block is left
+-- the lines of all ready blocks were written
 pub reported_all : (studio : Studio) (events : List TraceEvent) (a b : Option (List ℕ)) (h i : List ℕ) (old new : SessionState) (r : IsReporting studio events a h old b i)
     → is_ready studio.output (feeds_of studio events) (length r.datagrams) ≡ false → HasPlayed studio events new (length r.datagrams) → HasReported studio events a h new b i
 reported_all studio events a b h i old new r last played = record {
@@ -116,7 +116,7 @@ reported_all studio events a b h i old new r last played = record {
   wrote = r.wrote;
 }
 
--- the counts follow
+-- the lines of the counts were written after those of the datagrams
 pub report_whole : (studio : Studio) (events : List TraceEvent) (a b c : Option (List ℕ)) (h i j : List ℕ) (session : SessionState) (r : HasReported studio events a h session b i)
     → PassesOn b i c j (counts_text_of studio events) → WritesReport studio events a h c j
 report_whole studio events a b c h i j session r counts = record {
@@ -125,7 +125,7 @@ report_whole studio events a b c h i j session r counts = record {
   wrote = PassesOn-trans a b c h i j (datagrams_text r.datagrams) (counts_text_of studio events) r.wrote counts;
 }
 
--- or break off
+-- writing broke off in the lines of the counts
 pub report_broken : (studio : Studio) (events : List TraceEvent) (a b c : Option (List ℕ)) (h i : List ℕ) (session : SessionState) (report : List ℕ) (r : HasReported studio events a h session b i)
     → IsReport studio events report → BreaksOff b i c (counts_text_of studio events) → BreaksOff a h c report
 report_broken studio events a b c h i session report r is counts =
@@ -133,18 +133,18 @@ report_broken studio events a b c h i session report r is counts =
     is.whole ∙ ap (λ l. datagrams_text l ++ counts_text_of studio events) (same_blocks studio events is.datagrams r.datagrams is.ready r.ready) in
     subst (BreaksOff a h c) (sym same) (BreaksOff-later a b c h i (datagrams_text r.datagrams) (counts_text_of studio events) r.wrote counts)
 
--- the datagrams broke off
+-- writing broke off in the lines of the datagrams
 pub report_broken_early : (studio : Studio) (events : List TraceEvent) (a c : Option (List ℕ)) (h : List ℕ) (report : List ℕ) (is : IsReport studio events report)
     → BreaksOff a h c (datagrams_text is.datagrams) → BreaksOff a h c report
 report_broken_early studio events a c h report is broke =
     subst (BreaksOff a h c) (sym is.whole) (BreaksOff-longer a c h (datagrams_text is.datagrams) (counts_text_of studio events) broke)
 
--- a report is the only one
+-- there is only one report of the same events
 pub report_alone : (studio : Studio) (events : List TraceEvent) (one other : List ℕ) → IsReport studio events one → IsReport studio events other → one ≡ other
 report_alone studio events one other a b =
     a.whole ∙ ap (λ l. datagrams_text l ++ counts_text_of studio events) (same_blocks studio events a.datagrams b.datagrams a.ready b.ready) ∙ sym b.whole
 
--- what was held of it at the end broke off
+-- writing broke off in the octets that the buffer held at the end
 pub report_unfinished : (studio : Studio) (events : List TraceEvent) (a b c : Option (List ℕ)) (h i : List ℕ) → h ≡ [] → (w : WritesReport studio events a h b i)
     → (report : List ℕ) → IsReport studio events report → (n : ℕ) × (n < length i) × Appends b c (take n i) → BreaksOff a [] c report
 report_unfinished studio events a b c h i empty w report is part =

@@ -1,4 +1,4 @@
--- Want of memory is no fault of a trace's text.
+-- An allocation failure is not a fault of a trace's text.
 use Rattle.std.proofs.Common.{ℕ, ◌+◌, List, [], ◌∷◌, Bool, true, false, nat_lt, length, Option, Some, None, Result, Ok, Err, if◌then◌else◌}
 use Rattle.std.specs.Prelude.{◌==◌, IfErr, codes}
 use Rattle.std.specs.Str.{bytes_eq}

@@ -19,7 +19,7 @@ moved : schedule_after planned (line (codes "# a comment") ++ line (codes "gain 
     ≡ Ok (record { first = column (pos 65536) (pos 65536); later = (pos 3, column (pos 65536) (pos 32768)) ∷ (pos 8, column (pos 131072) (pos 0)) ∷ [] })
 moved = refl
 
--- a change that was planned for before stays
+-- a change that was planned for an earlier time stays
 later : schedule_after planned (line (codes "gain 10 0 0 -5"))
     ≡ Ok (record { first = column (pos 65536) (pos 65536); later = (pos 9, column (pos 0) (pos 0)) ∷ (pos 10, column (negsuc 4) (pos 0)) ∷ [] })
 later = refl

@@ -1,4 +1,4 @@
--- The change of gains that a line says.
+-- The change of gains that a line specifies.
 use Rattle.std.specs.Prelude.{◌≡◌, ℕ, zero, suc, ◌+◌, ◌*◌, ◌^◌, ◌&&◌, not, nat_lt, nat_le, Bool, true, ℤ, pos, List, [], ◌∷◌, length, set, codes, Result, Ok, Err, if◌then◌else◌}
 use Rattle.std.specs.Int.RustNames.{int_lt, unsigned_abs}
 use Rattle.std.specs.Str.{bytes_eq}
@@ -13,7 +13,7 @@ use Rattle.studio_run.specs.declared.gains.fault.GainsFaultKind.TheVariants.{Wor
 abbrev pub is_time : ℤ → Bool
 is_time at = not (int_lt at (pos 0)) && not (int_lt (pos (2 ^ 60)) at)
 
--- the number of one of so many channels
+-- the number is that of one of `count` channels, from 0 on
 abbrev pub is_channel : ℕ → ℤ → Bool
 is_channel count number = not (int_lt number (pos 0)) && nat_lt (unsigned_abs number) count
 
@@ -21,13 +21,14 @@ is_channel count number = not (int_lt number (pos 0)) && nat_lt (unsigned_abs nu
 abbrev pub is_gain : ℤ → Bool
 is_gain gain = nat_le (unsigned_abs gain) 1048576
 
--- rows of gains, with another gain from this input to this output
+-- rows of gains, with the gain from this input to this output replaced
 abbrev pub with_gain : List (List ℤ) → ℕ → ℕ → ℤ → List (List ℤ)
 with_gain [] output input gain = []
 with_gain (row ∷ rows) zero input gain = set row input gain ∷ rows
 with_gain (row ∷ rows) (suc output) input gain = row ∷ with_gain rows output input gain
 
--- a change of one gain, which a time, an output, an input and the gain say; the others are as in force at that time
+-- a change of one gain, specified by a time, an output, an input and the gain; the other gains are those in force at
+-- that time
 abbrev pub one_gain : Changes → List ℤ → Result (ℤ × List (List ℤ)) GainsFaultKind
 one_gain schedule (at ∷ output ∷ input ∷ gain ∷ []) =
     if is_time at && is_channel (length schedule.first) output && is_channel (ins_of schedule.first) input && is_gain gain
@@ -35,7 +36,7 @@ one_gain schedule (at ∷ output ∷ input ∷ gain ∷ []) =
     else Err Range
 one_gain schedule _ = Err Fields
 
--- a change of all gains, which a time and the gains, row by row, say
+-- a change of all gains, specified by a time and the gains, row by row
 abbrev pub all_gains : Changes → List ℤ → Result (ℤ × List (List ℤ)) GainsFaultKind
 all_gains schedule [] = Err Fields
 all_gains schedule (at ∷ gains) =
@@ -45,13 +46,13 @@ abbrev pub then_said : (List ℤ → Result (ℤ × List (List ℤ)) GainsFaultK
 then_said said (Ok numbers) = said numbers
 then_said said (Err kind) = Err kind
 
--- a change at a time that a schedule may have, by a matrix of this schedule's shape
+-- a change at a time that a schedule may have, to a matrix of this schedule's shape
 pub record IsChange (schedule : Changes) (change : ℤ × List (List ℤ)) : Type 0 where
   pub time : is_time change.0 ≡ true
   pub outs : length change.1 ≡ length schedule.first
   pub ins : ins_of change.1 ≡ ins_of schedule.first
 
--- the change that the fields of a line say, whose first is its word
+-- the change that the fields of a line specify; the first field is the line's word
 abbrev pub fields_said : Changes → List (List ℕ) → Result (ℤ × List (List ℤ)) GainsFaultKind
 fields_said schedule [] = Err Word
 fields_said schedule (word ∷ fields) =

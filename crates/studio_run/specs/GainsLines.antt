@@ -10,7 +10,8 @@ use Rattle.studio_run.specs.declared.gains.fault.GainsFault.{GainsFault}
 use Rattle.studio_run.specs.declared.gains.fault.GainsFaultKind.{GainsFaultKind}
 use Rattle.studio_run.specs.declared.gains.fault.GainsFaultKind.TheVariants.{Cut, Order, TooMany}
 
--- a schedule and the time of the change before, and a further change, which replaces all that was planned from its time on
+-- the schedule, and the time of the last change, after a further change, which replaces all changes planned for its
+-- time or later
 abbrev pub changed : Changes × ℤ → ℤ × List (List ℤ) → Result (Changes × ℤ) GainsFaultKind
 changed state change =
     if int_lt change.0 state.1 then Err Order
@@ -21,7 +22,7 @@ abbrev pub then_changed : Changes × ℤ → Result (ℤ × List (List ℤ)) Gai
 then_changed state (Ok change) = changed state change
 then_changed state (Err kind) = Err kind
 
--- what a line leads to; an empty line or a comment changes nothing
+-- the state after a line; an empty line or a comment changes nothing
 abbrev pub line_said : Changes × ℤ → List ℕ → Result (Changes × ℤ) GainsFaultKind
 line_said state line = if is_silent line then Ok state else then_changed state (fields_said state.0 (fields_of line))
 
@@ -32,18 +33,18 @@ abbrev pub in_line : ℕ → Result (Changes × ℤ) GainsFaultKind → Result (
 in_line number (Ok state) = Ok state
 in_line number (Err kind) = Err (fault_in number kind)
 
--- what a line of this number leads to, unless a line before it is at fault
+-- the state after the line with this number, unless a line before it has a fault
 abbrev pub then_line : ℕ → Result (Changes × ℤ) GainsFault → List ℕ → Result (Changes × ℤ) GainsFault
 then_line number (Ok state) line = in_line number (line_said state line)
 then_line number (Err fault) line = Err fault
 
--- the text behind the last line feed has to be empty
+-- the text after the last line feed has to be empty
 abbrev pub then_end : ℕ → Result (Changes × ℤ) GainsFault → List ℕ → Result (Changes × ℤ) GainsFault
 then_end number (Ok state) [] = Ok state
 then_end number (Ok state) (octet ∷ octets) = Err (fault_in number Cut)
 then_end number (Err fault) rest = Err fault
 
--- what the lines from this number on lead to; no line feed follows the last
+-- the state after the lines from this number on; the last one has no line feed after it
 abbrev pub lines_said : ℕ → Result (Changes × ℤ) GainsFault → List (List ℕ) → Result (Changes × ℤ) GainsFault
 lines_said number said [] = said
 lines_said number said (last ∷ []) = then_end number said last

@@ -8,22 +8,22 @@ use Rattle.studio_run.specs.declared.trace.line.LineEvent.{LineEvent}
 use Rattle.studio_run.specs.declared.trace.line.LineEvent.TheVariants.{Arrive, Tick, Close}
 use Rattle.studio_run.specs.declared.trace.fault.TraceFaultKind.{TraceFaultKind}
 
--- the octets that digits spell, where they spell some
+-- the octets that digits spell, or none if they spell no octets
 abbrev pub octets_by : List ℕ → List ℕ
 octets_by digits = unwrap_or (octets_of digits) []
 
--- its event
+-- the event of a line, as contracts see it
 abbrev pub said_in : LineEvent → TraceEvent
 said_in (Arrive stream path digits) = Arrival stream path (octets_by digits.now)
 said_in (Tick time) = Reading time
 said_in Close = Closing
 
--- a result for the event of fields
+-- the event of a line's fields, as contracts see it, or their fault
 abbrev pub event_of : Result LineEvent TraceFaultKind → Result TraceEvent TraceFaultKind
 event_of (Ok event) = Ok (said_in event)
 event_of (Err kind) = Err kind
 
--- a result for the event of a line, which may have none
+-- the event of a line, if it has one, as contracts see it, or the line's fault
 abbrev pub line_event_of : Result (Option LineEvent) TraceFaultKind → Result (Option TraceEvent) TraceFaultKind
 line_event_of (Ok None) = Ok None
 line_event_of (Ok (Some event)) = Ok (Some (said_in event))
@@ -35,7 +35,7 @@ IsLast text (Arrive stream path digits) = EndsWith text digits.now × IsSome (oc
 IsLast text (Tick time) = Unit {0}
 IsLast text Close = Unit {0}
 
--- the same where this follows the line's word, if something does
+-- `IsLast` for the text that follows the line's word, if there is any
 abbrev pub IsLastIn : Option (Bor (List ℕ)) → LineEvent → Type 0
 IsLastIn (Some text) event = IsLast text.now event
 IsLastIn None (Arrive stream path digits) = ⊥
@@ -47,7 +47,7 @@ abbrev pub said_by_line : Option LineEvent → List TraceEvent
 said_by_line None = []
 said_by_line (Some event) = said_in event ∷ []
 
--- the event, if there is one, is that of a first line, which gives it after so many others and which this rest follows
+-- the text begins with a line, and `rest` follows it; the line has this event, after `count` others, or none
 pub record IsLineOf (text : List ℕ) (count : ℕ) (event : Option LineEvent) (rest : List ℕ) : Type 0 where
   pub line : List ℕ
   pub whole : text ≡ line ++ 10 ∷ rest

@@ -9,7 +9,7 @@ use Rattle.studio_session.specs.Report.{merge_tally_of}
 use Rattle.studio_run.specs.Text.{marks_text}
 use Rattle.studio_run.specs.Report.{datagram_line, path_line, merge_line}
 
--- a text of each stream, whose numbers count up from this one
+-- a text for each of these streams, which are numbered from `number` on
 abbrev pub texts_from : (Stream → ℕ → List ℕ) → ℕ → List Stream → List ℕ
 texts_from text number [] = []
 texts_from text number (stream ∷ streams) = text stream number ++ texts_from text (suc number) streams
@@ -22,7 +22,7 @@ stream_listing open_at events stream number = marks_text number (stream_marks st
 abbrev pub listing_text : Studio → List TraceEvent → List ℕ
 listing_text studio events = texts_from (stream_listing studio.open_at events) 0 studio.streams
 
--- the lines of what a stream's datagrams came to, on each of so many paths
+-- the lines of the counts of a stream's datagrams on each of its first paths
 abbrev pub paths_text : Stream → ℕ → List TraceEvent → ℕ → List ℕ
 paths_text stream number events zero = []
 paths_text stream number events (suc count) = paths_text stream number events count ++ path_line number count (path_counts_of stream number count events)
@@ -32,7 +32,7 @@ abbrev pub stream_counts_text : ℤ → List TraceEvent → Stream → ℕ → L
 stream_counts_text open_at events stream number =
     paths_text stream number events stream.paths ++ merge_line number stream.paths (merge_tally_of stream number open_at events)
 
--- those of all streams
+-- the lines of the counts of all streams
 abbrev pub counts_text_of : Studio → List TraceEvent → List ℕ
 counts_text_of studio events = texts_from (stream_counts_text studio.open_at events) 0 studio.streams
 

@@ -20,13 +20,13 @@ IsPlace text (Arrive stream path start end) = (start ≤ end) × (end ≤ length
 IsPlace text (Tick time) = Unit {0}
 IsPlace text Close = Unit {0}
 
--- the place of a line's event, where the line ends here
+-- the place of the event of a line that ends at `end`
 abbrev pub text_event : ℕ → LineEvent → TextEvent
 text_event end (LineArrive stream path digits) = Arrive stream path (end - length digits.now) end
 text_event end (LineTick time) = Tick time
 text_event end LineClose = Close
 
--- how many digits of a datagram the event has
+-- the number of digits of the event's datagram, 0 if it has none
 abbrev pub digits_in : LineEvent → ℕ
 digits_in (LineArrive stream path digits) = length digits.now
 digits_in (LineTick time) = 0

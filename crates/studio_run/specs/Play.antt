@@ -23,7 +23,7 @@ pub record WritesEvents (studio : Studio) (IsText : Studio → List TraceEvent �
   pub is : IsText studio events text
   pub wrote : Appends written written_then text
 
--- why it was not: an allocation failed before, or a write failed after a prefix
+-- why the text of these events was not written: an allocation failed before, or a write failed after a prefix
 abbrev pub FailsWriting : Studio → (Studio → List TraceEvent → List ℕ → Type 0) → List TraceEvent → Option (List ℕ) → Option (List ℕ) → PlayFault → Type 0
 FailsWriting studio IsText events written written_then Read = ⊥
 FailsWriting studio IsText events written written_then Memory = written_then ≡ written
@@ -31,7 +31,8 @@ FailsWriting studio IsText events written written_then (Trace fault) = ⊥
 FailsWriting studio IsText events written written_then (Run fault) = ⊥
 FailsWriting studio IsText events written written_then Write = (text : List ℕ) → IsText studio events text → BreaksOff written [] written_then text
 
--- a trace has no runnable events: it is at fault, one of its events is, or memory was refused for the events that it begins with
+-- a trace has no events that can be run: the trace has a fault, one of its events has, or an allocation failed for the
+-- events with which it begins
 abbrev pub StopsAt : Studio → List ℕ → PlayFault → Type 0
 StopsAt studio trace Read = ⊥
 StopsAt studio trace Memory = BeginsWithEvents trace
@@ -50,21 +51,21 @@ play_fault Hex fault = Trace fault
 play_fault TooMany fault = Trace fault
 play_fault NoMemory fault = Memory
 
--- the trace's events run, and their text was written
+-- the trace's events have no fault, and their text was written
 pub record WritesText (studio : Studio) (IsText : Studio → List TraceEvent → List ℕ → Type 0) (trace : List ℕ) (written written_then : Option (List ℕ)) : Type 0 where
   pub events : List TraceEvent
   pub said : trace_events trace ≡ Ok events
   pub runs : session_fault_of studio events ≡ None
   pub writes : WritesEvents studio IsText events written written_then
 
--- they run, and a prefix of their text was written
+-- the trace's events have no fault, and only a prefix of their text was written
 pub record BreaksOffText (studio : Studio) (IsText : Studio → List TraceEvent → List ℕ → Type 0) (trace : List ℕ) (written written_then : Option (List ℕ)) : Type 0 where
   pub events : List TraceEvent
   pub said : trace_events trace ≡ Ok events
   pub runs : session_fault_of studio events ≡ None
   pub part : (text : List ℕ) → IsText studio events text → BreaksOff written [] written_then text
 
--- why the text of a trace was not written: nothing was, but where a write failed
+-- why the text of a trace was not written; nothing at all was written unless a write failed
 abbrev pub FailsOn : Studio → (Studio → List TraceEvent → List ℕ → Type 0) → List ℕ → Option (List ℕ) → Option (List ℕ) → PlayFault → Type 0
 FailsOn studio IsText trace written written_then Read = ⊥
 FailsOn studio IsText trace written written_then Memory = written_then ≡ written
@@ -73,11 +74,11 @@ FailsOn studio IsText trace written written_then (Run fault) =
     ((events : List TraceEvent) × (trace_events trace ≡ Ok events) × (session_fault_of studio events ≡ Some fault)) × (written_then ≡ written)
 FailsOn studio IsText trace written written_then Write = BreaksOffText studio IsText trace written written_then
 
--- these octets were read of an input, which is then at its end; or they are more than a trace may have
+-- these octets were read from an input, which is then at its end; or they are more than a trace may have
 abbrev pub ReadsToEnd : Option (List ℕ) → Option (List ℕ) → List ℕ → Type 0
 ReadsToEnd left left_then trace = Consumes left left_then trace × (IsAtEnd left_then ⊎ (67108864 < length trace))
 
--- an input gives no trace: a read failed, memory was refused, or more octets came than a trace may have
+-- why an input is not a trace: a read failed, an allocation failed, or the octets that were read have a trace's fault
 abbrev pub StopsReading : Option (List ℕ) → Option (List ℕ) → PlayFault → Type 0
 StopsReading left left_then Read = Unit {0}
 StopsReading left left_then Memory = Unit {0}
@@ -92,7 +93,7 @@ pub record WritesTextOf (studio : Studio) (IsText : Studio → List TraceEvent �
   pub end : IsAtEnd left_then
   pub writes : WritesText studio IsText trace written written_then
 
--- why the text of an input was not written: nothing was, but where a write failed
+-- why the text of an input was not written; nothing at all was written unless a write failed
 abbrev pub FailsOf : Studio → (Studio → List TraceEvent → List ℕ → Type 0) → Option (List ℕ) → Option (List ℕ) → Option (List ℕ) → Option (List ℕ) → PlayFault → Type 0
 FailsOf studio IsText left left_then written written_then Read = written_then ≡ written
 FailsOf studio IsText left left_then written written_then Memory = written_then ≡ written

@@ -21,7 +21,7 @@ pair_text between word number = codes " " ++ word ++ between ++ decimal number
 abbrev pub count_text : List ℕ → ℕ → List ℕ
 count_text word number = pair_text (codes " ") word number
 
--- the line of what a path's datagrams came to
+-- the line of the counts of a path's datagrams
 abbrev pub path_line : ℕ → ℕ → PathTally → List ℕ
 path_line stream path counts =
     codes "path " ++ decimal stream ++ codes " " ++ path_letter path
@@ -33,7 +33,7 @@ path_line stream path counts =
     ++ count_text (codes "full") counts.full
     ++ 10 ∷ []
 
--- how many packets were taken from each path, from this one on
+-- the number of packets that were taken from each path, from this path on
 abbrev pub taken_text : List ℕ → ℕ → List ℕ → List ℕ
 taken_text between path [] = []
 taken_text between path (number ∷ more) = codes " from_" ++ path_letter path ++ between ++ decimal number ++ taken_text between (suc path) more
@@ -43,13 +43,13 @@ unfoldable pub fields_text : List ℕ → List CountField → Tally → List ℕ
 fields_text between [] counts = []
 fields_text between (field ∷ fields) counts = pair_text between (count_word field) (count_value field counts) ++ fields_text between fields counts
 
--- what a merge came to, whose stream has so many paths
+-- the counts of the merge of a stream that has `paths` paths
 abbrev pub tally_text : List ℕ → ℕ → Tally → List ℕ
 tally_text between paths counts =
     fields_text between COUNTS_BEFORE_PATHS counts
     ++ taken_text between 0 (take paths counts.taken_by)
     ++ fields_text between COUNTS_AFTER_PATHS counts
 
--- the line of a merge
+-- the line of a merge's counts
 abbrev pub merge_line : ℕ → ℕ → Tally → List ℕ
 merge_line stream paths counts = codes "merge " ++ decimal stream ++ tally_text (codes " ") paths counts ++ 10 ∷ []

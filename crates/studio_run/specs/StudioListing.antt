@@ -7,13 +7,14 @@ use Rattle.studio_session.specs.Play.{stream_marks}
 use Rattle.studio_run.specs.Buffer.{PassesOn}
 use Rattle.studio_run.specs.Text.{marks_text}
 
--- the marks that a stream gave are the first of all, and their lines follow what was held
+-- a stream's cursor returned the first marks of the stream, and their lines were written after the octets that the
+-- buffer held
 pub record HasListed (stream : Stream) (number : ℕ) (open_at : ℤ) (events : List TraceEvent) (written : Option (List ℕ)) (held : List ℕ) (cursor : CursorState) (written_then : Option (List ℕ)) (held_then : List ℕ) : Type 0 where
   pub given : ℕ
   pub pulled : HasPulled stream number open_at events cursor given
   pub wrote : PassesOn written held written_then held_then (marks_text number (take given (stream_marks stream number open_at events)))
 
--- and no mark is left of the events that were taken
+-- `HasListed`, and the cursor returned all marks of the events that it took
 pub record HasListedAll (stream : Stream) (number : ℕ) (open_at : ℤ) (events : List TraceEvent) (written : Option (List ℕ)) (held : List ℕ) (cursor : CursorState) (written_then : Option (List ℕ)) (held_then : List ℕ) : Type 0 where
   pub listed : HasListed stream number open_at events written held cursor written_then held_then
   pub none : [] ≡ take 1 (drop listed.given (stream_marks stream number open_at (take cursor.place events)))

@@ -48,7 +48,7 @@ fn octet_of(high: u8, low: u8) -> u8
     }
 }
 
-/// Decodes the octets that a field spells by two hexadecimal digits each to the front of `room`, and returns their
+/// Decodes the octets that a field spells by two hexadecimal digits each to the start of `room`, and returns their
 /// number.
 pub(crate) fn decode_octets(text: &[u8], room: &mut DatagramRoom) -> usize
     requires short { length text.now ≤ 4096 }

@@ -30,7 +30,7 @@ pub enum TraceFaultKind {
     /// A datagram is no hexadecimal text of one octet or more.
     #[error("hex")]
     Hex,
-    /// The line would give event 1,000,001; or, at line 0, the whole text has more than 67,108,864 octets.
+    /// The line has event 1,000,001; or, at line 0, the whole text has more than 67,108,864 octets.
     #[error("toomany")]
     TooMany,
     /// The allocation for an event failed. Always at line 0.

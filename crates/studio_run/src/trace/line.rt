@@ -49,7 +49,7 @@ pub(crate) fn split_line(text: &[u8]) -> Result<(&[u8], &[u8]), TraceFaultKind>
     }
 }
 
-/// Returns the event that a line gives, or `None` if it is empty or a comment.
+/// Returns the event of a line, or `None` if it is empty or a comment.
 pub(crate) fn read_event(line: &[u8]) -> Result<Option<LineEvent<'_>>, TraceFaultKind>
     ensures said { line_said line.now ≡ line_event_of result }
     ensures last { IfOk result (λ event. IfSome event (IsLast line.now)) }
@@ -102,7 +102,7 @@ fn digit_value(octet: u8) -> Option<u8>
     Some(octet - b'0')
 }
 
-/// Returns the event that any line gives, or `None` if it is empty or a comment.
+/// Returns the event of any line, or `None` if it is empty or a comment.
 fn read_any(line: &[u8]) -> Result<Option<LineEvent<'_>>, TraceFaultKind>
     ensures said { line_said line.now ≡ line_event_of result }
     ensures last { IfOk result (λ event. IfSome event (IsLast line.now)) }

@@ -17,7 +17,7 @@ pub(crate) struct TraceReader<'a> {
     at: usize,
     /// The number of the line before it.
     line: u32,
-    /// The number of events that the lines before it gave.
+    /// The number of events of the lines before it.
     events: usize,
     ghost within: { at ≤ length text.now },
     ghost few_lines: { line ≤ at },
@@ -70,7 +70,7 @@ impl<'a> TraceReader<'a> {
         Ok(None)
     }
 
-    /// Returns the event of the next line, if it gives one.
+    /// Returns the event of the next line, if it has one.
     fn next_line(&mut self) -> Result<Option<TextEvent>, TraceFault>
         requires { self.old.at < length self.old.text.now }
         ensures fault { IfErr result (λ e. (before : List TraceEvent) → HasRead self.old before

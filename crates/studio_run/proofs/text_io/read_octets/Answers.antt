@@ -2,7 +2,7 @@ use Rattle.std.proofs.Common.{◌≡◌, ℕ, List, take, ◌++◌, rules, Optio
 use Rattle.std.specs.Io.KnownBytes.{Consumes}
 use Rattle.studio_run.proofs.text_io.read_octets.Goals as goal
 
--- one run of octets after another
+-- two runs of octets, one after the other
 consumes_both : (a b c : Option (List ℕ)) (xs ys : List ℕ) → Consumes a b xs → Consumes b c ys → Consumes a c (xs ++ ys)
 consumes_both None b c xs ys p q = tt
 consumes_both (Some u) None c xs ys p q = absurd p

@@ -7,7 +7,7 @@ use Rattle.studio_run.specs.Buffer.{PassesOn}
 use Rattle.studio_run.specs.Listing.{stream_counts_text, texts_from}
 use Rattle.studio_run.proofs.outputs.report.write_counts.Given as goal
 
--- the lines of the streams so far were written, and the others are as they were
+-- the lines of the streams so far were written, and the other streams are as they were
 abbrev pub invariant-loop-number : goal.invariant-loop-number
 invariant-loop-number g l = record {
   ready : All (IsReadyFor (g.E.EventSource.events l.source)) l.cursors;
