@@ -1,4 +1,4 @@
--- One mark more of a stream.
+-- One more mark of a stream.
 use Rattle.std.proofs.Common.{◌≡◌, ℕ, zero, suc, ◌+◌, ◌≤◌, ◌<◌, inl, inr, Bool, true, false, not, List, [], ◌∷◌, ◌++◌, length, set, Some, slice_get, slice_set, if◌then◌else◌, refl, sym, ap, subst, ◌∙◌, arith, append_assoc, append-nil, length-append}
 use Rattle.std.proofs.lemmas.Option.{slice_get_read, slice_get_within, get_or_from_slice_get}
 use Rattle.std.proofs.lemmas.List.{set-get_or, length-set, get_or-set_same}
@@ -22,7 +22,7 @@ pub accepted_after-append : (format : PacketFormat) (before xs ys : List MarkVie
 accepted_after-append format before [] ys = refl
 accepted_after-append format before (x ∷ xs) ys = accepted_after-append format (accepted_with format before x) xs ys
 
--- a feed that gets nothing
+-- the feeds after one of them got no mark
 pub same_feeds : (feeds : List Feed) (i : ℕ) (feed : Feed) → slice_get feeds i ≡ Some feed → slice_set feeds i feed ≡ feeds
 same_feeds feeds i feed is = ap (λ f. set feeds i f) (sym (get_or_from_slice_get feeds i feed feed is)) ∙ set-get_or feeds i feed
 
@@ -101,7 +101,7 @@ pub at_most_one : (kept : Bool) (odd : ℕ) → odd ≡ (if not kept then 1 else
 at_most_one true odd e = omega (arith, e)
 at_most_one false odd e = omega (arith, e)
 
--- why no more are taken: 64 were, none is known, or none is wanted
+-- why no more marks are taken: 64 were, none is known, or the mixer wants none
 module _ (s t : TokenConsumer MarkView) (m w : MixerState) (stream taken strange : ℕ) (h : TakesMarks s t m w stream taken strange) (most : taken ≤ 64) (odd : strange ≤ taken) where
   pub stops_full : taken ≡ 64 → TakesWanted s t m w stream taken strange
   stops_full all = record { takes = h; most = most; some_strange = odd; stop = λ studio feeds number feed f is. inl all }

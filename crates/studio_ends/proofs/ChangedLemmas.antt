@@ -1,4 +1,4 @@
--- The mixer's end, once it took a change of gains.
+-- The mixer's end, after it took a change of gains.
 use Rattle.std.proofs.Common.{◌≡◌, ℕ, ◌+◌, ◌*◌, ◌<◌, ◌≤◌, ◌≤ℤ◌, ℤ, List, length, vec_items, sym, ap, subst, ◌∙◌, arith}
 use Rattle.std.proofs.Math.Nat.{mul-le-mul_right}
 use Rattle.std.proofs.lemmas.Int.{ints}
@@ -15,7 +15,7 @@ use Rattle.studio_ends.specs.Datagrams.{HasGiven}
 use Rattle.studio_ends.specs.MixEnds.{MixHasFeeds}
 use Rattle.studio_ends.specs.declared.mix_end.MixEnd.{MixEnd}
 
--- a block ends before the later ones begin
+-- a block ends at the start of the next one, or before later ones
 block_ends : (out : Output) (n count : ℕ) → n < count → block_start out (n + 1) ≤ℤ block_start out count
 block_ends out n count h = let p : (n + 1) * out.frames ≤ count * out.frames = mul-le-mul_right out.frames (omega (arith, h)) in omega (arith, ints, p)
 

@@ -1,4 +1,4 @@
--- The events that a reading of the clock adds to a stream's history.
+-- The event that a clock reading adds to a stream's history.
 use Rattle.std.proofs.Common.{◌≡◌, ℕ, suc, ◌+◌, ◌≤◌, List, [], ◌∷◌, ◌++◌, length, take, ℤ, sym, ap, subst, ◌∙◌, arith, append-nil, length-append}
 use Rattle.std.proofs.Math.Seq.{take-length}
 use Rattle.rtrb.specs.Ring.{sent, known_free}

@@ -17,7 +17,7 @@ use Rattle.studio_ends.specs.declared.stream_end.StreamEnd.{StreamEnd}
 use Rattle.path_merge.proofs.LawLemmas.{marks_stay}
 use Rattle.studio_ends.proofs.StreamLemmas.{packets_by-append}
 
--- what came in stays
+-- looking at the rings leaves what they delivered
 pub delivered-looked : (stream : Stream) (n : ℕ) (olds news : List (TokenConsumer Packet)) (es : List Event) → AllLookAt olds news → AllDelivered stream n olds es → AllDelivered stream n news es
 delivered-looked stream n [] [] es l h = h
 delivered-looked stream n (old ∷ olds) (new ∷ news) es l h = (h.0 ∙ ap (fitting stream) (sym l.0.received_is), delivered-looked stream (suc n) olds news es l.1 h.1)

@@ -1,4 +1,4 @@
--- The datagrams that were given stay those of the first blocks.
+-- The datagrams that were returned stay those of the first blocks.
 use Rattle.std.proofs.Common.{◌≡◌, ℕ, zero, suc, ◌+◌, ◌<◌, ◌≤◌, Bool, true, false, nat_lt, List, [], ◌∷◌, ◌++◌, length, map, take, drop, Option, Some, None, is_some, IfSome, slice_get, if◌then◌else◌, refl, sym, ap, subst, ◌∙◌, arith, append_assoc, append-nil}
 use Rattle.std.proofs.lemmas.Bool.Decides.{nat_tests}
 use Rattle.std.proofs.lemmas.List.{length_push}
@@ -32,7 +32,7 @@ use Rattle.studio_ends.specs.declared.mix_end.MixNote.{MixNote}
 use Rattle.studio_ends.specs.declared.mix_end.MixEnd.{MixEnd}
 use Rattle.studio_ends.proofs.AcceptedLemmas.{accepted_after-append}
 
--- what was accepted only grows
+-- the list of accepted marks only grows
 grown_by : (b : Bool) (before : List MarkView) (x : MarkView) (after : List MarkView → List MarkView)
     → ((l : List MarkView) → (more : List MarkView) × (after l ≡ l ++ more)) → (more : List MarkView) × (after (if b then before ++ x ∷ [] else before) ≡ before ++ more)
 grown_by true before x after rest = let r = rest (before ++ x ∷ []) in (x ∷ r.0, r.1 ∙ append_assoc before (x ∷ []) r.0)
@@ -110,7 +110,7 @@ given-turn studio s note t datagrams out new_out same room takes mixes h =
     (first_longer studio (accepted_feeds studio.streams s.sides.items) (accepted_feeds studio.streams t.sides.items) datagrams h.some_frames (feeds-longer studio.streams s.sides.items t.sides.items takes) h.first)
     mixes.ready mixes.datagram mixes.stands
 
--- where it gives none, all that are ready were given
+-- if a turn of the mixer's end returns no datagram, those of all blocks that are ready were returned
 pub given-all : (studio : Studio) (s : MixEnd) (note : MixNote) (t : MixEnd) (datagrams : List (List ℕ)) (out new_out : List ℕ)
     → length new_out ≡ length out → datagram_length s.mixer.packer.spec ≤ length out → AllTakeSome s.sides.items t.sides.items → MixesBlock studio s note t (length datagrams) out new_out
     → note.len ≡ None → HasGiven studio s datagrams → AreAllGiven studio t datagrams
@@ -119,7 +119,7 @@ given-all studio s note t datagrams out new_out same room takes mixes none h =
     (first_longer studio (accepted_feeds studio.streams s.sides.items) (accepted_feeds studio.streams t.sides.items) datagrams h.some_frames (feeds-longer studio.streams s.sides.items t.sides.items takes) h.first)
     (sym mixes.ready ∙ ap is_some none)
 
--- before the first turn
+-- a mixer's end before its first turn has returned no datagram
 pub given-fresh : (studio : Studio) (s : MixEnd) → 0 < studio.output.frames → MixHasFeeds studio s 0 → HasGiven studio s []
 given-fresh studio s some h = record {
   some_frames = some;
@@ -130,7 +130,7 @@ given-fresh studio s some h = record {
   };
 }
 
--- the same feeds, and the same mixer
+-- a mixer's end with the same feeds and the same mixer has returned the same datagrams
 pub given-same : (studio : Studio) (s t : MixEnd) (datagrams : List (List ℕ)) → t.mixer ≡ s.mixer → accepted_feeds studio.streams t.sides.items ≡ accepted_feeds studio.streams s.sides.items
     → HasGiven studio s datagrams → HasGiven studio t datagrams
 given-same studio s t datagrams mixer feeds h = record {
@@ -154,7 +154,7 @@ told_feeds (side ∷ sides) (feed ∷ feeds) h told =
     ap (λ l. record { stream = feed.stream; marks = l } ∷ accepted_feeds (map (λ (f : Feed). f.stream) feeds) sides) all
     ∙ ap (λ (l : List Feed). feed ∷ l) (told_feeds sides feeds h.1 told.1)
 
--- where all is received, all that the tokens tell was accepted
+-- if everything was received, all marks that the tokens report were accepted
 pub told-all : (studio : Studio) (sides : List (TokenConsumer MarkView)) (feeds : List Feed) → map (λ (feed : Feed). feed.stream) feeds ≡ studio.streams → AllDrained sides → AllTell sides feeds
     → accepted_feeds studio.streams sides ≡ feeds
 told-all studio sides feeds e h told = ap (λ ss. accepted_feeds ss sides) (sym e) ∙ told_feeds sides feeds h told

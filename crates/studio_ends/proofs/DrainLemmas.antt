@@ -1,4 +1,4 @@
--- The marks that a closed merge has left, one mark further.
+-- The marks that a closed merge has left, after one more mark.
 use Rattle.std.proofs.Common.{◌≡◌, ◌≤◌, ◌+◌, ℕ, zero, suc, List, [], ◌∷◌, ◌++◌, length, take, drop, ℤ, Option, refl, sym, ap, subst, ◌∙◌, arith, append_assoc, append-nil, length-append}
 use Rattle.std.specs.Option.{option_to_list}
 use Rattle.rtrb.specs.Ring.{sent, SameProducer}
@@ -13,7 +13,7 @@ use Rattle.path_merge.specs.Steps.{Drains}
 use Rattle.studio_ends.specs.StreamTurns.{DrainsMarks}
 use Rattle.studio_ends.proofs.TurnLemmas.{producers}
 
--- one mark more of some
+-- the first marks of a list, after one more
 one_more : (xs : List MarkView) (k : ℕ) (ys : List MarkView) → k ≤ length xs → ys ≡ take 1 (drop k xs) → take (k + length ys) xs ≡ take k xs ++ ys
 one_more xs zero ys le e = subst (λ l. take (0 + length l) xs ≡ l) (sym e) (first xs)
   where

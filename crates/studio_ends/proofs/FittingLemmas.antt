@@ -1,4 +1,4 @@
--- Packets that have a stream's length, one more.
+-- Packets that have a stream's length, after one more.
 use Rattle.std.proofs.Common.{◌≡◌, Bool, true, false, nat_eq, List, [], ◌∷◌, ◌++◌, length, if◌then◌else◌, refl, sym, ap, ◌∙◌, arith}
 use Rattle.std.proofs.lemmas.Bool.Decides.{nat_tests}
 use Rattle.rtp_stream.specs.declared.stream_spec.Stream.{Stream}
@@ -26,7 +26,7 @@ fitting-none stream packet not_fits =
     let t : nat_eq (length packet.payload.items) (payload_length (format_of stream)) ≡ false = grind (arith, nat_tests, not_fits) in
     ap (λ b. if b then packet ∷ [] else []) t
 
--- where all have it, and one more
+-- packets that all have the stream's length, and one more that has it
 pub fitting-more : (stream : Stream) (xs ys : List Packet) (packet : Packet) → ys ≡ xs ++ packet ∷ [] → fitting stream xs ≡ xs → Fits stream packet → fitting stream ys ≡ ys
 fitting-more stream xs ys packet is all fits =
     ap (fitting stream) is ∙ (fitting-append stream xs (packet ∷ []) ∙ (ap (λ l. l ++ fitting stream (packet ∷ [])) all ∙ (ap (λ l. xs ++ l) (fitting-one stream packet fits) ∙ sym is)))

@@ -1,4 +1,4 @@
--- The format of the mark that a merge gives next.
+-- The format of the mark that a merge returns next.
 use Rattle.std.proofs.Common.{◌≡◌, ◌∙◌, Bool, true, false, ℤ, Option, Some, None, if◌then◌else◌, refl, sym, ap}
 use Rattle.rtp_stream.specs.MarkFacts.{MarkView}
 use Rattle.rtp_stream.specs.Marks.{quiet_mark}
@@ -11,7 +11,7 @@ use Rattle.path_merge.specs.NextMark.{anchor_due, anchor_after_close, slot_or_en
 use Rattle.path_merge.specs.declared.goal.Goal.{Goal}
 use Rattle.path_merge.specs.declared.goal.Goal.TheVariants.{End, Reading}
 
--- a mark's format, or another
+-- the format of a mark, or this one if there is no mark
 abbrev format_or : PacketFormat → Option MarkView → PacketFormat
 format_or format None = format
 format_or format (Some mark) = mark.format
@@ -37,6 +37,6 @@ next_or : (m : MergeState) (goal : Goal) → format_or (format_of m.spec) (next_
 next_or m (Reading now) = at_reading m now (anchor_due m now)
 next_or m End = left (format_of m.spec) m.closed m.ended (slot_or_end m (anchor_after_close m)) (at_end m (anchor_after_close m))
 
--- it is that of the stream
+-- the format of a merge's next mark is that of its stream
 pub next_format : (m : MergeState) (goal : Goal) (mark : MarkView) → next_to m goal ≡ Some mark → mark.format ≡ format_of m.spec
 next_format m goal mark is = sym (ap (format_or (format_of m.spec)) is) ∙ next_or m goal

@@ -1,4 +1,4 @@
--- One ring more was looked at.
+-- One more ring was looked at.
 use Rattle.std.proofs.Common.{◌≡◌, ℕ, zero, suc, ◌+◌, ◌≤◌, ◌<◌, ◌↔◌, Bool, true, false, not, ◌||◌, IsTrue, List, [], ◌∷◌, ◌++◌, length, take, drop, get_or, set, refl, sym, ap, subst, ◌∙◌, arith}
 use Rattle.std.proofs.lemmas.Bool.{false≢true}
 use Rattle.std.proofs.lemmas.List.{take_more, take_more_set, length-set, drop-set-lt, drop-drop, get_or-drop}
@@ -37,7 +37,7 @@ module _ {T : Type 0} where
   are_open-rest [] cs (s ∷ ss) len h f = absurd h
   are_open-rest (b ∷ bs) cs [] len h f = absurd (omega (arith, len))
 
-  -- none is open exactly where all are drained
+  -- no ring is open exactly if all are drained
   pub none_open : (bs : List Bool) (ss : List (TokenConsumer T)) → AreOpen bs ss → AllFalse bs ↔ AllDrained ss
   none_open [] [] h = (λ _. tt, λ _. tt)
   none_open [] (s ∷ ss) h = absurd h
@@ -99,7 +99,7 @@ module _ {T : Type 0} where
       f : take (n + 1) (set items n new) ≡ take n items ++ new ∷ []
       f = take_more_set items n new (let r = h.count in omega (arith, lt, r))
 
-  -- the whole
+  -- all rings were looked at
   pub looked_to-all : (olds items : List (TokenConsumer T)) (before open_yet : List Bool) (any : Bool) (n : ℕ) → n ≡ length olds → n ≤ length before → AllFalse before → LooksUpTo olds items before open_yet any n
       → AllLookAt olds items × AreOpen open_yet items × ((any ≡ false) ↔ AllDrained items)
   looked_to-all olds items before open_yet any n is room clear h =

@@ -12,7 +12,7 @@ use Rattle.studio_ends.specs.MixEnds.{MixHasFeeds, MixesBlock, given}
 use Rattle.studio_ends.specs.declared.mix_end.MixNote.{MixNote}
 use Rattle.studio_ends.specs.declared.mix_end.MixEnd.{MixEnd}
 
--- what the next block leaves, given or not
+-- the feeds of the mixer after its next block was returned, or was not ready
 after_block : (studio : Studio) (t : MixEnd) (number : ℕ) (len : Option ℕ) (out new_out : List ℕ) (w : MixerState)
     → HasFeeds studio w (accepted_feeds studio.streams t.sides.items) number
     → (len ≡ None → t.mixer ≡ w)

@@ -1,4 +1,4 @@
--- The marks of all streams, one stream more.
+-- The marks of all streams, after one more stream.
 use Rattle.std.proofs.Common.{◌≡◌, ℕ, zero, suc, ◌+◌, ◌≤◌, ◌<◌, List, [], ◌∷◌, ◌++◌, length, take, drop, get_or, set, ℤ, Some, slice_get, slice_set, refl, sym, ap, subst, ◌∙◌, arith, length-append}
 use Rattle.std.proofs.Math.Seq.{take-length}
 use Rattle.std.proofs.lemmas.List.{drop-drop, drop-set-lt, get_or-drop, length-set, take_more, take_more_set}
@@ -29,7 +29,7 @@ same_there xs ys n d e =
     let z : n + 0 ≡ n = omega arith in
     ap (λ k. get_or xs k d) (sym z) ∙ (sym (get_or-drop n xs 0 d) ∙ (ap (λ l. get_or l 0 d) e ∙ (get_or-drop n ys 0 d ∙ ap (λ k. get_or ys k d) z)))
 
--- the feed of a ring, and what more marks of it make of all feeds
+-- the feed of a ring, and the feeds of all rings after more marks of this one
 record FeedAt (streams : List Stream) (items : List (TokenConsumer MarkView)) (n : ℕ) (old : TokenConsumer MarkView) : Type 0 where
   stream : Stream
   stream_is : stream ≡ get_or streams n stream
@@ -55,7 +55,7 @@ feed_at (st ∷ sts) (i ∷ is) (suc n) old lt same =
       more = λ new marks got. ap (λ (l : List Feed). record { stream = st; marks = accepted_marks (format_of st) (received i.ring) } ∷ l) (rest.more new marks got);
     }
 
--- one stream more stops
+-- the marks of one more stream were taken
 stops-more : (streams : List Stream) (end : ℤ) (olds items : List (TokenConsumer MarkView)) (n taken : ℕ) (stream : Stream) (old new : TokenConsumer MarkView)
     → stream ≡ get_or streams n stream → old ≡ get_or olds n old → length (received new.ring) ≡ length (received old.ring) + taken
     → StopsTaking taken new stream (accepted_marks (format_of stream) (received new.ring)) end
@@ -80,7 +80,7 @@ stops-all (s ∷ ss) end (o ∷ os) [] n le h = tt
 stops-all (s ∷ ss) end (o ∷ os) (i ∷ its) zero le h = absurd (omega (arith, le))
 stops-all (s ∷ ss) end (o ∷ os) (i ∷ its) (suc n) le h = (h.0, stops-all ss end os its n (omega (arith, le)) h.1)
 
--- the loop over the streams
+-- the marks of the first `n` streams were taken
 pub record TakesThrough (olds items : List (TokenConsumer MarkView)) (m w : MixerState) (n taken strange : ℕ) : Type 0 where
   pub count : length items ≡ length olds
   pub later : drop n items ≡ drop n olds

@@ -1,4 +1,4 @@
--- Fresh ends, one more.
+-- Fresh ends, after one more was opened.
 use Rattle.std.proofs.Common.{◌≡◌, ℕ, suc, ◌+◌, ◌<◌, List, [], ◌∷◌, ◌++◌, length, take, get_or, ℤ, refl, sym, ap, subst, ◌∙◌, append_assoc, append-nil}
 use Rattle.std.proofs.Math.Seq.{take-length}
 use Rattle.std.proofs.lemmas.List.{length-map, take_more}
@@ -48,7 +48,7 @@ fresh_rings-snoc places [] (m ∷ ms) sides end monitor side h f = absurd h
 fresh_rings-snoc places (e ∷ es) [] sides end monitor side h f = absurd h
 fresh_rings-snoc places (e ∷ es) (m ∷ ms) [] end monitor side h f = absurd h
 
--- a stream with the empty history
+-- the rings of a fresh stream have delivered nothing
 delivered-fresh : (stream : Stream) (places path : ℕ) (own : List PathEnd) (sides : List (TokenConsumer Packet)) → AllFreshPaths stream places own sides → AllDelivered stream path sides []
 delivered-fresh stream places path [] [] h = λ other le. refl
 delivered-fresh stream places path (p ∷ ps) (s ∷ ss) h = (sym (ap (fitting stream) h.0.none_received), delivered-fresh stream places (suc path) ps ss h.1)
@@ -76,7 +76,7 @@ ends-more open_at places streams n stream old new lt is h adds =
 pub ends-all : (open_at : ℤ) (places : ℕ) (streams : List Stream) (n : ℕ) (ends : StreamEnds) → n ≡ length streams → AreFreshEnds open_at places (take n streams) ends → AreFreshEnds open_at places streams ends
 ends-all open_at places streams n ends is h = subst (λ l. AreFreshEnds open_at places l ends) (ap (λ k. take k streams) is ∙ take-length streams) h
 
--- of fresh rings nothing was received
+-- nothing was received from fresh rings
 pub unread : (open_at : ℤ) (places : ℕ) (streams : List Stream) (paths : List PathEnd) (ends : List StreamEnd) (monitors : List MonitorEnd) (sides : List (TokenConsumer MarkView))
     → AllFreshStreams open_at places streams paths ends → AllFreshRings places ends monitors sides → AllUnread streams sides
 unread open_at places [] paths [] [] [] h r = tt
@@ -105,7 +105,7 @@ unread_count (s ∷ ss) [] h = absurd h
 pub feeds-unread : (studio : Studio) (sides : List (TokenConsumer MarkView)) (mixer : MixerState) → AllUnread studio.streams sides → HasFeeds studio mixer (unfed studio.streams) 0 → HasFeeds studio mixer (accepted_feeds studio.streams sides) 0
 feeds-unread studio sides mixer none h = subst (λ feeds. HasFeeds studio mixer feeds 0) (sym (unread_feeds studio.streams sides none)) h
 
--- a lane for each ring
+-- the mixer has a lane for each ring
 pub lanes_count : (studio : Studio) (sides : List (TokenConsumer MarkView)) (mixer : MixerState) → AllUnread studio.streams sides → HasFeeds studio mixer (unfed studio.streams) 0 → length sides ≡ length mixer.lanes
 lanes_count studio sides mixer none h = unread_count studio.streams sides none ∙ sym (h.lanes.count ∙ length-map studio.streams (λ stream. record { stream = stream; marks = [] }))
 

@@ -11,11 +11,11 @@ use Rattle.rtp_stream.specs.declared.mark.MarkKind.TheVariants.{Slot, Quiet, End
 use Rattle.studio_ends.specs.MarkCells.{IsWithin}
 use Rattle.studio_ends.specs.PayloadCells.{IsRoom, taken_length}
 
--- the room's length is that of what is in it
+-- the length that is stored with a cell is that of its payload
 pub length_is : (size len : ℕ) (before value : List ℕ) → IsRoom size len before → take len before ≡ value → len ≡ length value
 length_is size len before value h is = sym (taken_length size len before h) ∙ ap length is
 
--- as many as were there leave what lies behind them
+-- writing as many octets as the payload has leaves the zeros after them
 pub written : (size len k : ℕ) (before front : List ℕ) → IsRoom size len before → len ≡ k → length front ≡ k → IsRoom size len (front ++ drop k before)
 written size len k before front h same e =
     let all = h.size_is in
@@ -26,11 +26,11 @@ written size len k before front h same e =
       blank = drop-append-drop k before front len (omega (arith, same)) e ∙ h.blank;
     }
 
--- and are what is in it then
+-- the octets that were written are then the payload
 pub written_is : (len k : ℕ) (before front : List ℕ) → len ≡ k → length front ≡ k → take len (front ++ drop k before) ≡ front
 written_is len k before front same e = ap (λ n. take n (front ++ drop k before)) (same ∙ sym e) ∙ take-append_seam front (drop k before)
 
--- where the format's payloads have room, each mark has
+-- if payloads of a format fit, each mark of the format fits
 pub mark_within : (size : ℕ) (format : PacketFormat) (kind : MarkKind) → IsMark format kind → payload_length format ≤ size → IsWithin size kind
 mark_within size format (Slot epoch number media (Got payload)) sound room = rw sound.3 room
 mark_within size format (Slot epoch number media Lost) sound room = omega arith

@@ -1,4 +1,4 @@
--- The ends of rings, with their rooms.
+-- The ends of rings, with the sizes of their cells.
 use Rattle.std.proofs.Common.{arith, ◌≡◌, ℕ, ◌≤◌, refl, sym, ap, subst}
 use Rattle.std.specs.declared.alloc.Global.{Global}
 use Rattle.rtrb.specs.Ring.{SameProducer}
@@ -13,7 +13,7 @@ use Rattle.studio_ends.specs.MarksIn.{TakesWanted}
 use Rattle.studio_ends.specs.RoomRings.{AreRoomy, HasRoomFor, done_with, named, side_with}
 use Rattle.studio_ends.specs.declared.rings.TokenConsumer.{TokenConsumer}
 
--- what fits each of the three rooms
+-- the lengths that fit each of the three sizes of cells
 pub fits_short : (len : ℕ) (names : Names) → AreRoomy len (named 0 names) → len ≤ 64
 fits_short len names h = h.short names.1.0 (omega arith)
 
@@ -23,16 +23,16 @@ fits_middle len names h = h.middle names.1.0 refl
 pub fits_long : (len : ℕ) (names : Names) → AreRoomy len (named 2 names) → len ≤ 1440
 fits_long len names h = h.long
 
--- the same ring has the same rooms
+-- the same ring has cells of the same size
 pub roomy_kept : {T : Type 0} (len : ℕ) (a b : Producer T Global AnyItems) → SameProducer a b → HasRoomFor len a → HasRoomFor len b
 roomy_kept len a b same h = subst (AreRoomy len) (sym same.0.2) h
 
--- and a merge of the same stream needs no others
+-- a merge of the same stream needs cells of the same size
 pub roomy_on : (m w : MergeState) (a b : Producer MarkView Global AnyItems) → w.spec ≡ m.spec → SameProducer a b
     → HasRoomFor (payload_length (format_of m.spec)) a → HasRoomFor (payload_length (format_of w.spec)) b
 roomy_on m w a b spec same h = roomy_kept (payload_length (format_of w.spec)) a b same (rw spec h)
 
--- what was taken of a side, whatever its rooms
+-- what was taken from a ring, whatever the size of its cells
 pub wanted_with : (room : ℕ) (old new : TokenConsumer MarkView) (m w : MixerState) (stream taken strange : ℕ)
     → TakesWanted old new m w stream taken strange → TakesWanted (side_with room old) (side_with room new) m w stream taken strange
 wanted_with room old new m w stream taken strange h =
@@ -54,7 +54,7 @@ wanted_with room old new m w stream taken strange h =
       stop = h.stop;
     }
 
--- as it is seen
+-- what was taken from a ring, as contracts see the ring
 pub wanted_seen : (room : ℕ) (from to old new : TokenConsumer MarkView) (m w v : MixerState) (stream : ℕ) (p q : ℕ × ℕ)
     → old ≡ side_with room from → new ≡ side_with room to → v ≡ w → q ≡ p
     → TakesWanted from to m w stream p.0 p.1 → TakesWanted old new m v stream q.0 q.1

@@ -42,7 +42,7 @@ other_path p path (x ∷ xs) ne =
     let t : nat_eq p path ≡ false = grind (arith, nat_tests, ne) in
     ap (λ b. if b then x ∷ packets_by path (arrivals_by p xs) else packets_by path (arrivals_by p xs)) t ∙ other_path p path xs ne
 
--- these events bring the packets that were taken, path by path
+-- the arrivals among these events are the packets that were taken, path by path
 abbrev Says : Stream → ℕ → List Event → List (List Packet) → Type 0
 Says stream path more [] = (other : ℕ) → path ≤ other → packets_by other more ≡ []
 Says stream path more (xs ∷ taken) = (packets_by path more ≡ fitting stream xs) × Says stream (suc path) more taken
@@ -134,7 +134,7 @@ turned s t now note w taken marks took from joined pushed count few reached stop
       };
 }
 
--- a word that was written and read
+-- marks that were pushed on the way to a time, for an equal time
 pub at_now : {A P : Type 0} (c d : Rattle.rtrb.specs.declared.producer.Producer.Producer Rattle.rtp_stream.specs.MarkFacts.MarkView A P) (m w : MergeState) (now at : ℤ) (count : ℕ) → now ≡ at → PushesMarks c m now d w count → PushesMarks c m at d w count
 at_now c d m w now at count e h = subst (λ t. PushesMarks c m t d w count) e h
 

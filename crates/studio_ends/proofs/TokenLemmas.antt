@@ -1,4 +1,4 @@
--- Tokens that were handed in change nothing of what came.
+-- Passing tokens to the ends of rings does not change what these received.
 use Rattle.std.proofs.Common.{◌≡◌, ℕ, zero, suc, ◌<◌, List, [], ◌∷◌, length, get_or, set, ℤ, refl, sym, ap, subst, ◌∙◌, arith}
 use Rattle.rtrb.specs.Ring.{received}
 use Rattle.rtp_stream.specs.declared.stream_spec.Stream.{Stream}

@@ -1,4 +1,4 @@
--- The parts of a turn, one step longer.
+-- The parts of a turn, after one more step.
 use Rattle.std.proofs.Common.{◌≡◌, ◌≢◌, ℕ, zero, suc, take, drop, get_or, set, inl, inr, ◌+◌, ◌≤◌, ◌<◌, List, [], ◌∷◌, ◌++◌, length, ℤ, refl, sym, ap, subst, ◌∙◌, arith, append_assoc, append-nil, length-append}
 use Rattle.std.proofs.lemmas.Bool.{cases_eq}
 use Rattle.std.proofs.lemmas.List.{take_more, take_more_set, length-set, drop-set-lt, drop-drop, get_or-drop, get_or-set_same, get_or-set_other}
@@ -25,7 +25,7 @@ pub arrivals_by-append : (path : ℕ) (xs ys : List Packet) → arrivals_by path
 arrivals_by-append path [] ys = refl
 arrivals_by-append path (x ∷ xs) ys = ap (λ l. Arrive path x ∷ l) (arrivals_by-append path xs ys)
 
--- nothing, and one after the other
+-- a merge that took no events, and one that took some and then more
 pub joined-none : (m : MergeState) → Joins m m (λ stream. [])
 joined-none m = record {
   spec = refl;
@@ -48,7 +48,7 @@ joined-trans m w v f g h both a b = record {
       ∙ (b.kept stream open_at (events ++ f stream) k (a.stands stream open_at events k s) ∙ a.kept stream open_at events k s);
 }
 
--- one packet that fits, and one that doesn't
+-- a merge that was offered a packet of the stream's length, and one that was not because of its length
 pub joined-offer : (m w : MergeState) (path : ℕ) (packet : Packet) (answer : Fate) → Fits m.spec packet
     → ((stream : Stream) (open_at : ℤ) (events : List Event) (k : ℕ) → HasHistory stream open_at m events k → Offers stream open_at w events k path packet answer)
     → w.spec ≡ m.spec → w.time ≡ m.time → w.closed ≡ m.closed
@@ -90,7 +90,7 @@ pub looked_and_passed : {T A P : Type 0} (c d e : Consumer T A P) (x : T) → Co
 looked_and_passed c d e x look same pass =
     (consumers c d e look.0 same, pass.0 ∙ ap (λ l. l ++ x ∷ []) look.1, subst (IsPrefix (known_items c)) pass.1 look.2)
 
--- one packet more of a ring
+-- one more packet was taken from a ring
 pub prefix_short : {X : Type 0} (xs ys : List X) → IsPrefix xs ys → length xs ≤ length ys
 prefix_short xs ys (more, is) = let e = ap length is in omega (arith, e, length-append xs more)
 
@@ -112,7 +112,7 @@ pub joined-more : (m w v : MergeState) (path : ℕ) (xs : List Packet) (x : Pack
 joined-more m w v path xs x a b = joined-trans m w v (λ stream. arrivals_by path (fitting stream xs)) (λ stream. arrivals_by path (fitting stream (x ∷ []))) (λ stream. arrivals_by path (fitting stream (xs ++ x ∷ [])))
     (λ stream. ap (arrivals_by path) (fitting-append stream xs (x ∷ [])) ∙ arrivals_by-append path (fitting stream xs) (fitting stream (x ∷ []))) a b
 
--- one path more
+-- the arrivals of one more path
 pub arrivals_from-snoc : (stream : Stream) (path : ℕ) (taken : List (List Packet)) (xs : List Packet)
     → arrivals_from stream path (taken ++ xs ∷ []) ≡ arrivals_from stream path taken ++ arrivals_by (path + length taken) (fitting stream xs)
 arrivals_from-snoc stream path [] xs =
@@ -155,7 +155,7 @@ all_took-more initial items n old new taken xs lt len same is all one =
 pub later_same : (initial items : List (TokenConsumer Packet)) (n : ℕ) (new : TokenConsumer Packet) → drop n items ≡ drop n initial → drop (n + 1) (set items n new) ≡ drop (n + 1) initial
 later_same initial items n new same = drop-set-lt (n + 1) items n new (omega arith) ∙ (sym (drop-drop 1 n items) ∙ (ap (drop 1) same ∙ drop-drop 1 n initial))
 
--- how many were taken of each path
+-- the numbers of packets that were taken from each path
 at_snoc : (taken : List (List Packet)) (xs : List Packet) → get_or (taken ++ xs ∷ []) (length taken) [] ≡ xs
 at_snoc [] xs = refl
 at_snoc (ys ∷ taken) xs = at_snoc taken xs
@@ -173,7 +173,7 @@ counts_more from taken xs n count four lt len same all i = elim (cases_eq i n) [
   | inr ne ↦ get_or-set_other from n i count 0 ne ∙ (all i ∙ ap length (sym (off_snoc taken xs i (λ e. ne (e ∙ len)))))
 ]
 
--- the loop over the paths
+-- the packets of the first `n` paths were taken
 pub record TakesUpTo (olds items : List (TokenConsumer Packet)) (from : List ℕ) (m w : MergeState) (n : ℕ) : Type 0 where
   pub count : length items ≡ length olds
   pub four : length from ≡ 4
@@ -187,7 +187,7 @@ pub record TakesUpTo (olds items : List (TokenConsumer Packet)) (from : List ℕ
 pub took_to-none : (olds : List (TokenConsumer Packet)) (from : List ℕ) (m : MergeState) → length from ≡ 4 → ((i : ℕ) → get_or from i 0 ≡ 0) → TakesUpTo olds olds from m m 0
 took_to-none olds from m four zeros = record { count = refl; four = four; later = refl; taken = []; taken_of = refl; all = tt; counts = zeros; joined = joined-none m }
 
--- what one path gave
+-- the packets of one path were taken
 pub record TakesPath (old new : TokenConsumer Packet) (m w : MergeState) (path count : ℕ) : Type 0 where
   pub packets : List Packet
   pub of : TakesPackets old new packets

@@ -1,4 +1,4 @@
--- The accepted ones of the marks that each stream's ring delivered.
+-- The marks that were accepted of those that each stream's ring delivered.
 use Rattle.std.specs.Prelude.{ℕ, List, [], ◌∷◌, length, sum_by}
 use Rattle.rtp_stream.specs.declared.stream_spec.Stream.{Stream}
 use Rattle.rtp_stream.specs.StreamSpecFacts.{format_of}
@@ -14,10 +14,10 @@ accepted_feeds [] sides = []
 accepted_feeds (stream ∷ streams) [] = []
 accepted_feeds (stream ∷ streams) (side ∷ sides) = record { stream = stream; marks = accepted_marks (format_of stream) (received side.ring) } ∷ accepted_feeds streams sides
 
--- how many marks came of all streams
+-- the number of marks that were received from all streams
 abbrev pub received_total : List (TokenConsumer MarkView) → ℕ
 received_total sides = sum_by (λ (side : TokenConsumer MarkView). length (received side.ring)) sides
 
--- how many were accepted
+-- the number of marks that were accepted
 abbrev pub accepted_total : List Feed → ℕ
 accepted_total feeds = sum_by (λ (feed : Feed). length feed.marks) feeds

@@ -5,7 +5,7 @@ use Rattle.studio_ends.specs.DrainedRing.{IsDrained}
 use Rattle.studio_ends.specs.declared.rings.TokenConsumer.{TokenConsumer}
 
 module _ {T : Type 0} where
-  -- nothing was taken
+  -- a ring was only looked at: nothing was taken from it, and its token stayed
   pub record LooksAt (old new : TokenConsumer T) : Type 0 where
     pub ring : SameConsumer old.ring new.ring
     pub received_is : received new.ring ≡ received old.ring
@@ -17,7 +17,7 @@ module _ {T : Type 0} where
   AllLookAt [] (new ∷ news) = ⊥
   AllLookAt (old ∷ olds) [] = ⊥
 
-  -- true for each ring that is open yet, and false where there is none
+  -- each flag is false exactly if the ring at its place is drained, or if there is no ring
   abbrev pub AreOpen : List Bool → List (TokenConsumer T) → Type 0
   AreOpen [] [] = Unit {0}
   AreOpen [] (side ∷ sides) = ⊥

@@ -5,7 +5,7 @@ use Rattle.rtp_stream.specs.StreamSpecFacts.{format_of}
 use Rattle.rtp_stream.specs.MarkFacts.{payload_length}
 use Rattle.rtp_stream.specs.declared.packet.Packet.{Packet}
 
--- those packets that have the stream's length
+-- those of the packets whose payload has the stream's length
 abbrev pub fitting : Stream → List Packet → List Packet
 fitting stream [] = []
 fitting stream (packet ∷ packets) =

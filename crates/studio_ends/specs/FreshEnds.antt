@@ -15,11 +15,11 @@ use Rattle.studio_ends.specs.declared.ends.Ends.{Ends}
 use Rattle.studio_ends.specs.declared.ends.OpenFault.{OpenFault}
 use Rattle.studio_ends.specs.declared.ends.OpenFault.TheVariants.{RingLength, Memory}
 
--- a ring has from 1 to 65,536 places
+-- why rings were not opened: their length is not from 1 to 65,536 places, or else an allocation failed
 abbrev pub open_fault_of : ℕ → OpenFault
 open_fault_of places = if nat_lt places 1 || nat_lt 65536 places then RingLength else Memory
 
--- both ends of a path's ring of so many places, with nothing sent, received or counted
+-- both ends of a path's ring of `places` places, with nothing sent, received or counted
 pub record IsFreshPath (stream : Stream) (places : ℕ) (path : PathEnd) (side : TokenConsumer Packet) : Type 0 where
   pub pair : IsPair path.ring side.ring
   pub spec : path.spec ≡ stream
@@ -44,7 +44,8 @@ pub record IsFreshStream (open_at : ℤ) (places : ℕ) (stream : Stream) (own :
   pub count : length own ≡ stream.paths
   pub paths : AllFreshPaths stream places own s.sides.items
 
--- the paths stand stream by stream: first those of the first stream, as many as it has
+-- the ends of each stream are fresh; the paths' ends are ordered by stream, and each stream has one for each of its
+-- paths
 abbrev pub AllFreshStreams : ℤ → ℕ → List Stream → List PathEnd → List StreamEnd → Type 0
 AllFreshStreams open_at places [] paths [] = paths ≡ []
 AllFreshStreams open_at places (stream ∷ streams) paths (s ∷ ss) =
@@ -71,7 +72,7 @@ AllFreshRings places [] (monitor ∷ monitors) sides = ⊥
 AllFreshRings places (s ∷ ss) [] sides = ⊥
 AllFreshRings places (s ∷ ss) (monitor ∷ monitors) [] = ⊥
 
--- all ends are at their beginning, and belong together
+-- all ends were just opened, and belong together
 pub record AreOpened (studio : Studio) (places : ℕ) (ends : Ends) : Type 0 where
   pub streams : AllFreshStreams studio.open_at places studio.streams ends.paths.items ends.streams.items
   pub rings : AllFreshRings places ends.streams.items ends.monitors.items ends.mix.sides.items

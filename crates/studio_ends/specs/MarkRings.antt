@@ -1,4 +1,4 @@
--- The ends of a ring of marks, whatever rooms its places have.
+-- The ends of a ring of marks, whatever the size of its cells.
 use Rattle.std.specs.declared.alloc.Global.{Global}
 use Rattle.rtrb.specs.declared.AnyItems.{AnyItems}
 use Rattle.rtrb.specs.declared.finished.Finished.{Finished}

@@ -13,11 +13,11 @@ use Rattle.studio_mix.specs.Mixer.{MixerState, HasFeeds}
 use Rattle.studio_ends.specs.AcceptedFeeds.{accepted_feeds, accepted_total, received_total}
 use Rattle.studio_ends.specs.declared.rings.TokenConsumer.{TokenConsumer}
 
--- a stream's feed with more marks: those that are accepted
+-- a stream's feed after more marks, of which the accepted ones are added
 abbrev pub fed_more : Feed → List MarkView → Feed
 fed_more feed marks = record { stream = feed.stream; marks = accepted_after (format_of feed.stream) feed.marks marks }
 
--- marks were taken of a stream's ring, and those that are accepted were fed; the strange ones are the others
+-- marks were taken from a stream's ring; the accepted ones were fed to the mixer, and the others are strange
 pub record TakesMarks (old new : TokenConsumer MarkView) (m w : MixerState) (stream taken strange : ℕ) : Type 0 where
   pub more : List MarkView
   pub ring : SameConsumer old.ring new.ring
@@ -31,12 +31,12 @@ pub record TakesMarks (old new : TokenConsumer MarkView) (m w : MixerState) (str
   pub counted : (studio : Studio) (feeds : List Feed) (number : ℕ) (feed : Feed)
       → HasFeeds studio m feeds number → slice_get feeds stream ≡ Some feed → length (fed_more feed more).marks + strange ≡ length feed.marks + taken
 
--- why no more were taken: 64 were, or none is known to be left, or what was accepted is final to the end of the block
+-- why no more marks were taken: 64 were, or none is known to be left, or the accepted marks cover the block to its end
 abbrev pub StopsTaking : ℕ → TokenConsumer MarkView → Stream → List MarkView → ℤ → Type 0
 StopsTaking taken side stream accepted end =
     (taken ≡ 64) ⊎ ((known_items side.ring ≡ []) ⊎ (covers (cover_of (format_of stream) accepted) end ≡ true))
 
--- as many marks were taken of a stream as the next block wants, up to 64
+-- as many marks were taken of a stream as the next block needs, but at most 64
 pub record TakesWanted (old new : TokenConsumer MarkView) (m w : MixerState) (stream taken strange : ℕ) : Type 0 where
   pub takes : TakesMarks old new m w stream taken strange
   pub most : taken ≤ 64
@@ -44,7 +44,7 @@ pub record TakesWanted (old new : TokenConsumer MarkView) (m w : MixerState) (st
   pub stop : (studio : Studio) (feeds : List Feed) (number : ℕ) (feed : Feed) → HasFeeds studio m feeds number → slice_get feeds stream ≡ Some feed
       → StopsTaking taken new feed.stream (fed_more feed takes.more).marks (block_start studio.output (number + 1))
 
--- some marks were taken of a ring, at most 64
+-- some marks were taken from a ring, at most 64
 pub record TakesSome (old new : TokenConsumer MarkView) : Type 0 where
   pub ring : SameConsumer old.ring new.ring
   pub done : new.done ≡ old.done
@@ -58,7 +58,7 @@ AllTakeSome (old ∷ olds) (new ∷ news) = TakesSome old new × AllTakeSome old
 AllTakeSome [] (new ∷ news) = ⊥
 AllTakeSome (old ∷ olds) [] = ⊥
 
--- of each stream 64 marks were taken, or none is known to be left, or it is final to this time
+-- of each stream 64 marks were taken, or none is known to be left, or its accepted marks cover this time
 abbrev pub AllStopTaking : List Stream → ℤ → List (TokenConsumer MarkView) → List (TokenConsumer MarkView) → Type 0
 AllStopTaking [] end olds news = Unit {0}
 AllStopTaking (stream ∷ streams) end [] news = Unit {0}
@@ -67,7 +67,7 @@ AllStopTaking (stream ∷ streams) end (old ∷ olds) (new ∷ news) =
     ((taken : ℕ) × (length (received new.ring) ≡ length (received old.ring) + taken) × StopsTaking taken new stream (accepted_marks (format_of stream) (received new.ring)) end)
     × AllStopTaking streams end olds news
 
--- marks were taken of the rings of all streams, so many in all, and so many of them strange
+-- marks were taken from the rings of all streams: `taken` in all, of which `strange` were not accepted
 pub record TakesAllMarks (olds news : List (TokenConsumer MarkView)) (m w : MixerState) (taken strange : ℕ) : Type 0 where
   pub all : AllTakeSome olds news
   pub count : length news ≡ length olds

@@ -11,7 +11,7 @@ use Rattle.studio_ends.specs.MarksIn.{AllStopTaking}
 use Rattle.studio_ends.specs.declared.mix_end.MixNote.{MixNote}
 use Rattle.studio_ends.specs.declared.mix_end.MixEnd.{MixEnd}
 
--- the mixer was fed the marks that were accepted of those that the rings delivered, and so many datagrams were given
+-- the mixer was fed the marks that were accepted of those that the rings delivered, and returned `number` datagrams
 abbrev pub MixHasFeeds : Studio → MixEnd → ℕ → Type 0
 MixHasFeeds studio s number = HasFeeds studio s.mixer (accepted_feeds studio.streams s.sides.items) number
 
@@ -19,7 +19,8 @@ abbrev pub given : Option ℕ → ℕ
 given None = 0
 given (Some len) = 1
 
--- a datagram is given exactly where its block is final by what was accepted, and is the one of its number; a strange mark is one that was taken and not accepted
+-- a turn returns a datagram exactly if the next block is ready by the accepted marks, and it is the datagram of that
+-- block. Strange marks are those that were taken and not accepted
 pub record MixesBlock (studio : Studio) (s : MixEnd) (note : MixNote) (t : MixEnd) (number : ℕ) (out new_out : List ℕ) : Type 0 where
   pub ready : is_some note.len ≡ is_ready studio.output (accepted_feeds studio.streams t.sides.items) number
   pub datagram : IfSome note.len (λ len. (len ≡ datagram_length studio.output) × (new_out ≡ datagram_of studio (accepted_feeds studio.streams t.sides.items) number ++ drop len out))

@@ -10,12 +10,12 @@ use Rattle.studio_ends.specs.declared.stream_end.StreamEnd.{StreamEnd}
 use Rattle.studio_ends.specs.declared.monitor_end.MonitorEnd.{MonitorEnd}
 use Rattle.studio_ends.specs.declared.ends.StreamEnds.{StreamEnds}
 
--- the ends of these streams
+-- the ends of these streams, which were just opened
 pub record AreFreshEnds (open_at : ℤ) (places : ℕ) (streams : List Stream) (ends : StreamEnds) : Type 0 where
   pub streams_are : AllFreshStreams open_at places streams ends.paths.items ends.streams.items
   pub rings : AllFreshRings places ends.streams.items ends.monitors.items ends.marks.items
 
--- one stream's ends more
+-- the ends of one more stream were opened
 pub record AddsStream (open_at : ℤ) (places : ℕ) (stream : Stream) (old new : StreamEnds) : Type 0 where
   pub own : List PathEnd
   pub end : StreamEnd
@@ -28,7 +28,7 @@ pub record AddsStream (open_at : ℤ) (places : ℕ) (stream : Stream) (old new 
   pub fresh : IsFreshStream open_at places stream own end
   pub rings : AreFreshRings places end monitor side
 
--- a ring for each stream, of which nothing was received
+-- there is a ring for each stream, and nothing was received from it
 abbrev pub AllUnread : List Stream → List (TokenConsumer MarkView) → Type 0
 AllUnread [] [] = Unit {0}
 AllUnread (stream ∷ streams) (side ∷ sides) = (received side.ring ≡ []) × AllUnread streams sides

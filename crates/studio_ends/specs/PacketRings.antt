@@ -1,4 +1,4 @@
--- The ends of a path's ring, whatever rooms its places have.
+-- The ends of a path's ring, whatever the size of its cells.
 use Rattle.std.specs.declared.alloc.Global.{Global}
 use Rattle.rtrb.specs.declared.AnyItems.{AnyItems}
 use Rattle.rtrb.specs.declared.finished.Finished.{Finished}

@@ -10,13 +10,13 @@ use Rattle.studio_ends.specs.declared.path_end.PathEnd.{PathEnd}
 use Rattle.studio_ends.specs.declared.path_end.Offer.{Offer}
 use Rattle.studio_ends.specs.declared.path_end.Offer.TheVariants.{CountersFull, Bad, WrongType, WrongLength, Full, Sent}
 
--- the datagram was received so, and counted
+-- the datagram has this reception, and was counted
 pub record Receives (octets : List ℕ) (p : PathEnd) (reception : Reception) (q : PathEnd) : Type 0 where
   pub room : p.counts.offered < 2 ^ 62
   pub received : reception_of p.spec octets ≡ reception
   pub counted : path_tally_of q.counts ≡ with_reception (path_tally_of p.counts) reception
 
--- it was a packet, and counted as one that found no room
+-- the datagram is a packet of the stream, but no free place was known in the ring; it was counted as `full`
 pub record FindsNoRoom (octets : List ℕ) (p q : PathEnd) : Type 0 where
   pub room : p.counts.offered < 2 ^ 62
   pub packet : Packet
@@ -24,7 +24,7 @@ pub record FindsNoRoom (octets : List ℕ) (p q : PathEnd) : Type 0 where
   pub none_free : known_free q.ring ≡ 0
   pub counted : path_tally_of q.counts ≡ with_full (path_tally_of p.counts)
 
--- the answer is the first that holds; the packet is sent where it is `Sent`, and nothing else ever is
+-- what each result of an offer means; the datagram's packet is sent if the result is `Sent`, and otherwise nothing is
 abbrev pub Offers : List ℕ → PathEnd → Offer → PathEnd → Type 0
 Offers octets p CountersFull q = (q ≡ p) × (p.counts.offered ≡ 2 ^ 62)
 Offers octets p (Bad fault) q = Receives octets p (BadWire fault) q × (sent q.ring ≡ sent p.ring)

@@ -1,4 +1,4 @@
--- Rings whose places have short, middle or long rooms: a ring's name tells which, by what is left over 3.
+-- Rings with short, middle or long cells: the remainder of a ring's name divided by 3 says which.
 use Rattle.std.proofs.Common.{◌≡◌, ℕ, ◌+◌, ◌*◌, ◌≤◌, Option, Some, None, IfSome, ap}
 use Rattle.std.specs.declared.alloc.Global.{Global}
 use Rattle.rtrb.specs.Ring.{IsFinishedOf}
@@ -9,11 +9,11 @@ use Rattle.rtrb.specs.declared.finished.Finished.{Finished}
 use Rattle.rtrb.specs.declared.producer.Producer.{Producer}
 use Rattle.studio_ends.specs.declared.rings.TokenConsumer.{TokenConsumer}
 
--- rooms are short: 0, middle: 1, or long: 2
+-- the names of a ring with cells of this size: 0 for short, 1 for middle, 2 for long
 abbrev pub named : ℕ → Names → Names
 named room names = (names.0, (3 * names.1.0 + room, names.1.1))
 
--- there is room for so many octets in each place of a ring of this name
+-- each cell of a ring with these names has room for `len` octets
 pub record AreRoomy (len : ℕ) (names : Names) : Type 0 where
   pub short : (n : ℕ) → names.1.0 ≡ 3 * n → len ≤ 64
   pub middle : (n : ℕ) → names.1.0 ≡ 3 * n + 1 → len ≤ 320
@@ -23,7 +23,7 @@ module _ {T : Type 0} where
   abbrev pub HasRoomFor : ℕ → Producer T Global AnyItems → Type 0
   HasRoomFor len p = AreRoomy len p.end.names
 
-  -- the ends of a ring, with such rooms
+  -- the ends of a ring, with cells of this size
   abbrev pub producer_with : ℕ → Producer T Global AnyItems → Producer T Global AnyItems
   producer_with room p = record p { end = record p.end { names = named room p.end.names } }
 

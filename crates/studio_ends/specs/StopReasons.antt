@@ -3,7 +3,8 @@ use Rattle.std.specs.Prelude.{◌≡◌, ℕ, ℤ}
 use Rattle.studio_ends.specs.declared.stream_end.marks_out.StopReason.{StopReason}
 use Rattle.studio_ends.specs.declared.stream_end.marks_out.StopReason.TheVariants.{CaughtUp, Batch, NoRoom}
 
--- CaughtUp only at the time asked for, Batch only after 64 marks, NoRoom only with no place known
+-- a turn stops for CaughtUp only at the time `now`, for Batch only after 64 marks, for NoRoom only if no free place is
+-- known
 abbrev pub StopsFor : StopReason → ℤ → ℤ → ℕ → ℕ → Type 0
 StopsFor CaughtUp reached now marks free = reached ≡ now
 StopsFor Batch reached now marks free = marks ≡ 64

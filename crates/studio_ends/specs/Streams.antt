@@ -19,31 +19,34 @@ use Rattle.studio_ends.specs.declared.stream_end.StreamEnd.{StreamEnd}
 use Rattle.studio_ends.specs.declared.stream_end.marks_out.StopReason.{StopReason}
 use Rattle.studio_ends.specs.declared.stream_end.marks_out.TurnNote.{TurnNote}
 
--- the packets that arrived by a path, in order
+-- the packets that arrived on a path, in order
 abbrev pub packets_by : ℕ → List Event → List Packet
 packets_by path [] = []
 packets_by path (Arrive p packet ∷ events) = if nat_eq p path then packet ∷ packets_by path events else packets_by path events
 packets_by path (Tick u ∷ events) = packets_by path events
 packets_by path (Close ∷ events) = packets_by path events
 
--- the arrivals are just what the rings delivered, from this path on: those that have the stream's length
+-- the arrivals on the paths from this one on are exactly the packets that the rings delivered and that have the
+-- stream's length
 abbrev pub AllDelivered : Stream → ℕ → List (TokenConsumer Packet) → List Event → Type 0
 AllDelivered stream path [] events = (other : ℕ) → path ≤ other → packets_by other events ≡ []
 AllDelivered stream path (side ∷ sides) events = (packets_by path events ≡ fitting stream (received side.ring)) × AllDelivered stream (suc path) sides events
 
--- the merge has this history, its arrivals are what the rings delivered, and the marks sent are its first ones
+-- the merge of a stream's end has this history; its arrivals are what the rings delivered, and the marks that were sent
+-- are the first marks of the history
 pub record StreamHasHistory (stream : Stream) (open_at : ℤ) (s : StreamEnd) (events : List Event) : Type 0 where
   pub some_frames : 0 < stream.frames
   pub merge : HasHistory stream open_at s.merge events (length (sent s.marks))
   pub delivered : AllDelivered stream 0 s.sides.items events
   pub marks : sent s.marks ≡ take (length (sent s.marks)) (marks_of stream open_at events)
 
--- the counts go to the monitor where a place is known; nothing else ever does
+-- the counts were sent to the monitor; or nothing was, and no free place is known in its ring
 abbrev pub ShowsCounts : {A P : Type 0} → Producer Counts A P → Tally → Producer Counts A P → Type 0
 ShowsCounts c counts d =
     ((shown : Counts) × (tally_of shown ≡ counts) × (sent d ≡ sent c ++ shown ∷ [])) ⊎ ((sent d ≡ sent c) × (known_free d ≡ 0))
 
--- the clock was read and no packet was taken: marks were sent up to a time, or so far as there was room
+-- the clock was read and no packet was taken: marks were sent up to the reading, or until 64 were sent or no free place
+-- was known
 pub record ReadsClock (s : StreamEnd) (now : ℤ) (why : StopReason) (t : StreamEnd) : Type 0 where
   pub sides : t.sides ≡ s.sides
   pub monitor : t.monitor ≡ s.monitor

@@ -236,7 +236,7 @@ fn open_sized<const N: usize>(
     ))
 }
 
-/// Opens a ring of so many places for marks of a format and returns both ends.
+/// Opens a ring of `places` places for marks of a format and returns both ends.
 pub(crate) fn open_marks(
     alloc: Global,
     format: PacketFormat,

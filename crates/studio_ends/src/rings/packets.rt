@@ -243,7 +243,7 @@ fn open_sized<const N: usize>(
     Ok((SizedPacketProducer::new(push), TokenConsumer::new(pop)))
 }
 
-/// Opens a ring of so many places for payloads of `len` octets and returns both ends.
+/// Opens a ring of `places` places for payloads of `len` octets and returns both ends.
 pub(crate) fn open_packets(
     alloc: Global,
     len: usize,

@@ -13,7 +13,7 @@ pub(crate) const MIDDLE: usize = 320;
 /// The octets that a long cell holds: those of the longest payload.
 pub(crate) const LONG: usize = 1440;
 
-/// Up to `N` octets, in place. The cell is copied whole. The octets behind the payload are 0.
+/// Up to `N` octets, in place. The cell is copied whole. The octets after the payload are 0.
 // They are 0 so that equal payloads are equal cells: contracts see a cell as its payload, and `inverse` goes back.
 #[derive(Clone, Copy)]
 pub(crate) struct PayloadCell<const N: usize> {

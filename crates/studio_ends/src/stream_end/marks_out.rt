@@ -37,7 +37,7 @@ use path_merge::{Goal, Merge, SlotWindow};
 /// The reason for which a turn stopped.
 #[derive(Clone, Copy, PartialEq, Eq, Debug)]
 pub enum StopReason {
-    /// All marks up to the time asked for were pushed.
+    /// All marks up to the requested time were pushed.
     CaughtUp,
     /// 64 marks were pushed. More may be left.
     Batch,

@@ -10,7 +10,7 @@ use Rattle.studio_ends.proofs.mix_end.marks_in.feed_if_accepted.Goals as goal
 use Rattle.studio_ends.proofs.mix_end.marks_in.feed_if_accepted.Goals.{After-accepts_ref}
 use Rattle.studio_ends.proofs.mix_end.marks_in.feed_if_accepted.Given.{Over}
 
--- the answer is of the mark that lies in the room
+-- the test was made for the mark that is in the cell
 asked : (g : Over) (c : After-accepts_ref g) (studio : Studio) (feeds : List Feed) (number : ℕ) (feed : Feed)
     → HasFeeds studio c.args.mixer.now feeds number → slice_get feeds c.args.stream ≡ Some feed
     → c.accepts_ref.result ≡ is_mark_list (format_of feed.stream) (feed.marks ++ c.args.room.now ∷ [])

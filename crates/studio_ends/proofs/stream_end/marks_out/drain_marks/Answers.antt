@@ -24,7 +24,7 @@ returns-then-ended-clause-all c = λ _. given_all _ (sym c.ended.ensures ∙ c.i
 pub returns-then-not-push_next-clause-all : goal.returns-then-not-push_next-clause-all
 returns-then-not-push_next-clause-all c = λ _. c.push_next.ensures.all c.if-not-push_next.true
 
--- it was pushed and passed
+-- the next mark was pushed and passed
 gone_on : (c : After-push_next) → DrainsMarks c.args.marks.now c.args.merge.now c.push_next.new.marks c.push_next.new.merge
 gone_on c = let p = c.push_next.ensures in let look = c.is_full.ensures.looked in
     drained-more _ c.loop.marks c.push_next.new.marks _ c.loop.merge c.push_next.new.merge (next_left c.loop.merge) c.loop.invariant.0 (producers c.loop.marks c.is_full.new.self c.push_next.new.marks look.0 p.ring)

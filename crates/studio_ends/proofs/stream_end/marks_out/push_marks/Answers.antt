@@ -33,11 +33,11 @@ returns-clause-pushed c =
 abbrev asked : After-push_next → ℤ
 asked c = to_z w64 (of_z w64 c.args.now)
 
--- the mark that is next there
+-- the next mark on the way to this time
 abbrev next : After-push_next → Option MarkView
 next c = next_mark c.loop-count.merge (asked c)
 
--- it was pushed and passed
+-- the next mark was pushed and passed
 gone_on : (c : After-push_next) → Pushing c.args.marks.now c.args.merge.now (asked c) c.push_next.new.marks c.push_next.new.merge (c.loop-count.count + length (option_to_list (next c)))
 gone_on c =
     let z : to_z w64 (of_z w64 c.args.now) ≡ c.args.now = search rules in
