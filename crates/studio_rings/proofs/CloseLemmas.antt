@@ -10,7 +10,7 @@ use Rattle.studio_rings.specs.Turns.{Closes, GoesOn, KeepsTokens}
 use Rattle.studio_rings.specs.declared.worker.clocked_stream.ClockedStream.{ClockedStream}
 use Rattle.studio_rings.specs.StreamClose.{ClosesLater}
 
--- no turn goes by any clock
+-- no turns agree with any readings
 none_made : (stream : Stream) (open_at : ℤ) (places : ℕ) (time : ℤ) (told : List ℤ) (before : List Event) → GoByClock stream open_at places time told before []
 none_made stream open_at places time [] before = tt
 none_made stream open_at places time (answer ∷ told) before = tt

@@ -1,4 +1,4 @@
--- The history of a stream by its end.
+-- The history of a stream, when it has come to its end.
 use Rattle.std.proofs.Common.{◌≡◌, ℕ, suc, ◌+◌, ◌-◌, ◌*◌, ◌≤◌, ◌^◌, Bool, true, false, nat_eq, nat_lt, if◌then◌else◌, List, [], ◌∷◌, ◌++◌, length, take, map, ℤ, Option, Some, None, IsSome, IfSome, refl, sym, ap, subst, ◌∙◌, arith, append_assoc, append-nil}
 use Rattle.std.proofs.lemmas.Bool.Decides.{nat_tests}
 use Rattle.std.proofs.lemmas.List.Sums.{sum_by-cons}
@@ -44,11 +44,11 @@ use Rattle.studio_rings.proofs.ZipLemmas.{zip-length}
 use Rattle.studio_rings.specs.declared.jobs.StreamJob.{StreamJob}
 use Rattle.studio_rings.specs.declared.jobs.StreamResult.{StreamResult}
 
--- the token of an end whose ring is the same as this one's
+-- the token of an end is that of each end of the same ring
 pub same_token : {T A P : Type 0} (p q : Producer T A P) (done : Finished T A P) → SameProducer p q → SameRing q.end done.end → SameRing p.end done.end
 same_token p q done same fin = (fin.0 ∙ same.0.0, fin.1 ∙ same.0.1, fin.2 ∙ same.0.2, fin.3 ∙ same.0.3)
 
--- the stream went on to the second, was closed as the third and drained as the fourth
+-- a stream that went on from `s` to `t`, was closed as `u` and drained as `v` has ended
 pub ended : {C : Type 0} (clock_told : C → List ℤ) (s t : ClockedStream C) (u v : StreamEnd) (results : List PathResult) (result : StreamResult) (marks : List MarkView)
     → GoesOn clock_told s t → HaveTold t.end.sides.items (map told_by results) → ClosesLater clock_told t u → Drains u v → tally_of result.counts.merge ≡ v.merge.counts → marks ≡ sent v.marks
     → (stream : Stream) (open_at : ℤ) (events : List Event) → StreamHasHistory stream open_at s.end events → HasEnded clock_told stream open_at s events (map told_by results) result marks
@@ -132,7 +132,7 @@ pub some_of : {A : Type 0} (P : A → Type 0) (o : Option A) → IsSome o → If
 some_of P None some h = let e : false ≡ true = some in absurd (cc)
 some_of P (Some x) some h = (x, refl, h)
 
--- what a path's token says, where it gave one
+-- what a path's token reports: packets of the stream's length, whose number was counted
 record Tells {F : Type 0} (told : F → List Answer) (p : PathJob F) (r : PathResult) : Type 0 where
   fit : fitting p.end.spec (told_by r) ≡ told_by r
   count : r.counts.sent ≡ length (told_by r)
@@ -151,7 +151,7 @@ tells told p r is some =
     }
 
 module _ {F : Type 0} (told : F → List Answer) (stream : Stream) (places : ℕ) where
-  -- what arrived on a path is what its token tells
+  -- what arrived on a path is what its token reports
   arrived_is : (p : PathJob F) (side : TokenConsumer Packet) (r : PathResult) (path : ℕ) (events : List Event) → IsFreshPath stream places p.end side → Tells told p r
       → packets_by path events ≡ fitting stream (told_by r) → packets_by path events ≡ told_by r
   arrived_is p side r path events fresh t e = e ∙ (ap (λ (s : Stream). fitting s (told_by r)) (sym fresh.spec) ∙ t.fit)
@@ -255,7 +255,7 @@ module _ {F : Type 0} (told : F → List Answer) where
   by_token None says results P given h f = tt
   by_token (Some d) says results P given h f = f d given h
 
-  -- the stream's worker, of its parts: it began as the first, and went on to the second
+  -- the result of a stream's worker that began as `s` and went on to `t`
   stream-result : {C : Type 0} (clock_told : C → List ℤ) (paths : List (PathJob F)) (end : StreamEnd) (clock : C) (s t : ClockedStream C) (results : List PathResult) (result : StreamResult) → s.end ≡ end → s.clock ≡ clock → s.now ≡ end.merge.time
       → AllZip (IsPathResult told) paths results → GoesOn clock_told s t → EndsStream clock_told t results result
       → IfSome result.done (λ done. (stream : Stream) (open_at : ℤ) (places : ℕ) → IsFreshStream open_at places stream (ends_of paths) end → HasMarks open_at (producer_capacity end.marks) stream (told_of told paths) (clock_told clock) result (all_sent done.token))

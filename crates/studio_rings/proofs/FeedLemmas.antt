@@ -1,4 +1,4 @@
--- A path's worker, one answer further.
+-- A path's worker after one more result of its feed.
 use Rattle.std.proofs.Common.{◌≡◌, ℕ, ◌+◌, ◌-◌, ◌*◌, ◌^◌, ◌≤◌, ◌<◌, Bool, true, false, cond, nat_eq, nat_lt, List, [], ◌∷◌, ◌++◌, length, take, refl, sym, ap, ◌∙◌, arith, append_assoc, append-nil, length-append, ◌⊎◌, inl, inr, subst}
 use Rattle.studio_ends.proofs.TurnLemmas.{producers}
 use Rattle.std.proofs.lemmas.Bool.Decides.{nat_tests}
@@ -30,7 +30,7 @@ none_other (Bad fault) e = absurd (cc)
 none_other WrongType e = absurd (cc)
 none_other WrongLength e = absurd (cc)
 
--- a packet that found no room 1,001 times
+-- a packet that found the ring full 1,001 times
 pub offers-lost : (octets : List ℕ) (p q : PathEnd) → SameProducer p.ring q.ring → q.spec ≡ p.spec → sent q.ring ≡ sent p.ring → is_sent (reception_of p.spec octets) ≡ true → q.counts.full ≡ p.counts.full + 1001
     → q.counts.bad ≡ p.counts.bad → q.counts.wrong_type ≡ p.counts.wrong_type → q.counts.wrong_length ≡ p.counts.wrong_length → p.counts.offered ≤ q.counts.offered → q.counts.offered ≤ p.counts.offered + 1001 → OffersAgain octets p q
 offers-lost octets p q ring spec same packet full bad wrong_type wrong_length offered few =
@@ -62,7 +62,7 @@ counts-offer (Bad fault) a b h = rw h (refl, refl)
 counts-offer WrongType a b h = rw h (refl, refl)
 counts-offer WrongLength a b h = rw h (refl, refl)
 
--- offers of a packet found no room, and have changed no other count
+-- offers of a packet found the ring full, and changed no other count
 pub record FoundNoRoom (p e : PathEnd) : Type 0 where
   pub spec : e.spec ≡ p.spec
   pub same : sent e.ring ≡ sent p.ring
@@ -73,7 +73,7 @@ pub record FoundNoRoom (p e : PathEnd) : Type 0 where
   pub offered : p.counts.offered ≤ e.counts.offered
   pub few : e.counts.offered ≤ p.counts.offered + 1000
 
--- then one was received
+-- after offers that found the ring full, the datagram was received
 received-then : (octets : List ℕ) (p e q : PathEnd) (o : Reception) → FoundNoRoom p e → SameProducer p.ring q.ring → q.spec ≡ p.spec
     → Receives octets e o q → sent q.ring ≡ sent e.ring ++ packet_in o → OffersAgain octets p q
 received-then octets p e q o before ring spec h sends =
@@ -96,7 +96,7 @@ received-then octets p e q o before ring spec h sends =
       few = omega (arith, more.1, before.few);
     }
 
--- or no more can be counted
+-- after offers that found the ring full, no more can be counted
 refused-then : (octets : List ℕ) (p e q : PathEnd) → FoundNoRoom p e → SameProducer p.ring q.ring → q.spec ≡ p.spec → q ≡ e → e.counts.offered ≡ 2 ^ 62 → OffersAgain octets p q
 refused-then octets p e q before ring spec same many =
     let offered = ap (λ (x : PathEnd). x.counts.offered) same in
@@ -111,7 +111,7 @@ refused-then octets p e q before ring spec same many =
       few = omega (arith, offered, before.few);
     }
 
--- an answer other than `Full`, after those
+-- after offers that found the ring full, the result was not `Full`
 pub offers-then : (octets : List ℕ) (p e q : PathEnd) (answer : Offer) → FoundNoRoom p e → SameProducer p.ring q.ring → q.spec ≡ p.spec
     → (answer ≡ Full → ⊥) → Offers octets e answer q → OffersAgain octets p q
 offers-then octets p e q CountersFull before ring spec other h = refused-then octets p e q before ring spec h.0 h.1
@@ -121,7 +121,7 @@ offers-then octets p e q OtherLength before ring spec other h = received-then oc
 offers-then octets p e q Full before ring spec other h = absurd (other refl)
 offers-then octets p e q SentOffer before ring spec other h = received-then octets p e q (Sent h.0) before ring spec h.1 h.2
 
--- some of a list, and more of it
+-- a part of a list is a part of a longer list
 pub part-skip : (zs xs : List Packet) (d : List Packet) → IsPartOf zs xs → IsPartOf zs (d ++ xs)
 unfolding IsPartOf
 part-skip zs xs [] h = h
@@ -158,7 +158,7 @@ packets-append stream (x ∷ xs) ys = ap (λ l. packets_of stream x ++ l) (packe
 received-append : (test : Reception → Bool) (stream : Stream) (xs ys : List (List ℕ)) → received_as test stream (xs ++ ys) ≡ received_as test stream xs + received_as test stream ys
 received-append test stream xs ys = sum_by-append (λ octets. cond (test (reception_of stream octets)) 1 0) xs ys
 
--- what was counted of some datagrams, and of more
+-- the counts of some datagrams, and then of more
 others-more : (stream : Stream) (xs ys : List (List ℕ)) (a b c : PathTally) → CountsOthers stream xs a b → CountsOthers stream ys b c → CountsOthers stream (xs ++ ys) a c
 others-more stream xs ys a b c h k = record {
   bad = let f = h.bad in let g = k.bad in let e = received-append is_bad stream xs ys in omega (arith, f, g, e);
@@ -176,7 +176,7 @@ lacks_packet : (b : Bool) (x : Packet) (xs ys : List Packet) (f g : ℕ) → nat
 lacks_packet true x xs ys f g is e every = absurd (let h = ap length (sym e ∙ every (grind (arith, nat_tests, is))) in omega (arith, h, length-append xs (x ∷ [])))
 lacks_packet false x xs ys f g is e every = grind (arith, nat_tests, is)
 
--- nothing was sent of a datagram: it is no packet, or it found no room 1,001 times
+-- if nothing was sent of a datagram, it is not a packet of the stream, or it found the ring full 1,001 times
 lacks : (o : Reception) (xs ys : List Packet) (f g : ℕ) → f ≤ g → ys ≡ xs → (g < f + 1001 → ys ≡ xs ++ packet_in o) → f + length (packet_in o) * 1001 ≤ g
 lacks (Bad fault) xs ys f g le e every = omega (arith, le)
 lacks WrongType xs ys f g le e every = omega (arith, le)
@@ -278,7 +278,7 @@ sends-fault told left rest p q k b n h t =
 less : (a m f g : ℕ) → f ≤ g → f + a * 1001 ≤ g + m * 1001 → f + (a - m) * 1001 ≤ g
 less a m f g le h = omega arith
 
--- where no datagram is left
+-- the packets that were sent in all, if no datagram is left
 sends_all : (told : List Answer) (p q : PathEnd) (left : List Answer) (k : ℕ) (all : List Packet) (c : PathCounts) → SendsSoFar told p left k q → told_datagrams k left ≡ [] → all ≡ sent q.ring → c ≡ q.counts → SendsFeed told p all c
 unfolding IsPartOf
 sends_all told p q left k all c h none a i =
@@ -295,14 +295,14 @@ sends_all told p q left k all c h none a i =
       offered = rw i (rw those at h.offered);
     }
 
--- the end: a stop, or the last of so many faults
+-- the feed ended: it said so, or failed for the 1,000th time in a row
 sends-end : (told left rest : List Answer) (p q : PathEnd) (k : ℕ) (b : List ℕ) (r : FeedAnswer) (all : List Packet) (c : PathCounts)
     → (r ≡ Ended) ⊎ ((r ≡ Fault) × (k ≡ 999)) → SendsSoFar told p left k q → Tells left b r rest → all ≡ sent q.ring → c ≡ q.counts → SendsFeed told p all c
 unfolding told_datagrams
 sends-end told left rest p q k b r all c (inl s) h t a i = sends_all told p q left k all c h (rw (rw s at (told-next k left b r rest h.whole t)) refl) a i
 sends-end told left rest p q k b r all c (inr s) h t a i = sends_all told p q left k all c h (rw (rw s.0 at (told-next k left b r rest h.whole t), s.1) refl) a i
 
--- what was sent of a feed that told its answers: some of it so far, or all that it comes to once it has ended
+-- what was sent from a feed with the results `told`, before it has ended and once it has ended
 pub record Sends (told : List Answer) (p : PathEnd) (left : List Answer) (state : FeedState) (q : PathEnd) : Type 0 where
   pub on : state.ended ≡ false → SendsSoFar told p left state.in_a_row q
   pub over : state.ended ≡ true → SendsFeed told p (sent q.ring) q.counts
@@ -310,7 +310,7 @@ pub record Sends (told : List Answer) (p : PathEnd) (left : List Answer) (state 
 pub sends-none : (told : List Answer) (p : PathEnd) → reaches_end 0 told ≡ true → Sends told p told new_state p
 sends-none told p whole = record { on = λ _. sends-start told p whole; over = λ e. absurd (false≢true e) }
 
--- what is done with an answer
+-- what a path's worker does with a result of its feed
 abbrev pub Handles : FeedAnswer → List ℕ → PathEnd → PathEnd → Type 0
 Handles (Datagram n) b q r = OffersAgain (take n b) q r
 Handles Nothing b q r = r ≡ record q { sender = r.sender }
@@ -349,7 +349,7 @@ sends-known told left rest p q r old new b Ended yet few notes tells handles h =
   over = λ _. subst (λ (x : PathEnd). SendsFeed told p (sent x.ring) x.counts) (sym handles) (sends-end told left rest p q old.in_a_row b Ended (sent q.ring) q.counts (inl refl) h tells refl refl);
 }
 
--- an answer more, which is known to be this one
+-- one more result of the feed, which is the next of its known results
 pub sends-answer : (told left rest : List Answer) (p q r : PathEnd) (old new : FeedState) (b : List ℕ) (answer known : FeedAnswer) → answer ≡ known → old.ended ≡ false → old.in_a_row ≤ 999
     → Notes answer old new → Tells left b answer rest → Handles known b q r → Sends told p left old q → Sends told p rest new r
 sends-answer told left rest p q r old new b answer known is yet few notes tells handles h =

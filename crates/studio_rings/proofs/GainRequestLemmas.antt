@@ -12,7 +12,7 @@ with_each-append : (schedule : Changes) (first more : List (ℤ × List (List �
 with_each-append schedule [] more = refl
 with_each-append schedule (change ∷ first) more = with_each-append (with_change schedule change.0 change.1) first more
 
--- some changes, and then more
+-- changes of a studio that already has changes
 pub with_changes-append : (studio : Studio) (first more : List (ℤ × List ℤ)) → with_changes (with_changes studio first) more ≡ with_changes studio (first ++ more)
 with_changes-append studio first more =
     ap (λ (schedule : Changes). record studio { schedule = schedule })
@@ -22,7 +22,7 @@ with_changes-append studio first more =
 pub more_taken : (a b c first more : List (ℤ × List ℤ)) → b ≡ a ++ first → c ≡ b ++ more → c ≡ a ++ (first ++ more)
 more_taken a b c first more e f = f ∙ (ap (λ l. l ++ more) e ∙ append_assoc a first more)
 
--- a list that did not grow
+-- nothing was added to a list that stayed the same
 pub no_more : (a more : List (ℤ × List ℤ)) → a ≡ a ++ more → more ≡ []
 no_more a [] e = refl
 no_more a (x ∷ more) e = let long = ap length e in absurd (omega (arith, long, length-append a (x ∷ more)))

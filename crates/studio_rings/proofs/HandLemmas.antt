@@ -1,4 +1,4 @@
--- The tokens of a stream's paths, handed in one after another.
+-- The tokens of a stream's paths, passed to the stream one after another.
 use Rattle.std.proofs.Common.{◌≡◌, ℕ, zero, suc, ◌<◌, Bool, true, false, ◌&&◌, List, [], ◌∷◌, ◌++◌, length, map, ℤ, Option, Some, None, IsSome, IfSome, slice_get, unwrap_or, refl, sym, ap, subst, ◌∙◌, arith, append-nil, length-append}
 use Rattle.std.specs.List.{AllZip}
 use Rattle.rtrb.specs.Ring.{all_sent, IsFinishedOf, IsPair, SameConsumer}
@@ -21,11 +21,11 @@ use Rattle.studio_rings.specs.declared.worker.clocked_stream.ClockedStream.{Cloc
 use Rattle.studio_rings.proofs.StreamTurnLemmas.{goes-still, rings-self, same_marks}
 use Rattle.studio_rings.specs.StreamWorkers.{AllTokensFit, ArePairs, FitsAt, HandsOne, PathsGiveTokens, all_told, told_by}
 
--- a path's ring is the same, and has the path's token where all were given
+-- a path's ring is the same, and its consumer has the path's token if all tokens were passed
 abbrev pub IsHandedIn : Bool → PathResult → TokenConsumer Packet → TokenConsumer Packet → Type 0
 IsHandedIn all result old new = SameConsumer old.ring new.ring × (all ≡ true → IsSome result.done × IfSome new.done (λ d. all_sent d ≡ told_by result))
 
--- so it is of the first rings, and the others are as they were
+-- the consumers of the first rings have their tokens if all were passed, and the other rings are as they were
 abbrev pub AreHandedIn : Bool → List PathResult → List (TokenConsumer Packet) → List (TokenConsumer Packet) → Type 0
 AreHandedIn all [] olds news = news ≡ olds
 AreHandedIn all (r ∷ rs) (o ∷ os) (n ∷ ns) = IsHandedIn all r o n × AreHandedIn all rs os ns
@@ -72,7 +72,7 @@ next-handed all (f ∷ fs) more r done (o ∷ os) (x ∷ xs) [] is fit h hands =
 next-handed all (f ∷ fs) more r done (o ∷ os) (x ∷ xs) (n ∷ ns) is fit h hands =
     (subst (λ (s : TokenConsumer Packet). IsHandedIn all f o s) (sym hands.0) h.0, next-handed all fs more r done os xs ns is fit.1 h.1 hands.1)
 
--- a path gave no token
+-- the next path returned no token
 pub next-none : (all : Bool) (front more : List PathResult) (r : PathResult) (olds nows : List (TokenConsumer Packet)) → AllTokensFit (front ++ r ∷ more) olds → AreHandedIn all front olds nows → AreHandedIn false (front ++ r ∷ []) olds nows
 next-none all [] more r [] nows fit h = absurd fit
 next-none all [] more r (o ∷ os) nows fit h =
@@ -81,7 +81,7 @@ next-none all (f ∷ fs) more r [] nows fit h = absurd h
 next-none all (f ∷ fs) more r (o ∷ os) [] fit h = absurd h
 next-none all (f ∷ fs) more r (o ∷ os) (n ∷ ns) fit h = ((h.0.0, λ (e : false ≡ true). absurd (cc)), next-none all fs more r os ns fit.1 h.1)
 
--- a token that there is fits the ring at its place
+-- the next path's token, if there is one, fits the ring at its place
 fits_here : (all : Bool) (front more : List PathResult) (r : PathResult) (d : Option PathDone) (olds nows : List (TokenConsumer Packet)) → r.done ≡ d → AllTokensFit (front ++ r ∷ more) olds → AreHandedIn all front olds nows → FitsAt d (length front) nows
 fits_here all front more r None olds nows is fit h = tt
 fits_here all front more r (Some done) olds nows is fit h = next-place all front more r done olds nows is fit h
@@ -89,7 +89,7 @@ fits_here all front more r (Some done) olds nows is fit h = next-place all front
 pub fits-here : (all : Bool) (front more : List PathResult) (r : PathResult) (olds nows : List (TokenConsumer Packet)) → AllTokensFit (front ++ r ∷ more) olds → AreHandedIn all front olds nows → FitsAt r.done (length front) nows
 fits-here all front more r olds nows fit h = fits_here all front more r r.done olds nows refl fit h
 
--- one path more
+-- the token of one more path
 handed_one : (all given : Bool) (front more : List PathResult) (r : PathResult) (d : Option PathDone) (olds nows news : List (TokenConsumer Packet)) → r.done ≡ d → AllTokensFit (front ++ r ∷ more) olds → AreHandedIn all front olds nows
     → HandsOne d (length front) nows given news → AreHandedIn (all && given) (front ++ r ∷ []) olds news
 handed_one all given front more r None olds nows news is fit h one =
@@ -112,7 +112,7 @@ pub handed-one : (all given : Bool) (front more : List PathResult) (r : PathResu
     → HandsOne r.done (length front) nows given news → AreHandedIn (all && given) (front ++ r ∷ []) olds news
 handed-one all given front more r olds nows news fit h one = handed_one all given front more r r.done olds nows news refl fit h one
 
--- all were handed in
+-- the tokens of all paths were passed to the stream
 pub all-handed : (results : List PathResult) (olds nows : List (TokenConsumer Packet)) → AllTokensFit results olds → AreHandedIn true results olds nows → PathsGiveTokens results × HaveTold nows (map told_by results)
 all-handed [] [] nows fit h = (tt, subst (λ (l : List (TokenConsumer Packet)). HaveTold l []) (sym h) tt)
 all-handed [] (o ∷ os) nows fit h = absurd fit
@@ -157,7 +157,7 @@ rings-handed (suc place) (o ∷ os) [] all h = absurd h
 rings-handed zero (o ∷ os) (n ∷ ns) all h = (rw h.0.ring ((refl, refl, refl, refl), refl), subst (λ (l : List (TokenConsumer Packet)). AreSameRings os l) (sym h.1) (rings-self os))
 rings-handed (suc place) (o ∷ os) (n ∷ ns) all h = (rw h.0 ((refl, refl, refl, refl), refl), rings-handed place os ns all h.1)
 
--- a token that is handed in leaves the history
+-- passing a token to a stream does not change its history
 pub goes-handed : {C : Type 0} (told : C → List ℤ) (s t : ClockedStream C) (place : ℕ) (all : List Packet) → HandsIn s.end.sides.items place all t.end.sides.items → t.end.marks ≡ s.end.marks → t.end.spec ≡ s.end.spec → t.now ≡ s.now → t.clock ≡ s.clock
     → ((stream : Stream) (open_at : ℤ) (events : List Event) → StreamHasHistory stream open_at s.end events → StreamHasHistory stream open_at t.end events) → GoesOn told s t
 goes-handed told s t place all hands marks spec now clock stands = goes-still told s t (rings-handed place s.end.sides.items t.end.sides.items all hands) (same_marks s.end t.end marks) spec now clock stands
@@ -168,7 +168,7 @@ fits_one p (Some x) c d pair same token =
     (same.0.0 ∙ (pair.0 ∙ sym token.0), same.0.1 ∙ (pair.1 ∙ sym token.1), same.0.2 ∙ (pair.2 ∙ sym token.2), same.0.3 ∙ (pair.3 ∙ sym token.3))
 
 module _ {F : Type 0} where
-  -- what the paths' workers come to fits the rings, whatever the stream's end did
+  -- the tokens of the paths' workers fit the rings, whatever the stream's end did
   pub tokens-fit : (told : F → List Answer) (paths : List (PathJob F)) (results : List PathResult) (olds news : List (TokenConsumer Packet)) → ArePairs paths olds → AreSameRings olds news → AllZip (IsPathResult told) paths results → AllTokensFit results news
   tokens-fit told [] [] [] [] pairs same zip = tt
   tokens-fit told [] [] [] (n ∷ ns) pairs same zip = absurd same
@@ -180,6 +180,6 @@ module _ {F : Type 0} where
   tokens-fit told (p ∷ ps) (r ∷ rs) (o ∷ os) (n ∷ ns) pairs same zip =
       (fits_one p.end r.done o.ring n.ring pairs.0 same.0 zip.0.token, tokens-fit told ps rs os ns pairs.1 same.1 zip.1)
 
-  -- where there were no results before
+  -- what holds of the new results holds of all, if there were none before
   pub own_results : (R : PathJob F → PathResult → Type 0) (paths : List (PathJob F)) (before own all : List PathResult) → before ≡ [] → all ≡ before ++ own → AllZip R paths own → AllZip R paths all
   own_results R paths before own all none is zip = subst (λ (l : List PathResult). AllZip R paths l) (sym (is ∙ ap (λ (l : List PathResult). l ++ own) none)) zip

@@ -27,7 +27,7 @@ pub map_length : {A B : Type 0} (f : A → B) (xs : List A) → length (map f xs
 map_length f [] = refl
 map_length f (x ∷ xs) = let r = map_length f xs in omega (arith, r)
 
--- one item more was taken
+-- one more item was taken
 pub taken-more : {A B : Type 0} (f : A → B) (all rest left : List B) (own : List A) (x : A) (y : B) → all ≡ map f own ++ rest → rest ≡ y ∷ left → f x ≡ y → all ≡ map f (own ++ x ∷ []) ++ left
 taken-more f all rest left own x y is next same =
     is ∙ (ap (λ l. map f own ++ l) (next ∙ ap (λ z. z ∷ left) (sym same))
@@ -47,7 +47,7 @@ pub next_stream : (open_at : ℤ) (places : ℕ) (specs : List Stream) (paths : 
 next_stream open_at places [] paths end ends h = absurd h
 next_stream open_at places (stream ∷ specs) paths end ends h = record { stream = stream; own = h.0; rest = h.1; later = specs; paths_are = h.2; fresh = h.3; more = h.4 }
 
--- it has so many
+-- the next stream has as many paths as its specification says
 pub own_count : (open_at : ℤ) (places : ℕ) (specs : List Stream) (paths : List PathEnd) (end : StreamEnd) (ends : List StreamEnd) (n : NextStream open_at places specs paths end ends) → length n.own ≡ end.spec.paths
 own_count open_at places specs paths end ends n = n.fresh.count ∙ ap (λ (s : Stream). s.paths) (sym n.fresh.spec)
 
@@ -62,12 +62,12 @@ pub none_fresh : (open_at : ℤ) (places : ℕ) (specs : List Stream) (paths : L
 none_fresh open_at places [] paths h = h
 none_fresh open_at places (s ∷ ss) paths h = absurd h
 
--- these streams are fresh, of some studio
+-- these ends are fresh ends of the streams of some studio
 abbrev pub AreSomeFresh : List PathEnd → List StreamEnd → Type 0
 AreSomeFresh paths ends = (open_at : ℤ) × (places : ℕ) × (specs : List Stream) × AllFreshStreams open_at places specs paths ends
 
 module _ {F C : Type 0} where
-  -- these jobs are made, and those of what is left follow them
+  -- these jobs were made, and the jobs of what is left follow them
   abbrev pub MakesJobs : List PathEnd → List F → List C → List StreamEnd → List (StreamJob F C) → List PathEnd → List F → List C → List StreamEnd → Type 0
   MakesJobs paths feeds clocks ends jobs left_paths left_feeds left_clocks left_ends =
       (later : List (StreamJob F C)) → AreJobsOf left_paths left_feeds left_clocks left_ends later → AreJobsOf paths feeds clocks ends (jobs ++ later)
@@ -91,7 +91,7 @@ module _ {F C : Type 0} where
   room-more [] job h one = (one, tt)
   room-more (j ∷ js) job h one = (h.0, room-more js job h.1 one)
 
--- the streams that are left are fresh still
+-- the ends that are left are still fresh
 pub fresh-left : {F : Type 0} (before after : List PathEnd) (paths : List (PathJob F)) (end : StreamEnd) (more : List StreamEnd) → AreSomeFresh before (end ∷ more) → before ≡ ends_of paths ++ after → length paths ≡ end.spec.paths → AreSomeFresh after more
 fresh-left {F = F} before after paths end more h is count =
     let n = next_stream h.0 h.1 h.2 before end more h.3 in

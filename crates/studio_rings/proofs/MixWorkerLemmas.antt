@@ -1,4 +1,4 @@
--- The datagrams that the mixer's worker gave, turn by turn.
+-- The datagrams that the mixer's worker made, turn by turn.
 use Rattle.std.proofs.Common.{◌≡◌, ℕ, ◌+◌, ◌<◌, ◌^◌, Bool, true, false, ℤ, List, [], ◌∷◌, ◌++◌, length, take, Option, Some, None, is_some, IfSome, refl, sym, ap, subst, ◌∙◌, arith, append_assoc, append-nil, length-append, vec_items}
 use Rattle.rtrb.specs.Ring.{SameConsumer}
 use Rattle.rtrb.specs.declared.consumer.Consumer.{Consumer}
@@ -20,7 +20,7 @@ use Rattle.studio_rings.proofs.GainRequestLemmas.{more_taken, no_more, with_chan
 consumers : {T A P : Type 0} (a b c : Consumer T A P) → SameConsumer a b → SameConsumer b c → SameConsumer a c
 consumers a b c f g = ((g.0.0 ∙ f.0.0, g.0.1 ∙ f.0.1, g.0.2 ∙ f.0.2, g.0.3 ∙ f.0.3), g.1 ∙ f.1)
 
--- the same rings as they were
+-- rings that did not change are the same rings
 rings-self : (ss : List (TokenConsumer MarkView)) → AreSameSides ss ss
 rings-self [] = tt
 rings-self (s ∷ ss) = ((((refl, refl, refl, refl), refl), refl), rings-self ss)
@@ -49,7 +49,7 @@ hands-more o None (Some all) xs ys h k = absurd k
 hands-more None (Some mid) (Some all) xs ys h k = absurd h
 hands-more (Some before) (Some mid) (Some all) xs ys h k = k ∙ (ap (λ l. l ++ ys) h ∙ append_assoc before xs ys)
 
--- the datagram lies at the front, in its length
+-- the datagram that was returned is the octets at the start of `out`
 one_given : (P : ℕ → Type 0) (studio : Studio) (t : MixEnd) (before : List (List ℕ)) (out : List ℕ) (size : ℕ) (len : Option ℕ) → is_some len ≡ true → size ≡ datagram_length studio.output
     → IfSome len (λ l. (l ≡ datagram_length studio.output) × P l) → HasGiven studio t (given_after before len out) → HasGiven studio t (before ++ take size out ∷ [])
 one_given P studio t before out size None some size_is len_is h = absurd (cc)
@@ -82,7 +82,7 @@ module _ {K : Type 0} (handed : K → Option (List (List ℕ))) where
     all = λ e studio before h. subst (AreAllGiven studio u) (append_assoc before a.datagrams b.datagrams) (b.all e studio (before ++ a.datagrams) (a.given studio before h));
   }
 
-  -- a turn that gave none
+  -- a turn that returned no datagram
   pub mixes-idle : (s t : MixEnd) (sink : K) (n : ℕ) (len : Option ℕ) (out : List ℕ) (idle : Bool) → len ≡ None → AllTakeSome s.sides.items t.sides.items
       → ((studio : Studio) (datagrams : List (List ℕ)) → HasGiven studio s datagrams → HasGiven studio t (given_after datagrams len out))
       → ((studio : Studio) (datagrams : List (List ℕ)) → HasGiven studio s datagrams → AreAllGiven studio t datagrams)
@@ -96,7 +96,7 @@ module _ {K : Type 0} (handed : K → Option (List (List ℕ))) where
     all = λ e studio before h. subst (AreAllGiven studio t) (sym (append-nil before)) (all studio before h);
   }
 
-  -- whether or not it found nothing
+  -- what holds if a worker was idle holds without that claim
   pub mixes-on : (s t : MixEnd) (sink new_sink : K) (n m : ℕ) (idle : Bool) → Mixes handed s sink n idle t new_sink m → Mixes handed s sink n false t new_sink m
   mixes-on s t sink new_sink n m idle h = record {
     datagrams = h.datagrams;
@@ -107,7 +107,7 @@ module _ {K : Type 0} (handed : K → Option (List (List ℕ))) where
     all = λ e. absurd (cc);
   }
 
-  -- a turn that gave one, which was handed on
+  -- a turn that returned a datagram, which was passed to the sink
   pub mixes-one : (s t : MixEnd) (sink new_sink : K) (n m : ℕ) (note : MixNote) (size : ℕ) (out new_out sent : List ℕ) → is_some note.len ≡ true → (n + 1 < 2 ^ 64 → m ≡ n + 1)
       → size ≡ datagram_length s.mixer.packer.spec → sent ≡ take size new_out → AllTakeSome s.sides.items t.sides.items
       → ((studio : Studio) (number : ℕ) → MixHasFeeds studio s number → MixesBlock studio s note t number out new_out)
@@ -126,12 +126,12 @@ module _ {K : Type 0} (handed : K → Option (List (List ℕ))) where
     all = λ e. absurd (cc);
   }
 
-  -- before the first turn
+  -- a worker before its first turn
   pub with-none : (s : MixEnd) (sink : K) (n : ℕ) (taken : List (ℤ × List ℤ)) → MixesWith handed s sink n false s sink n taken taken
   with-none s sink n taken = let none = mixes-none s sink n in
       record { changes = []; taken = sym (append-nil taken); datagrams = none.datagrams; count = none.count; hands = none.hands; rings = none.rings; given = none.given; all = none.all }
 
-  -- changes, and then a turn
+  -- changes of gains, and then a turn
   pub with-turn : (s t u : MixEnd) (sink new_sink : K) (n m : ℕ) (idle : Bool) (first last : List (ℤ × List ℤ)) → TakesChanges s t first last → Mixes handed t sink n idle u new_sink m
       → MixesWith handed s sink n idle u new_sink m first last
   with-turn s t u sink new_sink n m idle first last h k = record {
@@ -166,12 +166,12 @@ module _ {K : Type 0} (handed : K → Option (List (List ℕ))) where
         (subst (AreAllGiven (with_changes (with_changes studio f.changes) g.changes) u) (append_assoc before f.datagrams g.datagrams) (g.all e (with_changes studio f.changes) (before ++ f.datagrams) (f.given studio before h)));
   }
 
-  -- whether or not it found nothing
+  -- what holds if a worker was idle holds without that claim
   pub with-on : (s t : MixEnd) (sink new_sink : K) (n m : ℕ) (idle : Bool) (a b : List (ℤ × List ℤ)) → MixesWith handed s sink n idle t new_sink m a b → MixesWith handed s sink n false t new_sink m a b
   with-on s t sink new_sink n m idle a b h =
       record { changes = h.changes; taken = h.taken; datagrams = h.datagrams; count = h.count; hands = h.hands; rings = h.rings; given = h.given; all = λ e. absurd (cc) }
 
-  -- a worker whose source took no change
+  -- a worker whose source took no change of gains
   pub mixes-unchanged : (s t : MixEnd) (sink new_sink : K) (n m : ℕ) (idle : Bool) (taken : List (ℤ × List ℤ)) → MixesWith handed s sink n idle t new_sink m taken taken → Mixes handed s sink n idle t new_sink m
   mixes-unchanged s t sink new_sink n m idle taken h =
       let none : h.changes ≡ [] = no_more taken h.changes h.taken in

@@ -1,4 +1,4 @@
--- The jobs of the streams, the last of them taken off.
+-- The jobs of the streams, without the last one.
 use Rattle.std.proofs.Common.{◌≡◌, List, [], ◌∷◌, ◌++◌, Option, Some, None, IfSome, subst, append-nil, ◌∙◌}
 use Rattle.std.specs.Option.{option_to_list}
 use Rattle.studio_rings.specs.StreamWorkers.{AllReady, IsReady}

@@ -56,7 +56,7 @@ map_joined : {A B : Type 0} (f : A → B) (xs ys : List A) → map f (xs ++ ys) 
 map_joined f [] ys = refl
 map_joined f (x ∷ xs) ys = ap (λ l. f x ∷ l) (map_joined f xs ys)
 
--- each stream's ring of marks has so many places
+-- each stream's ring of marks has `places` places
 abbrev pub HavePlaces : ℕ → List StreamEnd → Type 0
 HavePlaces places [] = Unit {0}
 HavePlaces places (end ∷ ends) = (producer_capacity end.marks ≡ places) × HavePlaces places ends
@@ -76,7 +76,7 @@ have-places open_at places (stream ∷ specs) paths (end ∷ ends) (monitor ∷ 
 have-places open_at places (stream ∷ specs) paths (end ∷ ends) (monitor ∷ monitors) (side ∷ sides) fresh rings =
     (fresh_places open_at places stream fresh.0 end monitor side fresh.3 rings.0, have-places open_at places specs fresh.1 ends monitors sides fresh.4 rings.1)
 
--- all streams have whole histories, whose marks the tokens tell
+-- all streams have whole histories, and the tokens report their marks
 pub record HaveAll (open_at : ℤ) (places : ℕ) (specs : List Stream) (told : List (List Answer)) (clocks : List (List ℤ)) (results : List StreamResult) : Type 0 where
   pub histories : List (List Event)
   pub streams : HaveStreamHistories open_at places specs told clocks (counts_in results) histories
@@ -204,16 +204,16 @@ module _ {F C : Type 0} where
         };
       }
 
--- a settled run that took no change is one of its studio
+-- a settled run that took no change of gains is a settled run of its studio
 pub settled-unchanged : (studio : Studio) (places : ℕ) (told : List (List Answer)) (clocks : List (List ℤ)) (report : WorkReport) (before after : Option (List (List ℕ))) (taken : List (ℤ × List ℤ))
     → IsSettledRunWith studio places told clocks report before after taken taken → IsSettledRun studio places told clocks report before after
 settled-unchanged studio places told clocks report before after taken h =
     subst (λ changes. IsSettledRun (with_changes studio changes) places told clocks report before after) (no_more taken h.changes h.taken) h.run
 
--- where there were no results before
+-- what holds of the new results holds of all, if there were none before
 pub zip_after : {A B : Type 0} (R : A → B → Type 0) (xs : List A) (before own all : List B) → before ≡ [] → all ≡ before ++ own → AllZip R xs own → AllZip R xs all
 zip_after R xs before own all none is zip = subst (λ l. AllZip R xs l) (sym (is ∙ ap (λ l. l ++ own) none)) zip
 
--- ends that one `open` gave, with their monitors
+-- ends that one call of `open` returned, with their monitors
 pub opened-together : (studio : Studio) (places : ℕ) (ends : Ends) → AreOpened studio places ends → AreOpenedTogether studio places ends
 opened-together studio places ends h = record { streams = h.streams; monitors = ends.monitors.items; rings = h.rings; mix = h.mix }

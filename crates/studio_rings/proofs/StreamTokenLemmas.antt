@@ -1,4 +1,4 @@
--- Tokens handed in one by one, and what a settled end tells.
+-- Tokens that are passed to the mixer's end one by one, and what follows once it is settled.
 use Rattle.std.proofs.Common.{◌≡◌, ◌↔◌, ℕ, suc, ◌<◌, true, false, List, [], ◌∷◌, ◌++◌, length, Option, Some, None, IfSome, IsSome, IsSomeAnd, MatchOption, slice_get, refl, sym, ap, subst, ◌∙◌, arith}
 use Rattle.rtrb.specs.Ends.{SameRing}
 use Rattle.rtrb.specs.Ring.{all_sent, received, IsFinishedOf, IsPair, SameConsumer}
@@ -22,7 +22,7 @@ use Rattle.studio_ends.specs.declared.stream_end.turns.StreamDone.{StreamDone}
 use Rattle.studio_rings.specs.MixWorker.{AreSameSides}
 use Rattle.studio_rings.specs.StreamTokens.{AllGiveTokens, AllTellMarks, AreAllDrained, AreTokensOf, HasTokenOf, HaveTokens}
 
--- one token is handed in at a place, if there is one
+-- one token, if there is one, is passed to the consumer at this place
 abbrev pub HandsInOne : Option StreamDone → List (TokenConsumer MarkView) → ℕ → List (TokenConsumer MarkView) → Type 0
 HandsInOne None mids place news = news ≡ mids
 HandsInOne (Some done) mids place news = HandsIn mids place (all_sent done.token) news
@@ -54,7 +54,7 @@ tokens-more (d ∷ ds) one later [] mids news t h step = absurd t
 tokens-more (d ∷ ds) one later (o ∷ os) [] news t h step = absurd h
 tokens-more (d ∷ ds) one later (o ∷ os) (m ∷ ms) news t h step = next_token one d ds o m os ms news h.0 (λ ns s. tokens-more ds one later os ms ns t.1 h.1 s) step
 
--- the next token is of the ring at its place
+-- the next token is that of the ring at its place
 pub token-at : (dones : List (Option StreamDone)) (done : StreamDone) (later : List (Option StreamDone)) (olds mids : List (TokenConsumer MarkView)) (side : TokenConsumer MarkView)
     → AreTokensOf (dones ++ Some done ∷ later) olds → HaveTokens dones olds mids → slice_get mids (length dones) ≡ Some side → IsFinishedOf done.token side.ring
 token-at [] done later [] mids side t h at = absurd t
@@ -79,7 +79,7 @@ ring_of : (one : Option StreamDone) (o m : TokenConsumer MarkView) → HasTokenO
 ring_of None o m h = ap (λ (s : TokenConsumer MarkView). received s.ring) h
 ring_of (Some d) o m h = ap received h.ring
 
--- tokens change nothing of what came
+-- tokens do not change which marks were accepted
 pub feeds-settled : (streams : List Stream) (dones : List (Option StreamDone)) (olds mids : List (TokenConsumer MarkView)) → HaveTokens dones olds mids → accepted_feeds streams mids ≡ accepted_feeds streams olds
 feeds-settled [] dones olds mids h = refl
 feeds-settled (s ∷ ss) [] olds mids h = ap (accepted_feeds (s ∷ ss)) h
@@ -90,20 +90,20 @@ feeds-settled (s ∷ ss) (d ∷ ds) (o ∷ os) (m ∷ ms) h =
     ∙ ap (λ (l : List Feed). record { stream = s; marks = accepted_marks (format_of s) (received o.ring) } ∷ l) (feeds-settled ss ds os ms h.1)
 
 module _ {A P : Type 0} where
-  -- a ring with no token isn't drained
+  -- a ring whose consumer has no token is not drained
   undrained : (ring : Consumer MarkView A P) (was now : Option (Finished MarkView A P)) → was ≡ None
       → MatchOption was (now ≡ None) (λ d. IsSomeAnd now (λ e. all_sent e ≡ all_sent d)) → IsDrained ring now → ⊥
   undrained ring None now e looked drained = subst (IsDrained ring) looked drained
   undrained ring (Some d) now e looked drained = absurd (cc)
 
-  -- what a token tells stays
+  -- looking at a ring does not change what its token reports
   told_after : (all marks : List MarkView) (was now : Option (Finished MarkView A P)) → IfSome was (λ d. all_sent d ≡ all)
       → MatchOption was (now ≡ None) (λ d. IsSomeAnd now (λ e. all_sent e ≡ all_sent d)) → all ≡ marks → IfSome now (λ d. all_sent d ≡ marks)
   told_after all marks None now tells looked is = subst (λ o. IfSome o (λ d. all_sent d ≡ marks)) (sym looked) tt
   told_after all marks (Some d) None tells looked is = tt
   told_after all marks (Some d) (Some e) tells looked is = looked ∙ (tells ∙ is)
 
-  -- with a token that tells these marks, a ring is drained where all of them came
+  -- a ring whose token reports these marks is drained exactly if it received them
   drained_by : (ring : Consumer MarkView A P) (all : List MarkView) (was now : Option (Finished MarkView A P)) → IsSome was → IfSome was (λ d. all_sent d ≡ all)
       → MatchOption was (now ≡ None) (λ d. IsSomeAnd now (λ e. all_sent e ≡ all_sent d)) → IsDrained ring now ↔ (received ring ≡ all)
   drained_by ring all None now some tells looked = absurd (let e : false ≡ true = some in cc)
@@ -117,7 +117,7 @@ one_drained (Some d) o m n before h looked =
     let same : received n.ring ≡ received o.ring = looked.received_is ∙ ap received h.ring in
     (λ drained. sym same ∙ t.0 drained, λ all. t.1 (same ∙ all))
 
--- with the tokens handed in, all rings are drained exactly where all that the tokens tell came
+-- once the tokens were passed, all rings are drained exactly if everything that the tokens report was received
 pub drained-exactly : (dones : List (Option StreamDone)) (olds mids news : List (TokenConsumer MarkView)) → AreTokensOf dones olds → HaveTokens dones olds mids → AllLookAt mids news → AllDrained news ↔ AreAllDrained dones olds
 drained-exactly [] [] [] [] t h looked = (λ d. d, λ d. d)
 drained-exactly [] [] [] (n ∷ ns) t h looked = absurd looked
@@ -135,7 +135,7 @@ one_gives : (one : Option StreamDone) (o m n : TokenConsumer MarkView) → o.don
 one_gives None o m n before h looked drained = absurd (undrained n.ring m.done n.done (ap (λ (s : TokenConsumer MarkView). s.done) h ∙ before) looked.done drained)
 one_gives (Some d) o m n before h looked drained = refl
 
--- where all are drained, each stream gave a token
+-- if all rings are drained, each stream returned a token
 pub all-gave : (dones : List (Option StreamDone)) (olds mids news : List (TokenConsumer MarkView)) → AreTokensOf dones olds → HaveTokens dones olds mids → AllLookAt mids news → AllDrained news → AllGiveTokens dones
 all-gave [] olds mids news t h looked drained = tt
 all-gave (d ∷ ds) [] mids news t h looked drained = absurd t
@@ -148,7 +148,7 @@ one_tells : (one : Option StreamDone) (o m n : TokenConsumer MarkView) (marks : 
 one_tells None o m n marks before h looked drained told = absurd (undrained n.ring m.done n.done (ap (λ (s : TokenConsumer MarkView). s.done) h ∙ before) looked.done drained)
 one_tells (Some d) o m n marks before h looked drained told = told_after (all_sent d.token) marks m.done n.done h.tells looked.done told
 
--- and the ends tell what the tokens told
+-- the tokens at the mixer's end report the same marks as the tokens of the streams
 pub all-tell : (dones : List (Option StreamDone)) (feeds : List Feed) (olds mids news : List (TokenConsumer MarkView)) → AreTokensOf dones olds → HaveTokens dones olds mids → AllLookAt mids news → AllDrained news
     → AllTellMarks dones feeds → AllTell news feeds
 all-tell [] [] [] mids news t h looked drained told = none_tell mids news h looked
@@ -179,7 +179,7 @@ one_of s (Some d) o n pair same token =
     let r = same.0 in
     (r.0 ∙ (pair.0 ∙ sym token.0), r.1 ∙ (pair.1 ∙ sym token.1), r.2 ∙ (pair.2 ∙ sym token.2), r.3 ∙ (pair.3 ∙ sym token.3))
 
--- where the ends were opened together, each token is that of the mixer's ring at its place
+-- if the ends were opened together, each token is that of the mixer's ring at its place
 pub tokens-opened : (places : ℕ) (ss : List StreamEnd) (monitors : List MonitorEnd) (olds news : List (TokenConsumer MarkView)) (dones : List (Option StreamDone))
     → AllFreshRings places ss monitors olds → AreSameSides olds news → AreTokensFor ss dones → AreTokensOf dones news
 tokens-opened places [] [] [] [] [] fresh same tokens = tt

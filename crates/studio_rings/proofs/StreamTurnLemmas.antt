@@ -30,7 +30,7 @@ use Rattle.studio_rings.specs.ClockTurns.{AreFew, GoByClock, IsTurnAt, events_in
 use Rattle.studio_rings.specs.Turns.{AreSameRings, CatchesUp, GoesOn, HaveArrived, HaveTold, KeepsTokens, ReadsFirst}
 use Rattle.studio_rings.specs.declared.worker.clocked_stream.ClockedStream.{ClockedStream}
 
--- rings that are the same as ones that are the same
+-- two rings that are the same as a third are the same
 pub consumers : {T A P : Type 0} (a b c : Consumer T A P) → SameConsumer a b → SameConsumer b c → SameConsumer a c
 consumers a b c f g = ((g.0.0 ∙ f.0.0, g.0.1 ∙ f.0.1, g.0.2 ∙ f.0.2, g.0.3 ∙ f.0.3), g.1 ∙ f.1)
 
@@ -53,7 +53,7 @@ module _ {T : Type 0} where
   rings-looked [] (n ∷ ns) h = absurd h
   rings-looked (o ∷ os) [] h = absurd h
 
-  -- a look leaves what a token tells
+  -- looking at a ring does not change what its token reports
   told_looked : {A P : Type 0} (all : List T) (old new : Option (Finished T A P)) → MatchOption old (new ≡ None) (λ d. IsSomeAnd new (λ e. all_sent e ≡ all_sent d)) → IfSome old (λ d. all_sent d ≡ all) → IfSome new (λ e. all_sent e ≡ all)
   told_looked all None new m h = subst (λ o. IfSome o (λ e. all_sent e ≡ all)) (sym m) tt
   told_looked all (Some d) None m h = tt
@@ -74,12 +74,12 @@ module _ {T : Type 0} where
   looks_self [] = tt
   looks_self (side ∷ sides) = (record { ring = ((refl, refl, refl, refl), refl); received_is = refl; done = done_self side.done }, looks_self sides)
 
-  -- where all was received, it is what the token tells
+  -- a drained ring received what its token reports
   received_told : {A P : Type 0} (all : List T) (ring : Consumer T A P) (done : Option (Finished T A P)) → IsDrained ring done → IfSome done (λ d. all_sent d ≡ all) → received ring ≡ all
   received_told all ring None h told = absurd h
   received_told all ring (Some d) h told = h ∙ told
 
--- a look, also where nothing was looked at
+-- looking at the rings, or not looking at any
 pub looked-either : (s t : StreamEnd) → AllLookAt s.sides.items t.sides.items ⊎ (t ≡ s) → AllLookAt s.sides.items t.sides.items
 looked-either s t (inl looked) = looked
 looked-either s t (inr same) = subst (λ (x : StreamEnd). AllLookAt s.sides.items x.sides.items) (sym same) (looks_self s.sides.items)
@@ -92,7 +92,7 @@ rings-taken [] [] (packets ∷ more) h = absurd h
 rings-taken (o ∷ os) [] taken h = absurd h
 rings-taken (o ∷ os) (n ∷ ns) [] h = absurd h
 
--- where the rings were left as they were first
+-- the packets that were taken, if the rings were unchanged before
 pub took-first : (s m t : StreamEnd) (taken : List (List Packet)) → m.sides ≡ s.sides → AllTakePackets m.sides.items t.sides.items taken → AllTakePackets s.sides.items t.sides.items taken
 took-first s m t taken same took = subst (λ (v : Vec (TokenConsumer Packet) _). AllTakePackets v.items t.sides.items taken) same took
 
@@ -110,7 +110,7 @@ pub events-joined : (xs ys : List (List Event)) → events_in (xs ++ ys) ≡ eve
 events-joined [] ys = refl
 events-joined (x ∷ xs) ys = ap (λ l. x ++ l) (events-joined xs ys) ∙ sym (append_assoc x (events_in xs) (events_in ys))
 
--- a turn after one answer more, and those that follow it
+-- a turn after one more clock reading, and the turns that follow it
 one_more : (stream : Stream) (open_at : ℤ) (places : ℕ) (time answer now : ℤ) (told rest : List ℤ) (before turn : List Event) (later : List (List Event))
     → TellsTime told answer rest → now ≡ time_with time answer → IsTurnAt stream open_at places now before turn
     → GoByClock stream open_at places now rest (before ++ (turn ++ [])) later → GoByClock stream open_at places time told before (turn ∷ later)
@@ -132,7 +132,7 @@ stopped NoRoom reached now marks free A B h batch room = inr (inr (room h))
 sent_all : (stream : Stream) (open_at : ℤ) (s : StreamEnd) (events : List Event) → s.merge.closed ≡ false → StreamHasHistory stream open_at s events → length (sent s.marks) ≡ length (marks_of stream open_at events)
 sent_all stream open_at s events shut h = h.merge.all_given (sym h.merge.closed ∙ shut)
 
--- nothing came first, or a reading
+-- before the packets there was no event, or a clock reading
 pub first-none : (s : StreamEnd) (now : ℤ) → s.merge.closed ≡ false → s.merge.time ≤ℤ now → ReadsFirst s now s
 first-none s now shut low = record {
   first = [];
@@ -191,7 +191,7 @@ is-turn-at stream open_at places s m t now note events f n shut room h =
       caught_up = stopped note.why_stopped note.reached now note.marks (known_free t.marks) _ _ n.stop (λ e. omega (arith, e, before, after, first, gained)) (λ e. omega (arith, e, after, same, within, room));
     }
 
--- what a turn came to, whatever came first
+-- how far a turn came, whatever came before its packets
 pub catches-up : (s m t : StreamEnd) (first_at now time : ℤ) (note : TurnNote) → now ≡ time → ReadsFirst s first_at m → TakesTurn m now note t → CatchesUp s time t
 catches-up s m t first_at now time note same f n =
     let first = f.more in
@@ -236,7 +236,7 @@ module _ {C : Type 0} (told : C → List ℤ) where
       whole : (stream : Stream) (events : List Event) → (events ++ events_in (f.turns stream)) ++ events_in (g.turns stream) ≡ events ++ events_in (f.turns stream ++ g.turns stream)
       whole stream events = append_assoc events (events_in (f.turns stream)) (events_in (g.turns stream)) ∙ ap (λ l. events ++ l) (sym (events-joined (f.turns stream) (g.turns stream)))
 
-  -- a turn at the clock's next answer, and what came first
+  -- a stream went on by a turn at the clock's next reading, whatever came before its packets
   pub goes-turn : (s t : ClockedStream C) (m : StreamEnd) (answer first_at now : ℤ) (note : TurnNote) → TellsTime (told s.clock) answer (told t.clock) → t.now ≡ time_with s.now answer → first_at ≡ t.now → now ≡ t.now → ReadsFirst s.end first_at m → TakesTurn m now note t.end → GoesOn told s t
   goes-turn s t m answer first_at now note tells is first_same same first' n' =
       let f : ReadsFirst s.end t.now m = subst (λ u. ReadsFirst s.end u m) first_same first' in
@@ -254,7 +254,7 @@ module _ {C : Type 0} (told : C → List ℤ) where
             (is-turn-at stream open_at places s.end m t.end t.now note events f n s.open_yet room h) last;
       }
 
-  -- a look that found a path open
+  -- a stream went on by a look that found a path open
   pub goes-look : (s t : ClockedStream C) → AllLookAt s.end.sides.items t.end.sides.items → t.end.merge ≡ s.end.merge → t.end.marks ≡ s.end.marks → t.end.spec ≡ s.end.spec → t.now ≡ s.now → t.clock ≡ s.clock → GoesOn told s t
   goes-look s t looked merge marks spec now clock = goes-still s t (rings-looked s.end.sides.items t.end.sides.items looked) (rw marks (((refl, refl, refl, refl), refl))) spec now clock
       (λ stream open_at events h. record {
@@ -264,7 +264,7 @@ module _ {C : Type 0} (told : C → List ℤ) where
         marks = rw marks h.marks;
       })
 
--- all that was told arrived, where all was received
+-- everything that the tokens report arrived, if all rings are drained
 arrived : (stream : Stream) (path : ℕ) (olds news : List (TokenConsumer Packet)) (lists : List (List Packet)) (events : List Event)
     → AllLookAt olds news → AllDrained news → HaveTold olds lists → AllDelivered stream path olds events → HaveArrived stream path lists events
 arrived stream path [] [] [] events l d told h = h

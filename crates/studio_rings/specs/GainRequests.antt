@@ -6,11 +6,12 @@ use Rattle.studio_mix.specs.Changed.{with_changes}
 use Rattle.studio_ends.specs.Datagrams.{HasGiven}
 use Rattle.studio_ends.specs.declared.mix_end.MixEnd.{MixEnd}
 
--- where the mixer's next block begins
+-- the time at which the mixer's next block begins
 abbrev pub next_start : MixEnd → ℤ
 next_start end = block_start end.mixer.packer.spec end.mixer.packer.number
 
--- the end took exactly these changes more, and the datagrams that it gave are those of the studio that has them
+-- the mixer's end took exactly the changes from `first` to `last`, and the datagrams that it returned so far are also
+-- those of the studio with these changes
 pub record TakesChanges (s t : MixEnd) (first last : List (ℤ × List ℤ)) : Type 0 where
   pub changes : List (ℤ × List ℤ)
   pub taken : last ≡ first ++ changes

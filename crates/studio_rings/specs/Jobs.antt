@@ -1,4 +1,4 @@
--- The way of the ends and the feeds of a studio to its workers.
+-- How the ends, the feeds and the clocks of a studio are divided among its workers.
 use Rattle.std.specs.Prelude.{◌≡◌, ◌≤◌, List, [], ◌∷◌, ◌++◌, length, map, vec_len, vec_capacity}
 use Rattle.studio_ends.specs.declared.path_end.PathEnd.{PathEnd}
 use Rattle.studio_ends.specs.declared.stream_end.StreamEnd.{StreamEnd}
@@ -11,7 +11,8 @@ module _ {F : Type 0} where
   feeds_in paths = map (λ (path : PathJob F). path.feed) paths
 
 module _ {F C : Type 0} where
-  -- the paths' ends, the feeds and the clocks go to the streams in their order: to each as many as it has paths, and one clock
+  -- the jobs have the paths' ends, the feeds and the clocks in their order: each job has an end and a feed for each
+  -- path of its stream, and one clock
   abbrev pub AreJobsOf : List PathEnd → List F → List C → List StreamEnd → List (StreamJob F C) → Type 0
   AreJobsOf paths feeds clocks [] [] = (paths ≡ []) × (feeds ≡ []) × (clocks ≡ [])
   AreJobsOf paths feeds clocks (end ∷ ends) (job ∷ jobs) =
@@ -20,7 +21,7 @@ module _ {F C : Type 0} where
   AreJobsOf paths feeds clocks [] (job ∷ jobs) = ⊥
   AreJobsOf paths feeds clocks (end ∷ ends) [] = ⊥
 
-  -- there is a flag for each path, and room for what it comes to
+  -- a job has a flag for each path, and room for the path's result, counts and number of faults
   pub record HasRoom (job : StreamJob F C) : Type 0 where
     pub ended : vec_len job.paths ≤ vec_len job.ended
     pub no_results : vec_len job.results ≡ 0

@@ -1,4 +1,4 @@
--- The datagrams that the mixer's worker gives, and those that its sink is passed.
+-- The datagrams that the mixer's worker makes, and those that are passed to its sink.
 use Rattle.std.specs.Prelude.{◌≡◌, ℕ, ◌+◌, ◌<◌, ◌^◌, Bool, true, ℤ, List, [], ◌∷◌, ◌++◌, length, Option}
 use Rattle.rtrb.specs.Ring.{SameConsumer}
 use Rattle.rtp_stream.specs.MarkFacts.{MarkView}
@@ -17,7 +17,8 @@ AreSameSides [] (new ∷ news) = ⊥
 AreSameSides (old ∷ olds) [] = ⊥
 
 module _ {K : Type 0} where
-  -- the end gave some datagrams, and the sink was handed just these, each once, where it tells; where it was idle, no more can be given of what came
+  -- the mixer's end returned some datagrams. If the sink's contents are known, it was passed exactly these, each once.
+  -- If the end was idle, they complete the datagrams of all blocks that are ready by the accepted marks
   pub record Mixes (handed : K → Option (List (List ℕ))) (s : MixEnd) (sink : K) (counted : ℕ) (idle : Bool) (t : MixEnd) (new_sink : K) (new_counted : ℕ) : Type 0 where
     pub datagrams : List (List ℕ)
     pub count : counted + length datagrams < 2 ^ 64 → new_counted ≡ counted + length datagrams
@@ -26,7 +27,7 @@ module _ {K : Type 0} where
     pub given : (studio : Studio) (before : List (List ℕ)) → HasGiven studio s before → HasGiven studio t (before ++ datagrams)
     pub all : idle ≡ true → (studio : Studio) (before : List (List ℕ)) → HasGiven studio s before → AreAllGiven studio t (before ++ datagrams)
 
-  -- the same, of the studio with exactly the changes of gains that the source took
+  -- `Mixes`, for the studio with exactly the changes of gains that the source took
   pub record MixesWith (handed : K → Option (List (List ℕ))) (s : MixEnd) (sink : K) (counted : ℕ) (idle : Bool) (t : MixEnd) (new_sink : K) (new_counted : ℕ) (first last : List (ℤ × List ℤ)) : Type 0 where
     pub changes : List (ℤ × List ℤ)
     pub taken : last ≡ first ++ changes

@@ -12,8 +12,8 @@ use Rattle.studio_io.specs.Answers.{Answer, CountsOthers, IsPartOf, packets_in, 
 use Rattle.studio_rings.specs.declared.jobs.PathJob.{PathJob}
 use Rattle.studio_rings.specs.declared.jobs.PathResult.{PathResult}
 
--- a datagram was offered, and again while it found no room, but at most 1,000 times more: its packet was sent at most
--- once, and once where fewer than 1,001 of these offers found no room
+-- a datagram was offered, and again while the ring was full, but at most 1,000 times more. Its packet was sent at most
+-- once. It was sent if fewer than 1,001 of these offers found the ring full
 pub record OffersAgain (octets : List ℕ) (p q : PathEnd) : Type 0 where
   pub ring : SameProducer p.ring q.ring
   pub spec : q.spec ≡ p.spec
@@ -24,9 +24,10 @@ pub record OffersAgain (octets : List ℕ) (p q : PathEnd) : Type 0 where
   pub offered : p.counts.offered ≤ q.counts.offered
   pub few : q.counts.offered ≤ p.counts.offered + 1001
 
--- what was sent in all, of a feed that told its answers: packets of its datagrams, in order, each at most once, and all of
--- them where at most 1,000 offers found no room; for each that is lacking 1,001 offers found none, and each other datagram
--- was counted once; there were at most 1,001 offers for each datagram
+-- what was sent in all from a feed with the results `told`: packets of its datagrams, in order, each at most once. All
+-- of them were sent if at most 1,000 offers found the ring full. For each packet that is missing, 1,001 offers found
+-- the ring full. Each datagram that is not a packet of the stream was counted once. There were at most 1,001 offers for
+-- each datagram
 pub record SendsFeed (told : List Answer) (p : PathEnd) (sent_in_all : List Packet) (counts : PathCounts) : Type 0 where
   pub more : List Packet
   pub sends : sent_in_all ≡ sent p.ring ++ more
@@ -36,7 +37,8 @@ pub record SendsFeed (told : List Answer) (p : PathEnd) (sent_in_all : List Pack
   pub others : counts.offered < 2 ^ 62 → CountsOthers p.spec (told_datagrams 0 told) (path_tally_of p.counts) (path_tally_of counts)
   pub offered : counts.offered ≤ p.counts.offered + 1001 * length (told_datagrams 0 told)
 
--- the same on the way, where these answers are left, so many faults have come in a row, and these datagrams were tried
+-- `SendsFeed` before the feed has ended: the results `left` are still to come, after `faults` faults in a row, and the
+-- datagrams `tried` were offered
 pub record SendsSoFar (told : List Answer) (p : PathEnd) (left : List Answer) (faults : ℕ) (q : PathEnd) : Type 0 where
   pub ring : SameProducer p.ring q.ring
   pub spec : q.spec ≡ p.spec
@@ -57,7 +59,9 @@ abbrev pub IsTokenOf : PathEnd → PathDone → Type 0
 IsTokenOf p done = SameRing p.ring.end done.token.end
 
 module _ {F : Type 0} where
-  -- what a path's worker came to: the token of its end, which tells packets of the stream, each counted, and which of its feed's packets they are
+  -- the result of a path's worker. Its token, if it has one, is that of the job's ring, and reports packets of the
+  -- stream's length, whose number was counted. If the results of the feed are known to its end, `SendsFeed` says which
+  -- of its packets these are
   pub record IsPathResult (told : F → List Answer) (job : PathJob F) (result : PathResult) : Type 0 where
     pub token : IfSome result.done (λ done. IsTokenOf job.end done)
     pub fit : IfSome result.done (λ done. fitting job.end.spec (all_sent done.token) ≡ all_sent done.token)

@@ -19,9 +19,10 @@ use Rattle.studio_rings.specs.ClockTurns.{GoByClock, events_in}
 use Rattle.studio_io.specs.Sinks.{Hands}
 use Rattle.studio_io.specs.declared.report.WorkReport.{WorkReport}
 
--- the arrivals of a path are packets of its feed's datagrams, in order, each at most once, and all of them where at most
--- 1,000 offers found no room; for each that is lacking 1,001 offers found none, and each other datagram was counted once;
--- there were at most 1,001 offers for each datagram
+-- the arrivals on a path were all sent by its worker. If the results of its feed are known to the end, they are packets
+-- of the feed's datagrams, in order, each at most once. All of them arrived if at most 1,000 offers found the ring
+-- full. For each packet that is missing, 1,001 offers found the ring full. Each datagram that is not a packet of the
+-- stream was counted once. There were at most 1,001 offers for each datagram
 pub record HasPathHistory (stream : Stream) (path : ℕ) (told : List Answer) (counts : PathCounts) (events : List Event) : Type 0 where
   pub sent : counts.sent ≡ length (packets_by path events)
   pub some : reaches_end 0 told ≡ true → IsPartOf (packets_by path events) (told_packets stream 0 told)
@@ -30,18 +31,19 @@ pub record HasPathHistory (stream : Stream) (path : ℕ) (told : List Answer) (c
   pub others : reaches_end 0 told ≡ true → counts.offered < 2 ^ 62 → CountsOthers stream (told_datagrams 0 told) empty_path_tally (path_tally_of counts)
   pub offered : reaches_end 0 told ≡ true → counts.offered ≤ 1001 * length (told_datagrams 0 told)
 
--- so it is of each path, from this one on
+-- each path from this one on has such a history
 abbrev pub HavePathHistories : Stream → ℕ → List (List Answer) → List PathCounts → List Event → Type 0
 HavePathHistories stream path [] [] events = Unit {0}
 HavePathHistories stream path (told ∷ more) (counts ∷ rest) events = HasPathHistory stream path told counts events × HavePathHistories stream (suc path) more rest events
 HavePathHistories stream path [] (counts ∷ rest) events = ⊥
 HavePathHistories stream path (told ∷ more) [] events = ⊥
 
--- how many packets its paths sent
+-- the number of packets that the paths of a stream sent
 abbrev pub sent_total : List PathCounts → ℕ
 sent_total paths = sum_by (λ (counts : PathCounts). counts.sent) paths
 
--- a stream had this history, and came to its end by turns that go by what its clock tells
+-- a stream has this history: turns by the known readings of its clock, and then a close; its counts are those of the
+-- history
 pub record HasStreamHistory (open_at : ℤ) (places : ℕ) (stream : Stream) (told : List (List Answer)) (clock : List ℤ) (counts : StreamCounts) (events : List Event) : Type 0 where
   pub well_timed : is_well_timed open_at events ≡ true
   pub closed : is_closed events ≡ true
@@ -52,7 +54,8 @@ pub record HasStreamHistory (open_at : ℤ) (places : ℕ) (stream : Stream) (to
   pub arrived : sent_total counts.paths.items ≤ 2 ^ 62 → counts.merge.arrived ≡ sent_total counts.paths.items
   pub paths : HavePathHistories stream 0 told counts.paths.items events
 
--- so it is of each stream; the feeds stand stream by stream, as many as the stream has paths, and there is a clock for each
+-- each stream has such a history. The results of the feeds are ordered by stream, one for each path of the stream, and
+-- there is a clock for each stream
 abbrev pub HaveStreamHistories : ℤ → ℕ → List Stream → List (List Answer) → List (List ℤ) → List StreamCounts → List (List Event) → Type 0
 HaveStreamHistories open_at places [] told clocks [] [] = (told ≡ []) × (clocks ≡ [])
 HaveStreamHistories open_at places (stream ∷ streams) told clocks (counts ∷ rest) (events ∷ histories) =
@@ -70,7 +73,9 @@ feeds_of open_at [] histories = []
 feeds_of open_at (stream ∷ streams) [] = []
 feeds_of open_at (stream ∷ streams) (events ∷ histories) = record { stream = stream; marks = marks_of stream open_at events } ∷ feeds_of open_at streams histories
 
--- what a settled run over rings of so many places came to: each stream has a whole history, and a sink that tells at the end was handed the datagrams of exactly the ready blocks of their marks, in order
+-- the result of a settled run over rings of `places` places: each stream has a whole history. If the contents of the
+-- sink are known at the end, it was passed the datagrams of exactly the blocks that are ready by the streams' marks, in
+-- order
 pub record IsSettledRun (studio : Studio) (places : ℕ) (told : List (List Answer)) (clocks : List (List ℤ)) (report : WorkReport) (before after : Option (List (List ℕ))) : Type 0 where
   pub histories : List (List Event)
   pub streams : HaveStreamHistories studio.open_at places studio.streams told clocks report.streams.items histories
@@ -79,7 +84,7 @@ pub record IsSettledRun (studio : Studio) (places : ℕ) (told : List (List Answ
   pub count : length datagrams < 2 ^ 64 → report.blocks ≡ length datagrams
   pub handed : Hands before datagrams after
 
--- a settled run that began with this studio: a settled run of the studio with exactly the changes of gains that its source took
+-- a settled run that began with this studio, and ran the studio with exactly the changes of gains that its source took
 pub record IsSettledRunWith (studio : Studio) (places : ℕ) (told : List (List Answer)) (clocks : List (List ℤ)) (report : WorkReport) (before after : Option (List (List ℕ))) (first last : List (ℤ × List ℤ)) : Type 0 where
   pub changes : List (ℤ × List ℤ)
   pub taken : last ≡ first ++ changes

@@ -16,7 +16,8 @@ use Rattle.studio_rings.specs.Turns.{HaveArrived, HaveTold}
 use Rattle.studio_rings.specs.declared.worker.clocked_stream.ClockedStream.{ClockedStream}
 
 module _ {C : Type 0} where
-  -- after these events the stream made turns that go by its clock, these packets had arrived, and its end was closed
+  -- after these events the stream made turns by its clock; exactly these packets had arrived by then, and its end was
+  -- closed
   pub record HasClosedHistory (told : C → List ℤ) (stream : Stream) (open_at : ℤ) (s : ClockedStream C) (events : List Event) (t : StreamEnd) (lists : List (List Packet)) : Type 0 where
     pub turns : List (List Event)
     pub timed : GoByClock stream open_at (producer_capacity s.end.marks) s.now (told s.clock) events turns
@@ -24,20 +25,20 @@ module _ {C : Type 0} where
     pub arrived : HaveArrived stream 0 lists (events ++ events_in turns)
     pub stands : StreamHasHistory stream open_at t ((events ++ events_in turns) ++ Close ∷ [])
 
-  -- a stream went on, and was closed once all that the tokens tell had arrived
+  -- a stream went on, and was closed once everything that the tokens report had arrived
   pub record ClosesLater (told : C → List ℤ) (s : ClockedStream C) (t : StreamEnd) : Type 0 where
     pub marks : SameProducer s.end.marks t.marks
     pub history : (stream : Stream) (open_at : ℤ) (events : List Event) (lists : List (List Packet)) → HaveTold s.end.sides.items lists
         → StreamHasHistory stream open_at s.end events → HasClosedHistory told stream open_at s events t lists
 
--- an end handed on all marks that its history has
+-- a stream's end sent all marks of its history
 pub record Drains (s t : StreamEnd) : Type 0 where
   pub marks : SameProducer s.marks t.marks
   pub stands : (stream : Stream) (open_at : ℤ) (events : List Event) → StreamHasHistory stream open_at s events → StreamHasHistory stream open_at t events
   pub all : (stream : Stream) (open_at : ℤ) (events : List Event) → StreamHasHistory stream open_at t events → sent t.marks ≡ marks_of stream open_at events
 
 module _ {C : Type 0} where
-  -- a stream went on and was closed, its end handed on all marks, and was finished
+  -- a stream went on and was closed; its end sent all marks, and was finished
   pub record Finishes (told : C → List ℤ) (s : ClockedStream C) (done : Option StreamDone) (counts : Tally) : Type 0 where
     pub closed : StreamEnd
     pub closes : ClosesLater told s closed

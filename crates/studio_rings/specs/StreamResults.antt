@@ -9,7 +9,7 @@ use Rattle.studio_ends.specs.declared.stream_end.turns.StreamDone.{StreamDone}
 use Rattle.rtp_stream.specs.declared.stream_counts.StreamCounts.{StreamCounts}
 use Rattle.studio_rings.specs.declared.jobs.StreamResult.{StreamResult}
 
--- the ends were opened together, and nothing was done with them; the monitors' may be elsewhere
+-- the ends were opened together and not used yet; the monitors' ends may have been taken out
 pub record AreOpenedTogether (studio : Studio) (places : ℕ) (ends : Ends) : Type 0 where
   pub streams : AllFreshStreams studio.open_at places studio.streams ends.paths.items ends.streams.items
   pub monitors : List MonitorEnd
@@ -22,6 +22,6 @@ dones_in results = map (λ (result : StreamResult). result.done) results
 abbrev pub counts_in : List StreamResult → List StreamCounts
 counts_in results = map (λ (result : StreamResult). result.counts) results
 
--- how many numbers of faults there are
+-- how many feeds have their number of faults in the results
 abbrev pub fault_numbers : List StreamResult → ℕ
 fault_numbers results = sum_by (λ (result : StreamResult). vec_len result.faults) results

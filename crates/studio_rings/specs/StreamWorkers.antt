@@ -30,33 +30,34 @@ abbrev pub all_told : Option PathDone → List Packet
 all_told None = []
 all_told (Some done) = all_sent done.token
 
--- what a path's token tells
+-- the packets that a path's token reports, none if there is no token
 abbrev pub told_by : PathResult → List Packet
 told_by result = all_told result.done
 
--- each path gave its token
+-- each path returned its token
 abbrev pub PathsGiveTokens : List PathResult → Type 0
 PathsGiveTokens [] = Unit {0}
 PathsGiveTokens (result ∷ results) = IsSome result.done × PathsGiveTokens results
 
--- each token is that of the ring at its place
+-- each token, if there is one, is that of the ring at its place
 abbrev pub AllTokensFit : List PathResult → List (TokenConsumer Packet) → Type 0
 AllTokensFit [] [] = Unit {0}
 AllTokensFit (result ∷ results) (side ∷ sides) = IfSome result.done (λ done. IsFinishedOf done.token side.ring) × AllTokensFit results sides
 AllTokensFit [] (side ∷ sides) = ⊥
 AllTokensFit (result ∷ results) [] = ⊥
 
--- a token that there is, is that of the ring at this place
+-- the token, if there is one, is that of the ring at this place
 abbrev pub FitsAt : Option PathDone → ℕ → List (TokenConsumer Packet) → Type 0
 FitsAt None place sides = Unit {0}
 FitsAt (Some done) place sides = (place < length sides) × ((side : TokenConsumer Packet) → slice_get sides place ≡ Some side → IsFinishedOf done.token side.ring)
 
--- it is handed in where there is one
+-- the token is passed to the consumer at this place, if there is one
 abbrev pub HandsOne : Option PathDone → ℕ → List (TokenConsumer Packet) → Bool → List (TokenConsumer Packet) → Type 0
 HandsOne None place olds given news = (given ≡ false) × (news ≡ olds)
 HandsOne (Some done) place olds given news = (given ≡ true) × HandsIn olds place (all_sent done.token) news
 
--- after these events a stream made turns that go by its clock, and was closed; of its whole history these packets arrived, and these marks were sent
+-- after these events a stream made turns by its clock, and was closed. In its whole history exactly the packets of
+-- `lists` arrived, and its marks are those that were sent
 pub record HasEnded {C : Type 0} (clock_told : C → List ℤ) (stream : Stream) (open_at : ℤ) (s : ClockedStream C) (events : List Event) (lists : List (List Packet)) (result : StreamResult) (marks : List MarkView) : Type 0 where
   pub turns : List (List Event)
   pub timed : GoByClock stream open_at (producer_capacity s.end.marks) s.now (clock_told s.clock) events turns
@@ -68,7 +69,8 @@ pub record HasEnded {C : Type 0} (clock_told : C → List ℤ) (stream : Stream)
   pub marks_are : marks ≡ marks_of stream open_at (before ++ Close ∷ [])
   pub counts : tally_of result.counts.merge ≡ counts_of stream open_at (before ++ Close ∷ []) (marks_of stream open_at (before ++ Close ∷ []))
 
--- a stream came to its end, where its paths came to these results; without a token nothing is said
+-- a stream came to its end, after its paths had these results. Nothing is claimed about its history if it returned no
+-- token
 pub record EndsStream {C : Type 0} (clock_told : C → List ℤ) (s : ClockedStream C) (results : List PathResult) (result : StreamResult) : Type 0 where
   pub paths : result.counts.paths.items ≡ map (λ (r : PathResult). r.counts) results
   pub faults : vec_len result.faults ≡ length results
@@ -77,14 +79,14 @@ pub record EndsStream {C : Type 0} (clock_told : C → List ℤ) (s : ClockedStr
   pub ended : IfSome result.done (λ done. (stream : Stream) (open_at : ℤ) (events : List Event) → StreamHasHistory stream open_at s.end events
       → HasEnded clock_told stream open_at s events (map told_by results) result (all_sent done.token))
 
--- a stream's whole history, of which these are all marks
+-- a stream has a whole history, and these are all of its marks
 pub record HasMarks (open_at : ℤ) (places : ℕ) (stream : Stream) (told : List (List Answer)) (clock : List ℤ) (result : StreamResult) (marks : List MarkView) : Type 0 where
   pub events : List Event
   pub history : HasStreamHistory open_at places stream told clock result.counts events
   pub marks_are : marks ≡ marks_of stream open_at events
 
 module _ {F : Type 0} where
-  -- each path's end is that of the ring at its place
+  -- each path's end is the producer of the ring at its place
   abbrev pub ArePairs : List (PathJob F) → List (TokenConsumer Packet) → Type 0
   ArePairs [] [] = Unit {0}
   ArePairs (path ∷ paths) (side ∷ sides) = IsPair path.end.ring side.ring × ArePairs paths sides
@@ -98,7 +100,7 @@ module _ {F : Type 0} where
   told_of told paths = map (λ (path : PathJob F). told path.feed) paths
 
 module _ {F C : Type 0} where
-  -- the stream is not closed, its paths are those of its rings, and there is room for what they come to
+  -- the stream of a job is not closed, its paths are those of its rings, and there is room for their results
   pub record IsReady (job : StreamJob F C) : Type 0 where
     pub open_yet : job.end.merge.closed ≡ false
     pub in_time : job.end.merge.time ≤ℤ pos (2 ^ 60)
@@ -111,12 +113,13 @@ module _ {F C : Type 0} where
     pub no_faults : vec_len job.faults ≡ 0
     pub faults : vec_len job.paths ≤ vec_capacity job.faults
 
-  -- so it is of each
+  -- all jobs are ready
   abbrev pub AllReady : List (StreamJob F C) → Type 0
   AllReady [] = Unit {0}
   AllReady (job ∷ jobs) = IsReady job × AllReady jobs
 
-  -- what a stream's worker came to: a number of faults for each path, and the token of its end, which tells all marks of a whole history
+  -- the result of a stream's worker: a number of faults for each path, and the token of its end, if there is one, which
+  -- reports all marks of a whole history
   pub record IsStreamResult (told : F → List Answer) (clock_told : C → List ℤ) (job : StreamJob F C) (result : StreamResult) : Type 0 where
     pub faults : vec_len result.faults ≡ length job.paths.items
     pub token : IfSome result.done (λ done. SameRing job.end.marks.end done.token.end)

@@ -14,30 +14,30 @@ use Rattle.studio_rings.specs.ClockTurns.{GoByClock, IsFirst, events_in}
 use Rattle.studio_rings.specs.declared.worker.clocked_stream.ClockedStream.{ClockedStream}
 
 module _ {T : Type 0} where
-  -- each ring is the one that it was
+  -- each ring is the same as before
   abbrev pub AreSameRings : List (TokenConsumer T) → List (TokenConsumer T) → Type 0
   AreSameRings [] [] = Unit {0}
   AreSameRings (old ∷ olds) (new ∷ news) = SameConsumer old.ring new.ring × AreSameRings olds news
   AreSameRings [] (new ∷ news) = ⊥
   AreSameRings (old ∷ olds) [] = ⊥
 
-  -- what each ring's token tells, where it was handed in
+  -- each ring's token, if its consumer has it, reports these items
   abbrev pub HaveTold : List (TokenConsumer T) → List (List T) → Type 0
   HaveTold [] [] = Unit {0}
   HaveTold (side ∷ sides) (all ∷ more) = IfSome side.done (λ done. all_sent done ≡ all) × HaveTold sides more
   HaveTold [] (all ∷ more) = ⊥
   HaveTold (side ∷ sides) [] = ⊥
 
-  -- what was told stays told
+  -- what the tokens report does not change
   abbrev pub KeepsTokens : List (TokenConsumer T) → List (TokenConsumer T) → Type 0
   KeepsTokens olds news = (lists : List (List T)) → HaveTold olds lists → HaveTold news lists
 
--- the arrivals are just these packets, path by path from this one on: those that have the stream's length
+-- the arrivals on the paths from this one on are exactly those of these packets that have the stream's length
 abbrev pub HaveArrived : Stream → ℕ → List (List Packet) → List Event → Type 0
 HaveArrived stream path [] events = (other : ℕ) → path ≤ other → packets_by other events ≡ []
 HaveArrived stream path (packets ∷ more) events = (packets_by path events ≡ fitting stream packets) × HaveArrived stream (suc path) more events
 
--- an end was closed, once all that the tokens tell had arrived
+-- a stream's end was closed, once everything that the tokens report had arrived
 pub record Closes (s t : StreamEnd) : Type 0 where
   pub marks : SameProducer s.marks t.marks
   pub closed : t.merge.closed ≡ true
@@ -45,7 +45,7 @@ pub record Closes (s t : StreamEnd) : Type 0 where
   pub arrived : (stream : Stream) (open_at : ℤ) (events : List Event) (lists : List (List Packet)) → HaveTold s.sides.items lists
       → StreamHasHistory stream open_at s events → HaveArrived stream 0 lists events
 
--- before its packets are taken an end had these events: none, or a reading that is no later than this
+-- before a turn takes packets, a stream's end took no event, or one clock reading that is not after `now`
 pub record ReadsFirst (s : StreamEnd) (now : ℤ) (t : StreamEnd) : Type 0 where
   pub first : List Event
   pub early : IsFirst now first
@@ -57,18 +57,18 @@ pub record ReadsFirst (s : StreamEnd) (now : ℤ) (t : StreamEnd) : Type 0 where
   pub not_after : t.merge.time ≤ℤ now
   pub stands : (stream : Stream) (open_at : ℤ) (events : List Event) → StreamHasHistory stream open_at s events → StreamHasHistory stream open_at t (events ++ first)
 
--- a turn reached the time, or gave 64 marks, or has found no free place in its ring at its end
+-- a turn reached the time, or sent at least 64 marks, or no free place in its ring is known at its end
 abbrev pub CatchesUp : StreamEnd → ℤ → StreamEnd → Type 0
 CatchesUp s time t = (t.merge.time ≡ time) ⊎ ((length (sent s.marks) + 64 ≤ length (sent t.marks)) ⊎ (known_free t.marks ≡ 0))
 
--- a clock was asked once, and the time is the greatest so far with its answer
+-- a clock was read once, and the new time is the greatest so far, with this reading included
 pub record ReadsClockOnce {C : Type 0} (told : C → List ℤ) (clock : C) (time : ℤ) (later : C) (new_time : ℤ) : Type 0 where
   pub answer : ℤ
   pub tells : TellsTime (told clock) answer (told later)
   pub time_is : new_time ≡ time_with time answer
 
 module _ {C : Type 0} where
-  -- a stream that is not closed went on: its history grew by turns that go by its clock
+  -- a stream that is not closed went on: its history grew by turns at the readings of its clock
   pub record GoesOn (told : C → List ℤ) (s t : ClockedStream C) : Type 0 where
     pub rings : AreSameRings s.end.sides.items t.end.sides.items
     pub marks : SameProducer s.end.marks t.end.marks

@@ -48,14 +48,14 @@ pub(crate) struct StreamJob<F, C> {
 /// The result of a stream's worker.
 #[derive(Drop)]
 pub(crate) struct StreamResult {
-    /// The token of the stream's end; `None` if a path gave none or the mixer's end was dropped.
+    /// The token of the stream's end; `None` if a path returned none or the mixer's end was dropped.
     pub(crate) done: Option<StreamDone>,
     pub(crate) counts: StreamCounts,
     /// The number of faults that each feed returned.
     pub(crate) faults: Vec<u64>,
 }
 
-/// Allocates so many flags, none of them set.
+/// Allocates `count` flags, none of them set.
 pub(crate) fn unset_flags(alloc: Global, count: usize) -> Result<Vec<AtomicBool>, AllocError>
     ensures { IfOk result (λ flags. vec_len flags ≡ count) }
 {
@@ -103,7 +103,7 @@ struct PathRoom {
     faults: Vec<u64>,
 }
 
-/// Allocates room for so many paths, none of which has ended.
+/// Allocates room for `count` paths, none of which has ended.
 fn room_for_paths(alloc: Global, count: usize) -> Result<PathRoom, AllocError>
     ensures ended { IfOk result (λ room. vec_len room.ended ≡ count) }
     ensures results { IfOk result (λ room. (vec_len room.results ≡ 0) × (count ≤ vec_capacity room.results)) }

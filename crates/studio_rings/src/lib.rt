@@ -7,7 +7,7 @@
 //!    was sent, with a `WorkReport` and the sink. `run_workers_with_gains` also asks a `GainSource`
 //!    for changes of gains while it runs.
 //!
-//! If the report is `settled`, the sink was given the datagrams of exactly the ready blocks, of the
+//! If the report is `settled`, the sink was passed the datagrams of exactly the ready blocks, of the
 //! studio with the changes of gains that were taken.
 //!
 //! Each worker is also a function or type of its own, for callers that start threads themselves:

@@ -15,7 +15,7 @@ pub(crate) struct RunResults {
     pub(crate) feed_faults: Vec<u64>,
 }
 
-/// Allocates room for the results of so many streams and feeds.
+/// Allocates room for the results of this number of streams and feeds.
 pub(crate) fn reserve_results(
     alloc: Global,
     streams: usize,

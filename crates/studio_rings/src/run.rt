@@ -41,7 +41,7 @@ struct RunRoom {
     parts: RunResults,
 }
 
-/// Allocates the room for the results of so many streams and feeds.
+/// Allocates the room for the results of this number of streams and feeds.
 fn reserve_room(alloc: Global, streams: usize, feeds: usize) -> Result<RunRoom, AllocError>
     ensures results { IfOk result (λ room. (vec_len room.results ≡ 0) × (streams ≤ vec_capacity room.results)) }
     ensures ended { IfOk result (λ room. vec_len room.ended ≡ streams) }

@@ -25,7 +25,7 @@ fn hand_in_all(end: &mut MixEnd, dones: Vec<Option<StreamDone>>)
 
 /// Returns true if all streams have finished and the mixer's end took all their marks.
 ///
-/// `dones` has an entry for each stream, in order; `None` for a stream that gave no token.
+/// `dones` has an entry for each stream, in order; `None` for a stream that returned no token.
 pub fn is_settled_with(end: MixEnd, dones: Vec<Option<StreamDone>>) -> bool
     requires { AreTokensOf dones.items end.sides.items }
     ensures exactly { IsTrue result ↔ AreAllDrained dones.items end.sides.items }

@@ -59,7 +59,7 @@ impl Backoff {
         self.wait(rt, self.next.saturating_sub(gone.saturating_mul(125) / 6));
     }
 
-    /// Waits for so many microseconds and doubles the next pause, up to the longest.
+    /// Waits for `microseconds` and doubles the next pause, up to the longest.
     fn wait<R: Wait>(&mut self, rt: &R, microseconds: u64) {
         self.parker
             .park_timeout(rt, Duration::from_micros(microseconds));

@@ -98,7 +98,7 @@ fn send_feed<R: Wait, F: Feed>(
     let mut state = FeedState::new();
     let mut pause = Backoff::up_to(FEED_PAUSE);
     let mut fault_pause = Backoff::up_to(FAULT_PAUSE);
-    // The length for which `Feed::next` says what it gives.
+    // The contract of `Feed::next` says what it returns for a buffer of this length only.
     let mut buf = [0u8; MAX_ARRIVAL_OCTETS];
     for _ in rt.forever() {
         if state.ended {

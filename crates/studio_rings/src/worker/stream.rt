@@ -45,7 +45,7 @@ fn pass_token<C: Clock>(stream: &mut ClockedStream<C>, place: usize, done: Optio
 }
 
 /// Passes the tokens of the paths to the stream, and appends each path's counts and faults. Returns true if every path
-/// gave a token.
+/// returned a token.
 fn pass_tokens<C: Clock>(
     stream: &mut ClockedStream<C>,
     results: Vec<PathResult>,
@@ -132,7 +132,7 @@ fn close_and_finish<R: Wait, C: Clock>(
 }
 
 /// Ends a stream whose paths have ended: passes in their tokens, takes the packets that are left, closes the stream and
-/// pushes the marks that are left. If a path gave no token the stream stays open, and gives none itself.
+/// pushes the marks that are left. If a path returned no token the stream stays open, and returns none itself.
 // Without a path's token its ring is never drained, so waiting for the close would not end.
 fn end_stream<R: Wait, C: Clock>(
     rt: &R,

@@ -3,7 +3,7 @@ use Rattle.rtrb.specs.Ring.{sent, SameProducer}
 use Rattle.rtp_stream.specs.Reception.{is_sent, reception_of}
 use Rattle.studio_rings.proofs.worker.path.offer_until_taken.Given as goal
 
--- each try so far was answered by `Full`
+-- each offer so far returned `Full`
 abbrev pub invariant-loop : goal.invariant-loop
 invariant-loop g l = record {
   ring : SameProducer l.initial.end.ring l.end.ring;

@@ -5,7 +5,7 @@ use Rattle.studio_rings.specs.declared.jobs.PathResult.{PathResult}
 use Rattle.studio_rings.proofs.HandLemmas.{AreHandedIn}
 use Rattle.studio_rings.proofs.worker.stream.pass_tokens.Given as goal
 
--- so many were handed in
+-- the tokens of the results so far were passed to the stream
 abbrev pub invariant-loop-result : goal.invariant-loop-result
 invariant-loop-result g l = record {
   items : l.yielded ++ into_iter_items l.result-iterator ≡ into_iter_items l.initial.result-iterator;
