@@ -1,4 +1,4 @@
--- Lanes that are read one after another, and their values side by side.
+-- Lanes that are read one after another, with their values next to one another in each frame.
 use Rattle.std.proofs.Common.{◌≡◌, ◌≢◌, [], ◌∷◌, ◌++◌, ℕ, zero, suc, ◌+◌, ◌*◌, ◌<◌, ◌≤◌, true, false, nat_lt, if◌then◌else◌, ℤ, pos, ◌+ℤ◌, List, length, get_or, set, take, drop, Some, slice_get, All, refl, sym, ap, subst, ◌∙◌, arith, inl, inr, below_more}
 use Rattle.std.proofs.lemmas.Bool.{cases_lt}
 use Rattle.std.proofs.lemmas.Bool.Decides.{nat_tests}
@@ -21,7 +21,7 @@ use Rattle.studio_mix.specs.Room.{rooms_of}
 use Rattle.studio_mix.proofs.MixerLemmas.{AreFedTo, fed_set, fed_at}
 use Rattle.studio_mix.proofs.RowLemmas.{row_at}
 
--- the time of lane k, once the first i were read
+-- the time of lane `k`, once the first `i` lanes were read
 abbrev pub moved_to : ℤ → ℕ → ℕ → ℕ → ℤ
 moved_to t size i k = if nat_lt k i then t +ℤ pos size else t
 
@@ -37,7 +37,7 @@ others_same t size i j ne = elim (cases_lt j i) [
   | inr h ↦ not_moved t size (i + 1) j (omega arith) ∙ sym (not_moved t size i j h)
 ]
 
--- the first i lanes were read, and their values laid
+-- the first `i` lanes were read, and their values placed in the frames
 pub record IsRead (first lanes : List LaneState) (ins : List ℤ) (frames width at i : ℕ) : Type 0 where
   pub at_is : at ≡ lane_channels (take i first)
   pub count : length lanes ≡ length first
@@ -50,7 +50,7 @@ pub record IsRead (first lanes : List LaneState) (ins : List ℤ) (frames width 
       → take at (drop (f * width) ins) ≡ studio_values (take i feeds) (t +ℤ pos f)
   pub in_24_bits : All Is24Bits ins
 
--- what reading one lane gives
+-- one lane was read
 pub record ReadsLane (frames c : ℕ) (lane next : LaneState) (block : List ℤ) : Type 0 where
   pub wide : c ≡ lane.format.channels
   pub facts : HasSameFacts lane next
@@ -63,7 +63,7 @@ feed_at [] i h = absurd (omega arith)
 feed_at (feed ∷ feeds) zero h = (feed, refl)
 feed_at (feed ∷ feeds) (suc i) h = feed_at feeds i (omega arith)
 
--- one stream's values more
+-- the values of all streams so far, and of one more
 values_more : (feeds : List Feed) (i : ℕ) (feed : Feed) (t : ℤ) → slice_get feeds i ≡ Some feed
     → studio_values (take (i + 1) feeds) t ≡ studio_values (take i feeds) t ++ frame_at (format_of feed.stream) feed.marks t
 values_more feeds i feed t at =
@@ -152,7 +152,7 @@ read_more first lanes ins laid frames width at i c lane next values before h is 
       in_24_bits = in_24_bits;
     }
 
--- all were read
+-- all lanes were read
 pub read_all : (from : ℤ) (size : ℕ) (lanes : List LaneState) (feeds : List Feed) (t : ℤ) (i : ℕ) → AreFedTo from size lanes feeds (moved_to t size i) → length feeds ≤ i
     → AreFed from size lanes feeds (t +ℤ pos size)
 read_all from size lanes feeds t i fed all = record {
@@ -162,7 +162,7 @@ read_all from size lanes feeds t i fed all = record {
       subst (HasFeed feed.stream from size lane feed.marks) (moved_here t size i k (omega arith)) (fed.each k lane feed l f);
 }
 
--- so a block of every lane was read
+-- so a block was read from every lane
 pub were_read : (first lanes : List LaneState) (ins : List ℤ) (frames width at i : ℕ) → IsRead first lanes ins frames width at i → length first ≤ i → width ≡ lane_channels first
     → AreRead first lanes ins frames width
 were_read first lanes ins frames width at i read all wide =
@@ -185,7 +185,7 @@ channels_alone [] d e = absurd (omega (arith, e))
 channels_alone (lane ∷ []) d e = omega arith
 channels_alone (lane ∷ more ∷ lanes) d e = absurd (omega (arith, e))
 
--- the values of one stream alone stand where it was read
+-- if there is only one stream, its values are the frames as they were read
 pub read_alone : (lanes : List LaneState) (old ins : List ℤ) (frames width c : ℕ) (lane next : LaneState)
     → length lanes ≡ 1 → width ≡ lane_channels lanes → lane ≡ get_or lanes 0 lane → ReadsLane frames c lane next ins
     → All Is24Bits old → All Is24Bits ins → AreRead lanes (set lanes 0 next) ins frames width

@@ -60,7 +60,7 @@ pub fed_matrix : (studio : Studio) (mixer : MixerState) (feeds : List Feed) (n :
 fed_matrix studio mixer feeds n t fed h =
     ap (λ (s : Changes). matrix_at s t) fed.schedule ∙ matrix_at_rest studio.schedule.later (block_start studio.output n) t h studio.schedule.first
 
--- the mixer that took the change is at the same block of the studio that has it
+-- a mixer that took a change is at the same block of the studio with this change
 pub changed_fed : (studio : Studio) (mixer : MixerState) (feeds : List Feed) (n : ℕ) (schedule : Changes) (at : ℤ) (rows : List (List ℤ))
     → HasFeeds studio mixer feeds n → block_start studio.output n ≤ℤ at
     → schedule ≡ rest_at (with_change mixer.schedule at rows) (block_start studio.output n) → ins_of schedule.first ≡ ins_of mixer.schedule.first
@@ -82,7 +82,7 @@ pub both_ok : {X E : Type 0} (r : Result X E) (P Q R : Type 0) → (P → Q → 
 both_ok (Ok x) P Q R f p q = f p q
 both_ok (Err e) P Q R f p q = tt
 
--- no change, and one change more
+-- a studio with no changes, and with one more
 pub with_changes-none : (studio : Studio) → with_changes studio [] ≡ studio
 with_changes-none studio = refl
 

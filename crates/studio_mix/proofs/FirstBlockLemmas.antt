@@ -20,7 +20,7 @@ or_less : (a : Bool) (m n c : ℕ) → m ≤ n → (a || nat_lt n c) ≡ true �
 or_less true m n c h e = refl
 or_less false m n c h e = grind (arith, nat_tests, h, e)
 
--- the blocks before one that is ready are ready
+-- the blocks before a block that is ready are ready
 ready_before : (out : Output) (feeds : List Feed) (m n : ℕ) → m ≤ n → is_ready out feeds n ≡ true → is_ready out feeds m ≡ true
 ready_before out feeds m n h e =
     let p = mul-le-mul_right out.frames (let k : m + 1 ≤ n + 1 = omega (arith, h) in k) in
@@ -29,7 +29,7 @@ ready_before out feeds m n h e =
     (covered_before feeds (block_start out (n + 1)) (block_start out (m + 1)) earlier (both_left (are_covered feeds (block_start out (n + 1))) (not (have_ended feeds) || nat_lt n (block_count out feeds)) e))
     ∙ or_less (not (have_ended feeds)) m n (block_count out feeds) h (both_right (are_covered feeds (block_start out (n + 1))) (not (have_ended feeds) || nat_lt n (block_count out feeds)) e)
 
--- one block more
+-- the datagram of one more block
 pub first_more : (studio : Studio) (feeds : List Feed) (datagrams : List (List ℕ)) (datagram : List ℕ) → AreFirstBlocks studio feeds datagrams → is_ready studio.output feeds (length datagrams) ≡ true
     → datagram ≡ datagram_of studio feeds (length datagrams) → AreFirstBlocks studio feeds (datagrams ++ datagram ∷ [])
 first_more studio feeds datagrams datagram before ready is =
@@ -49,7 +49,7 @@ first_more studio feeds datagrams datagram before ready is =
           ];
     }
 
--- where the next block is not ready, those are all
+-- if the next block is not ready, the datagrams of the first blocks are those of all ready blocks
 pub first_all : (studio : Studio) (feeds : List Feed) (datagrams : List (List ℕ)) → AreFirstBlocks studio feeds datagrams → is_ready studio.output feeds (length datagrams) ≡ false
     → AreBlocks studio feeds datagrams
 first_all studio feeds datagrams given last = record {
@@ -65,7 +65,7 @@ first_all studio feeds datagrams given last = record {
   each = given.each;
 }
 
--- what was written to the front
+-- the octets that were written to the start of the buffer
 pub written_is : (d before out : List ℕ) (len : ℕ) → out ≡ d ++ drop len before → length out ≡ length before → len ≤ length before → take len out ≡ d
 written_is d before out len e same within =
     let n : length out ≡ length d + (length before - len) = ap length e ∙ length-append d (drop len before) ∙ ap (λ k. length d + k) (length-drop len before) in

@@ -1,4 +1,4 @@
--- Longer lists of marks: the parts of a block that stay.
+-- Longer lists of marks: the parts of a block that do not change.
 use Rattle.std.proofs.Common.{◌≡◌, [], ◌∷◌, ◌++◌, ℕ, zero, suc, ◌+◌, ◌<◌, Bool, true, false, not, ◌&&◌, ◌||◌, nat_lt, ℤ, pos, ◌+ℤ◌, ◌≤ℤ◌, ◌<ℤ◌, int_lt, List, map, flat_map, Some, None, Option, unwrap_or, refl, sym, ap, subst, ◌∙◌, arith, append_assoc, inl, inr}
 use Rattle.std.proofs.lemmas.Int.{ints}
 use Rattle.std.proofs.lemmas.Bool.{cases_Bool, false≢true}
@@ -37,7 +37,7 @@ covers_before Nothing t u h e = absurd (false≢true e)
 covers_before (Until v) t u h e = grind (arith, ints, h, e)
 covers_before All t u h e = refl
 
--- the first stream's marks are longer, and the others'
+-- if the feeds are longer, so is the first one; `rest_longer` says so of the others
 first_longer : (feed long : Feed) (feeds longer : List Feed) → AreLonger (feed ∷ feeds) (long ∷ longer) → IsLonger feed long
 first_longer feed long feeds longer l = l.each 0 feed long refl refl
 
@@ -48,7 +48,7 @@ listed_on : (feed long : Feed) (l : IsLonger feed long) → is_mark_list (format
 listed_on feed long l =
     sym (ap (λ (s : Stream). is_mark_list (format_of s) long.marks) l.stream ∙ ap (is_mark_list (format_of feed.stream)) l.marks) ∙ l.listed
 
--- what is covered stays so
+-- a time that is covered stays covered by a longer list of marks
 cover_longer : (feed long : Feed) (t : ℤ) → IsLonger feed long → covers (cover_of (format_of feed.stream) feed.marks) t ≡ true
     → covers (cover_of (format_of long.stream) long.marks) t ≡ true
 cover_longer feed long t l h =
@@ -68,7 +68,7 @@ map_same : {X Y : Type 0} (f g : X → Y) (xs : List X) → ((x : X) → f x ≡
 map_same f g [] same = refl
 map_same f g (x ∷ xs) same = ap (λ y. y ∷ map f xs) (same x) ∙ ap (λ l. g x ∷ l) (map_same f g xs same)
 
--- the values of a time that is covered stay
+-- the values at a time that is covered stay the same with a longer list of marks
 frame_longer : (feed long : Feed) (t : ℤ) → IsLonger feed long → covers (cover_of (format_of feed.stream) feed.marks) (t +ℤ pos 1) ≡ true
     → frame_at (format_of long.stream) long.marks t ≡ frame_at (format_of feed.stream) feed.marks t
 frame_longer feed long t l h =
@@ -115,7 +115,7 @@ pub datagram_longer : (studio : Studio) (feeds longer : List Feed) (n : ℕ) →
     → datagram_of studio longer n ≡ datagram_of studio feeds n
 datagram_longer studio feeds longer n l covered = ap (block_datagram studio.output n) (block_longer studio feeds longer n l covered)
 
--- nothing follows where all have ended
+-- if a stream has ended, no mark follows
 feed_longer : (feed long : Feed) → IsLonger feed long → has_end feed.marks ≡ true → long ≡ feed
 feed_longer feed long l ended =
     let none : l.more ≡ [] = end_stays (format_of feed.stream) feed.marks l.more (listed_on feed long l) ended in
@@ -132,7 +132,7 @@ ended_longer (feed ∷ feeds) (long ∷ longer) l h =
     ap (λ f. f ∷ longer) (feed_longer feed long (first_longer feed long feeds longer l) (both_left (has_end feed.marks) (have_ended feeds) h))
     ∙ ap (λ fs. feed ∷ fs) (ended_longer feeds longer (rest_longer feed long feeds longer l) (both_right (has_end feed.marks) (have_ended feeds) h))
 
--- the end of a list is past what it covered before its end
+-- the end of a list is not before a time that it covered before its end
 reached : (ended : Bool) (r : Option ℤ) (start t : ℤ) → ended ≡ false → covers (cover_to ended r) t ≡ true → t ≤ℤ unwrap_or r start
 reached true r start t e h = absurd (false≢true (sym e))
 reached false (Some u) start t e h = grind (arith, ints, h)
@@ -176,7 +176,7 @@ or_right : (a b : Bool) → b ≡ true → (a || b) ≡ true
 or_right true b h = refl
 or_right false b h = h
 
--- so the greatest end of longer lists is past what all covered, where one had not ended
+-- so the greatest end of longer lists is after each time before one that all covered, if one of them had not ended
 past_longer : (start : ℤ) (feeds longer : List Feed) (t u : ℤ) → t <ℤ u → AreLonger feeds longer → are_covered feeds u ≡ true → have_ended feeds ≡ false
     → int_lt t (greatest_end start longer) ≡ true
 past_longer start [] longer t u h l covered going = absurd (false≢true (sym going))

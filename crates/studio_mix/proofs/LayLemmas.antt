@@ -8,11 +8,11 @@ use Rattle.std.proofs.lemmas.Slice.{take-put_mid_below, take-put_mid, drop-put_m
 use Rattle.gain_mix.specs.Mix.{Is24Bits}
 use borrow.Rule.Slice.PartMut.{put_mid}
 
--- frame f of `wide` begins with what stood there and then frame f of `values`
+-- frame `f` of `wide` begins with the first samples of the old frame, and then frame `f` of `values`
 abbrev pub LaidAt : ℕ → ℕ → ℕ → List ℤ → List ℤ → List ℤ → ℕ → Type 0
 LaidAt w at c values old wide f = take (at + c) (drop (f * w) wide) ≡ take at (drop (f * w) old) ++ take c (drop (f * c) values)
 
--- so far
+-- the first `i` frames are in place
 pub record IsLaid (w at c : ℕ) (values old wide : List ℤ) (i : ℕ) : Type 0 where
   pub laid : (f : ℕ) → f < i → LaidAt w at c values old wide f
   pub kept : drop (i * w) wide ≡ drop (i * w) old
@@ -53,7 +53,7 @@ laid_more n w at c i values old wide ys h within len len_v e before =
 pub All-put_mid : (P : ℤ → Type 0) (a k : ℕ) (xs ys : List ℤ) → All P xs → All P ys → All P (put_mid a k xs ys)
 All-put_mid P a k xs ys h g = All-append P (take a xs) _ (All-take P a xs h) (All-append P ys _ g (All-drop P k (drop a xs) (All-drop P a xs h)))
 
--- the part that was laid, where its length is said in another way
+-- one more part was put in place, whose length is an equal number
 pub laid_part : (n w at c i k : ℕ) (values old wide ys : List ℤ) → k ≡ c → i < n → at + c ≤ w → length wide ≡ n * w → length values ≡ n * c
     → ys ≡ take c (drop (i * c) values) → IsLaid w at c values old wide i
     → IsLaid w at c values old (put_mid (i * w + at) k wide ys) (i + 1)
@@ -70,7 +70,7 @@ one_at [] i d h = absurd (omega (arith, h))
 one_at (x ∷ xs) zero d h = refl
 one_at (x ∷ xs) (suc i) d h = one_at xs i d (omega (arith, h))
 
--- the sample that was laid
+-- one more sample was put in place
 pub laid_sample : (n w at i : ℕ) (values old wide : List ℤ) (v d : ℤ) → i < n → at < w → length wide ≡ n * w → length values ≡ n
     → v ≡ get_or values i d → IsLaid w at 1 values old wide i → IsLaid w at 1 values old (set wide (i * w + at) v) (i + 1)
 laid_sample n w at i values old wide v d h within len len_v is before =
@@ -80,7 +80,7 @@ laid_sample n w at i values old wide v d h within len len_v is before =
     (laid_more n w at 1 i values old wide (v ∷ []) h (omega (arith, within)) len (len_v ∙ (let e : n ≡ n * 1 = omega arith in e))
     (ap (λ x. x ∷ []) is ∙ one_at values i d (omega (arith, h, len_v)) ∙ ap (λ k. take 1 (drop k values)) (let e : i ≡ i * 1 = omega arith in e)) before)
 
--- with the places of one channel
+-- the samples of one channel are in place
 pub laid_samples : (w at i : ℕ) (values old wide : List ℤ) → IsLaid w at 1 values old wide i
     → (f : ℕ) → f < i → take (at + 1) (drop (f * w) wide) ≡ take at (drop (f * w) old) ++ take 1 (drop f values)
 laid_samples w at i values old wide before f h =
@@ -98,7 +98,7 @@ two_at (x ∷ []) zero d h = absurd (omega (arith, h))
 two_at (x ∷ y ∷ xs) zero d h = refl
 two_at (x ∷ xs) (suc i) d h = two_at xs i d (omega (arith, h))
 
--- the pair that was laid
+-- one more pair was put in place
 pub laid_pair : (n w at i : ℕ) (values old wide : List ℤ) (v u d : ℤ) → i < n → at + 2 ≤ w → length wide ≡ n * w → length values ≡ n * 2
     → v ≡ get_or values (i * 2) d → u ≡ get_or values (i * 2 + 1) d → IsLaid w at 2 values old wide i
     → IsLaid w at 2 values old (set (set wide (i * w + at) v) (i * w + at + 1) u) (i + 1)
@@ -111,7 +111,7 @@ laid_pair n w at i values old wide v u d h within len len_v v_is u_is before =
     (laid_more n w at 2 i values old wide (v ∷ u ∷ []) h within len len_v
     (ap (λ x. x ∷ u ∷ []) v_is ∙ ap (λ x. get_or values (i * 2) d ∷ x ∷ []) (u_is ∙ ap (λ k. get_or values k d) (let e : i * 2 + 1 ≡ suc (i * 2) = omega arith in e)) ∙ two_at values (i * 2) d (omega (arith, h, len_v))) before)
 
--- a sample of 24 bits in 32
+-- a sample of 24 bits is unchanged by storing it in 32 bits
 pub sample_in_32 : (v : ℤ) → Is24Bits v → to_z w32 (of_z w32 v) ≡ v
 sample_in_32 (pos n) h = omega (arith, ints, h)
 sample_in_32 (negsuc n) h = omega (arith, ints, h)

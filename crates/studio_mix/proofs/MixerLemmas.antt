@@ -31,7 +31,7 @@ block_end studio mixer feeds n out time one ins outs sound fed =
     ∙ ap (λ (o : Output). block_start studio.output n +ℤ pos o.frames) (sound.out_is ∙ fed.output)
     ∙ next_start studio.output n
 
--- an element after a write
+-- the element at a place that was written
 pub set_same_at : {X : Type 0} (xs : List X) (i : ℕ) (v w : X) → i < length xs → slice_get (set xs i v) i ≡ Some w → w ≡ v
 set_same_at xs i v w h e = sym (get_or_from_slice_get (set xs i v) i w w e) ∙ get_or-set_same xs i v w h
 
@@ -41,7 +41,7 @@ set_other_at xs i j v w ne e =
     let len : length (set xs i v) ≡ length xs = length-set xs i v in
     slice_get_read xs (length xs) j w refl (omega arith) (sym (get_or_from_slice_get (set xs i v) j w w e) ∙ get_or-set_other xs i j v w ne)
 
--- the lanes were fed these marks, and each stands at its own time
+-- each lane was fed its stream's marks, and has come to a time of its own
 pub record AreFedTo (from : ℤ) (size : ℕ) (lanes : List LaneState) (feeds : List Feed) (time : ℕ → ℤ) : Type 0 where
   pub count : length lanes ≡ length feeds
   pub each : (i : ℕ) (lane : LaneState) (feed : Feed) → slice_get lanes i ≡ Some lane → slice_get feeds i ≡ Some feed
@@ -57,7 +57,7 @@ pub fed_at : (from : ℤ) (size : ℕ) (lanes : List LaneState) (feeds : List Fe
 fed_at from size lanes feeds time i lane feed fed read at =
     fed.each i lane feed (slice_get_read lanes (length lanes) i lane refl (lane_within lanes feeds i feed fed.count at) read) at
 
--- one lane is fed, or read
+-- one lane was fed a mark, or was read
 pub fed_set : (from : ℤ) (size : ℕ) (lanes : List LaneState) (feeds : List Feed) (time later : ℕ → ℤ) (i : ℕ) (lane : LaneState) (feed next : Feed)
     → AreFedTo from size lanes feeds time → slice_get feeds i ≡ Some feed
     → HasFeed next.stream from size lane next.marks (later i) → ((j : ℕ) → j ≢ i → later j ≡ time j)
@@ -82,7 +82,7 @@ fed_set from size lanes feeds time later i lane feed next fed at new same = reco
 pub all_at : (from : ℤ) (size : ℕ) (lanes : List LaneState) (feeds : List Feed) (t : ℤ) → AreFed from size lanes feeds t → AreFedTo from size lanes feeds (λ i. t)
 all_at from size lanes feeds t fed = record { count = fed.count; each = fed.each }
 
--- one mark more
+-- one more mark was fed
 pub fed_more : (studio : Studio) (mixer : MixerState) (feeds : List Feed) (n i : ℕ) (lane : LaneState) (feed : Feed) (mark : MarkView)
     → HasFeeds studio mixer feeds n → slice_get feeds i ≡ Some feed
     → HasFeed feed.stream studio.output.start studio.output.frames lane (feed.marks ++ mark ∷ []) (block_start studio.output n)

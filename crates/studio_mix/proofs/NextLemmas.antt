@@ -25,11 +25,11 @@ use Rattle.studio_mix.specs.Saturated.{AreSaturated}
 use Rattle.studio_mix.proofs.RowLemmas.{rows_whole}
 use Rattle.studio_mix.proofs.MixerLemmas.{next_start}
 
--- a buffer that was lent and came back
+-- the first elements of a buffer after they were written
 pub lent : {X : Type 0} (n k : ℕ) (xs ys : List X) → length xs ≡ n → take n (xs ++ drop k ys) ≡ xs
 lent n k xs ys len = take_at xs (drop k ys) n len
 
--- a saturated sample is one of the output's encoding
+-- a saturated sum is a sample of the output's encoding
 sample_fits : (enc : Enc) (z : ℤ) → FitsEncoding enc (saturated_sum (shift_of enc) z)
 sample_fits L16 (pos n) = record { low = omega (arith, ints); high = omega (arith, ints) }
 sample_fits L16 (negsuc n) = record { low = omega (arith, ints); high = omega (arith, ints) }
@@ -43,7 +43,7 @@ rows_fit : (enc : Enc) (row : ℕ → List ℤ) (a n : ℕ) → ((k : ℕ) → A
 rows_fit enc row a zero each = All-nil (FitsEncoding enc)
 rows_fit enc row a (suc n) each = All-append (FitsEncoding enc) (row a) (flat_map row (range_with_len (a + 1) n)) (each a) (rows_fit enc row (a + 1) n each)
 
--- what was mixed, frame by frame, from values that are known
+-- the samples that were mixed, frame by frame, from known values
 pub mixed_rows : (schedule : Changes) (t : ℤ) (ins outs : List ℤ) (frames s width height : ℕ) (values : ℕ → List ℤ)
     → IsMixed (λ f. matrix_at schedule (t +ℤ pos f)) ins outs frames s
     → ((u : ℤ) → length (matrix_at schedule u) ≡ height) → ((u : ℤ) → ins_of (matrix_at schedule u) ≡ width) → length outs ≡ frames * height
@@ -58,7 +58,7 @@ mixed_rows schedule t ins outs frames s width height values mixed high wide len 
     ∙ ap (λ l. mixed_frame (matrix_at schedule (t +ℤ pos f)) l s) (known f h)
     ∙ ap (λ k. mixed_frame (matrix_at schedule (t +ℤ pos k)) (values k) s) (let e : f ≡ 0 + f = omega arith in e))
 
--- so it fits the output's encoding
+-- the samples that were mixed fit the output's encoding
 pub mixed_fits : (enc : Enc) (schedule : Changes) (t : ℤ) (ins outs : List ℤ) (frames s width height : ℕ)
     → s ≡ shift_of enc → IsMixed (λ f. matrix_at schedule (t +ℤ pos f)) ins outs frames s
     → ((u : ℤ) → length (matrix_at schedule u) ≡ height) → ((u : ℤ) → ins_of (matrix_at schedule u) ≡ width) → length outs ≡ frames * height
@@ -67,7 +67,7 @@ mixed_fits enc schedule t ins outs frames s width height shift mixed high wide l
     subst (All (FitsEncoding enc)) (sym (mixed_rows schedule t ins outs frames (shift_of enc) width height (λ f. take width (drop (f * width) ins)) (subst (λ k. IsMixed (λ f. matrix_at schedule (t +ℤ pos f)) ins outs frames k) shift mixed) high wide len (λ f h. refl)))
     (rows_fit enc (λ f. mixed_frame (matrix_at schedule (t +ℤ pos f)) (take width (drop (f * width) ins)) (shift_of enc)) 0 frames (λ k. frame_fits enc (matrix_at schedule (t +ℤ pos k)) (take width (drop (k * width) ins))))
 
--- the mixer stands at the next block
+-- the mixer has come to the next block
 pub next_fed : (studio : Studio) (mixer : MixerState) (feeds : List Feed) (n : ℕ) (lanes : List LaneState) (packer : PackerState) (counts : List ℕ) (schedule : Changes)
     → HasFeeds studio mixer feeds n → packer ≡ record { spec = mixer.packer.spec; number = mixer.packer.number + 1 }
     → AreFed studio.output.start studio.output.frames lanes feeds (block_start studio.output n +ℤ pos studio.output.frames)
@@ -87,7 +87,7 @@ next_fed studio mixer feeds n lanes packer counts schedule fed e moved counted p
   saturated = counted;
 }
 
--- and is sound
+-- the mixer at the next block is sound
 pub next_sound : (mixer : MixerState) (out : Output) (time : ℤ) (one ins outs : List ℤ) (lanes : List LaneState) (packer : PackerState) (one' ins' outs' : List ℤ) (later : ℤ) (counts : List ℕ) (schedule : Changes)
     → IsMixer mixer out time one ins outs → time ≤ℤ pos (2 ^ 61 + 192)
     → packer ≡ record { spec = mixer.packer.spec; number = mixer.packer.number + 1 } → later ≡ time +ℤ pos out.frames

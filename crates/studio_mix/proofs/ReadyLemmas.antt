@@ -1,4 +1,4 @@
--- Blocks that are final, by the lanes and by the marks.
+-- Blocks that are ready, by the lanes and by the marks.
 use Rattle.std.proofs.Common.{◌≡◌, [], ◌∷◌, ℕ, suc, ◌+◌, ◌-◌, ◌*◌, ◌/◌, ◌^◌, ◌<◌, ◌≤◌, Bool, true, false, not, cond, ◌&&◌, ◌||◌, nat_lt, ℤ, pos, ◌+ℤ◌, ◌-ℤ◌, ◌≤ℤ◌, ◌<ℤ◌, int_lt, List, length, get_or, Some, None, Option, unwrap_or, refl, sym, ap, subst, ◌∙◌, arith, inl, inr}
 use Rattle.std.proofs.lemmas.Int.{ints, by_lt_z}
 use Rattle.std.specs.Int.{int_max}
@@ -43,12 +43,12 @@ all_ended true reached e = refl
 all_ended false (Some t) e = absurd (let f : All ≡ Until t = e in cc)
 all_ended false None e = absurd (let f : All ≡ Nothing = e in cc)
 
--- a lane that has ended, and not past a time
+-- a lane that has ended, and whose end is not after a time
 pub not_past : (time : ℤ) (lane : LaneState) → All ≡ cover_at lane → end_at lane ≤ℤ time → reaches_past time lane ≡ false
 not_past time lane e h =
     ap (λ b. not b || int_lt time (end_at lane)) (all_ended lane.ended (time_reached lane.format.frames lane.slot lane.quiet) e) ∙ lt_no time (end_at lane) h
 
--- what a lane says is what its marks say
+-- the cover and the end of a lane are those of its marks
 cover_is : (stream : Stream) (from : ℤ) (size : ℕ) (lane : LaneState) (marks : List MarkView) (t : ℤ) → HasFeed stream from size lane marks t → cover_at lane ≡ cover_of (format_of stream) marks
 cover_is stream from size lane marks t fed =
     ap (λ (f : PacketFormat). cover_to lane.ended (time_reached f.frames lane.slot lane.quiet)) fed.format
@@ -63,7 +63,7 @@ end_is stream from size lane marks t fed =
     ∙ ap (λ q. unwrap_or (time_reached stream.frames (last_slot marks) q) lane.start) fed.quiet
     ∙ ap (unwrap_or (time_reached stream.frames (last_slot marks) (last_quiet marks))) fed.start
 
--- the first lane is the first stream's, and the others the others'
+-- the first lane was fed the first stream's marks, and the other lanes those of the other streams
 first_fed : (from : ℤ) (size : ℕ) (lane : LaneState) (lanes : List LaneState) (feed : Feed) (feeds : List Feed) (t : ℤ)
     → AreFed from size (lane ∷ lanes) (feed ∷ feeds) t → HasFeed feed.stream from size lane feed.marks t
 first_fed from size lane lanes feed feeds t fed = fed.each 0 lane feed refl refl
@@ -93,7 +93,7 @@ max_by : (t a b : ℤ) (s : Bool) → int_lt b a ≡ s → int_lt t (cond s a b)
 max_by t a b true e = or_first (int_lt t a) (int_lt t b) (λ f. lt_no t b (let g = lt_denied t a f in let h = lt_said b a e in omega (arith, ints, g, h)))
 max_by t a b false e = or_second (int_lt t a) (int_lt t b) (λ f. lt_yes t b (let g = lt_said t a f in let h = lt_denied b a e in omega (arith, ints, g, h)))
 
--- a time is before the greater of two where it is before one
+-- a time is before the greater of two exactly if it is before one of them
 pub lt_max : (t a b : ℤ) → int_lt t (int_max a b) ≡ (int_lt t a || int_lt t b)
 lt_max t a b = max_by t a b (int_lt b a) refl
 
@@ -122,7 +122,8 @@ few_steps c n q some h = elim (cases_lt n c) [
   | inr le ↦ le
 ]
 
--- so many whole steps, the last one perhaps not full, reach from the start to the end
+-- a step begins before the end exactly if its number is below the number of steps from the start to the end, the last
+-- one perhaps not full
 counted : (start end : ℤ) (n q : ℕ) → 0 < q → int_lt (start +ℤ pos (n * q)) end ≡ nat_lt n ((natural (end -ℤ start) + (q - 1)) / q)
 counted start end n q some = by_lt_z (start +ℤ pos (n * q)) end
     (λ before.
@@ -141,7 +142,7 @@ counted start end n q some = by_lt_z (start +ℤ pos (n * q)) end
     let within : (natural (end -ℤ start) + (q - 1)) / q ≤ n = few_steps ((natural (end -ℤ start) + (q - 1)) / q) n q some (omega arith) in
     lt_no (start +ℤ pos (n * q)) end after ∙ (let no : false ≡ nat_lt n ((natural (end -ℤ start) + (q - 1)) / q) = grind (arith, nat_tests) in no))
 
--- a block begins before the end where its number is below the count
+-- a block begins before the greatest end exactly if its number is below the count
 pub before_count : (out : Output) (feeds : List Feed) (n : ℕ) → 0 < out.frames
     → int_lt (block_start out n) (greatest_end out.start feeds) ≡ nat_lt n (block_count out feeds)
 before_count out feeds n some = counted out.start (greatest_end out.start feeds) n out.frames some
@@ -153,7 +154,7 @@ ready_is out lanes feeds n some fed =
     ∙ ap (λ b. are_covered feeds (block_start out (n + 1)) && b) (past_is out.start out.frames lanes feeds (block_start out n) (block_start out n) fed (omega (arith, ints)))
     ∙ ap (λ b. are_covered feeds (block_start out (n + 1)) && (not (have_ended feeds) || b)) (before_count out feeds n some)
 
--- what is tested of the lanes says whether the block is ready
+-- the tests of the lanes say whether the block is ready
 pub ready_of : (studio : Studio) (mixer : MixerState) (feeds : List Feed) (n : ℕ) (out : Output) (time : ℤ) (one ins outs : List ℤ)
     → IsMixer mixer out time one ins outs → HasFeeds studio mixer feeds n
     → (list_all (λ (lane : LaneState). covers (cover_at lane) (time +ℤ pos out.frames)) mixer.lanes && list_any (reaches_past time) mixer.lanes) ≡ is_ready studio.output feeds n
@@ -169,7 +170,7 @@ all_said p xs k d all h = elim (cases_Bool (p (get_or xs k d))) [
   | inr n ↦ absurd (false≢true (sym (list_all_at p xs k d h n) ∙ all))
 ]
 
--- the same, as the code has it
+-- the tests of the lanes, as the code makes them
 pub ready_answer : (studio : Studio) (mixer : MixerState) (feeds : List Feed) (n : ℕ) (out : Output) (time : ℤ) (one ins outs : List ℤ)
     → IsMixer mixer out time one ins outs → HasFeeds studio mixer feeds n
     → (e now : ℤ) (xs ys : List LaneState) → e ≡ time +ℤ pos out.frames → now ≡ time → xs ≡ mixer.lanes → ys ≡ mixer.lanes

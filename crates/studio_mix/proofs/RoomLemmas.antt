@@ -1,4 +1,4 @@
--- The greatest lag of streams that are gone through one by one.
+-- The greatest lag of streams, one stream after another.
 use Rattle.std.proofs.Common.{◌≡◌, ℕ, ◌+◌, ◌<◌, ◌≤◌, max, List, length, get_or, take, refl, sym, ap, ◌∙◌}
 use Rattle.std.proofs.lemmas.List.{take_all, take_more}
 use Rattle.std.proofs.lemmas.List.Recursion.{max_push}

@@ -1,9 +1,9 @@
--- Frames that stand one after another, all of one width.
+-- Frames of one width that follow one another in a list.
 use Rattle.std.proofs.Common.{◌≡◌, [], ◌∷◌, ◌++◌, ℕ, zero, suc, ◌+◌, ◌*◌, ◌-◌, ◌<◌, ℤ, List, length, take, drop, flat_map, refl, sym, ap, ◌∙◌, arith, zero-mul, length-drop}
 use Rattle.std.specs.List.{range_with_len}
 use Rattle.std.proofs.lemmas.List.{take_at, drop_at, drop-drop, take-append-drop}
 
--- frame f of frames side by side
+-- frame `f` of a list of frames
 pub row_at : (m : ℕ) (row : ℕ → List ℤ) (a n f : ℕ) → ((k : ℕ) → length (row k) ≡ m) → f < n
     → take m (drop (f * m) (flat_map row (range_with_len a n))) ≡ row (a + f)
 row_at m row a zero f len h = absurd (omega arith)
@@ -18,7 +18,7 @@ row_at m row a (suc n) (suc f) len h =
     ∙ row_at m row (a + 1) n f len (omega arith)
     ∙ ap row (let e : a + 1 + f ≡ a + suc f = omega arith in e)
 
--- a list of so many frames is its frames side by side
+-- a list of `n` frames is its frames, one after another
 pub rows_whole : (m : ℕ) (row : ℕ → List ℤ) (a n : ℕ) (xs : List ℤ) → length xs ≡ n * m
     → ((f : ℕ) → f < n → take m (drop (f * m) xs) ≡ row (a + f)) → xs ≡ flat_map row (range_with_len a n)
 rows_whole m row a zero xs len same = nothing_left xs (len ∙ zero-mul m)

@@ -1,4 +1,4 @@
--- The counts of saturated samples: what longer lists of marks leave of them, and one block more.
+-- The counts of saturated samples, with longer lists of marks, and after one more block.
 use Rattle.std.proofs.Common.{◌≡◌, [], ◌∷◌, ◌++◌, ℕ, zero, suc, ◌+◌, ◌-◌, ◌*◌, ◌^◌, ◌<◌, min, true, ℤ, pos, ◌+ℤ◌, List, length, get_or, take, drop, set, replicate, Some, slice_get, refl, sym, ap, subst, ◌∙◌, arith, zero-mul, inl, inr}
 use Rattle.std.proofs.lemmas.Int.{ints}
 use Rattle.std.proofs.lemmas.Bool.{cases_eq}
@@ -29,7 +29,7 @@ from_same studio feeds longer channel t (suc n) same =
     ap (λ x. x + saturated_at rows (studio_values longer (t +ℤ pos n)) s channel) (from_same studio feeds longer channel t n (λ f h. same f (omega (arith, h))))
     ∙ ap (λ v. saturated_from studio feeds channel t n + saturated_at rows v s channel) (same n (omega arith))
 
--- an instant before a block's start is one of a block before it
+-- a sampling instant before a block's start is in an earlier block, which is covered
 covered_instant : (studio : Studio) (feeds : List Feed) (next f : ℕ) → ((number : ℕ) → number < next → are_covered feeds (block_start studio.output (number + 1)) ≡ true)
     → f < next * studio.output.frames → are_covered feeds ((studio.output.start +ℤ pos f) +ℤ pos 1) ≡ true
 covered_instant studio feeds zero f final h = absurd (omega (arith, h))
@@ -37,7 +37,7 @@ covered_instant studio feeds (suc n) f final h =
     let e : (n + 1) * studio.output.frames ≡ suc n * studio.output.frames = omega arith in
     covered_before feeds (block_start studio.output (n + 1)) ((studio.output.start +ℤ pos f) +ℤ pos 1) (omega (arith, ints, h, e)) (final n (omega arith))
 
--- what was counted stays
+-- the counts stay the same with longer lists of marks
 pub saturated_longer : (studio : Studio) (feeds longer : List Feed) (next : ℕ) (counts : List ℕ) → AreLonger feeds longer → AreSaturated studio feeds next counts → AreSaturated studio longer next counts
 saturated_longer studio feeds longer next counts l a = record {
   channels = a.channels;
@@ -49,7 +49,7 @@ saturated_longer studio feeds longer next counts l a = record {
   final = λ number h. covered_longer feeds longer (block_start studio.output (number + 1)) l (a.final number h);
 }
 
--- one mark more makes the lists longer
+-- one more mark makes the lists longer
 pub longer_set : (studio : Studio) (lanes : List LaneState) (feeds : List Feed) (i : ℕ) (lane : LaneState) (feed : Feed) (mark : MarkView) (t : ℤ)
     → AreFed studio.output.start studio.output.frames lanes feeds t → slice_get feeds i ≡ Some feed
     → HasFeed feed.stream studio.output.start studio.output.frames lane (feed.marks ++ mark ∷ []) t
@@ -75,7 +75,7 @@ longer_set studio lanes feeds i lane feed mark t fed at new =
           ];
     }
 
--- instants one after the other
+-- the count of two spans of time, one after the other, is the sum of their counts
 from_split : (studio : Studio) (feeds : List Feed) (channel : ℕ) (t : ℤ) (n m : ℕ) → saturated_from studio feeds channel t (n + m) ≡ saturated_from studio feeds channel t n + saturated_from studio feeds channel (t +ℤ pos n) m
 from_split studio feeds channel t n zero =
     let e : n + 0 ≡ n = omega arith in
@@ -89,7 +89,7 @@ from_split studio feeds channel t n (suc m) =
     let here : at (t +ℤ pos (n + m)) ≡ at ((t +ℤ pos n) +ℤ pos m) = ap at u in
     ap (saturated_from studio feeds channel t) e ∙ omega (arith, first, here)
 
--- what is counted of a block's inputs is what the studio's values have
+-- the saturated samples that are counted from a block's inputs are those of the studio's values
 block_counted : (studio : Studio) (feeds : List Feed) (schedule : Changes) (t : ℤ) (ins : List ℤ) (channel s n : ℕ) → ((f : ℕ) → matrix_at schedule (t +ℤ pos f) ≡ matrix_at studio.schedule (t +ℤ pos f)) → s ≡ shift_of studio.output.enc
     → ((f : ℕ) → f < n → take (ins_of (matrix_at schedule (t +ℤ pos f))) (drop (f * ins_of (matrix_at schedule (t +ℤ pos f))) ins) ≡ studio_values feeds (t +ℤ pos f))
     → saturated_count (λ f. matrix_at schedule (t +ℤ pos f)) ins s channel n ≡ saturated_from studio feeds channel t n
@@ -102,7 +102,7 @@ block_counted studio feeds schedule t ins channel s (suc n) is shift known =
     ∙ ap (λ m. saturated_from studio feeds channel t n + saturated_at m (studio_values feeds (t +ℤ pos n)) s channel) (is n)
     ∙ ap (λ k. saturated_from studio feeds channel t n + saturated_at rows (studio_values feeds (t +ℤ pos n)) k channel) shift
 
--- one block more is counted
+-- the saturated samples of one more block are counted
 pub saturated_next : (studio : Studio) (feeds : List Feed) (n : ℕ) (counts new : List ℕ) (schedule : Changes) (t : ℤ) (ins : List ℤ) (frames s : ℕ)
     → AreSaturated studio feeds n counts → are_covered feeds (block_start studio.output (n + 1)) ≡ true
     → ((f : ℕ) → matrix_at schedule (t +ℤ pos f) ≡ matrix_at studio.schedule (t +ℤ pos f)) → s ≡ shift_of studio.output.enc → frames ≡ studio.output.frames → t ≡ block_start studio.output n
@@ -137,7 +137,7 @@ at_none zero k = refl
 at_none (suc n) zero = refl
 at_none (suc n) (suc k) = at_none n k
 
--- before the first block there is none
+-- no samples are saturated before the first block
 pub none_saturated : (studio : Studio) (feeds : List Feed) (counts : List ℕ) (n : ℕ) → counts ≡ replicate n 0 → n ≡ studio.output.channels → AreSaturated studio feeds 0 counts
 none_saturated studio feeds counts n is channels = record {
   channels = ap length is ∙ length-replicate n 0 ∙ channels;

@@ -46,7 +46,7 @@ end stream = record { format = format_of stream; kind = End }
 abbrev eight : List MarkView
 eight = thousands 65537 (pos 0) ∷ thousands 65538 (pos 6) ∷ thousands 65539 (pos 12) ∷ thousands 65540 (pos 18) ∷ thousands 65541 (pos 24) ∷ thousands 65542 (pos 30) ∷ thousands 65543 (pos 36) ∷ thousands 65544 (pos 42) ∷ []
 
--- both have ended: the second is 1 from 20 to before 68
+-- both streams have ended; the values of the second are 1 from 20 to 67
 abbrev ended : List Feed
 ended = record { stream = first; marks = eight ++ end first ∷ [] } ∷ record { stream = second; marks = ones ∷ end second ∷ [] } ∷ []
 
@@ -71,7 +71,7 @@ last_block = refl
 no_third : is_ready output ended 2 ≡ false
 no_third = refl
 
--- the second is silent to 48, and neither has ended
+-- the second stream is silent to 48, and neither stream has ended
 abbrev quiet : List Feed
 quiet = record { stream = first; marks = eight ++ lost 65545 (pos 48) ∷ [] } ∷ record { stream = second; marks = record { format = format_of second; kind = Quiet (pos 48) } ∷ [] } ∷ []
 

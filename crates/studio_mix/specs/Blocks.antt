@@ -10,7 +10,7 @@ pub record AreBlocks (studio : Studio) (feeds : List Feed) (datagrams : List (Li
   pub ready : (n : ℕ) → nat_lt n (length datagrams) ≡ is_ready studio.output feeds n
   pub each : (n : ℕ) (datagram : List ℕ) → slice_get datagrams n ≡ Some datagram → datagram ≡ datagram_of studio feeds n
 
--- those of the first blocks, which are ready
+-- the datagrams of the first blocks, each of which is ready by these marks
 pub record AreFirstBlocks (studio : Studio) (feeds : List Feed) (datagrams : List (List ℕ)) : Type 0 where
   pub ready : (n : ℕ) → nat_lt n (length datagrams) ≡ true → is_ready studio.output feeds n ≡ true
   pub each : (n : ℕ) (datagram : List ℕ) → slice_get datagrams n ≡ Some datagram → datagram ≡ datagram_of studio feeds n

@@ -6,7 +6,7 @@ use Rattle.rtp_stream.specs.MarkFacts.{MarkView}
 use Rattle.rtp_stream.specs.MarkList.{is_mark_list}
 use Rattle.lane_align.specs.Value.{frame_at}
 
--- a stream, and the marks that it gave
+-- a stream, and the marks that it has produced so far
 pub record Feed : Type 0 where
   pub stream : Stream
   pub marks : List MarkView
@@ -15,7 +15,7 @@ pub record Feed : Type 0 where
 abbrev pub studio_values : List Feed → ℤ → List ℤ
 studio_values feeds t = flat_map (λ (feed : Feed). frame_at (format_of feed.stream) feed.marks t) feeds
 
--- no stream has given a mark
+-- the feeds of streams that have produced no mark
 abbrev pub unfed : List Stream → List Feed
 unfed streams = map (λ stream. record { stream = stream; marks = [] }) streams
 

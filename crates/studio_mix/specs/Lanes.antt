@@ -6,7 +6,7 @@ use Rattle.gain_mix.specs.Mix.{Is24Bits}
 use Rattle.studio_mix.specs.Feed.{Feed, studio_values}
 use Rattle.studio_mix.specs.Room.{rooms_of}
 
--- the lanes were fed these marks, each its stream's, and stand at this time
+-- each lane was fed its stream's marks, and has come to this time
 pub record AreFed (from : ℤ) (size : ℕ) (lanes : List LaneState) (feeds : List Feed) (t : ℤ) : Type 0 where
   pub count : length lanes ≡ length feeds
   pub each : (i : ℕ) (lane : LaneState) (feed : Feed) → slice_get lanes i ≡ Some lane → slice_get feeds i ≡ Some feed
@@ -19,7 +19,7 @@ pub record IsLaneAt (size : ℕ) (time : ℤ) (lane : LaneState) : Type 0 where
   pub some_channels : 0 < lane.format.channels
   pub few_channels : lane.format.channels ≤ 64
 
--- its next block can be read
+-- the lane's next block can be read
 pub record IsReadyLane (size : ℕ) (lane : LaneState) : Type 0 where
   pub block : lane.block ≡ size
   pub covered : covers (cover_at lane) (lane.position +ℤ pos lane.block) ≡ true
@@ -27,15 +27,15 @@ pub record IsReadyLane (size : ℕ) (lane : LaneState) : Type 0 where
   pub some_channels : 0 < lane.format.channels
   pub few_channels : lane.format.channels ≤ 64
 
--- the lane hasn't ended, or its end is past a time
+-- the lane has not ended, or its end is after this time
 abbrev pub reaches_past : ℤ → LaneState → Bool
 reaches_past time lane = not lane.ended || int_lt time (end_at lane)
 
--- the channels of all lanes
+-- the number of channels of all lanes
 abbrev pub lane_channels : List LaneState → ℕ
 lane_channels lanes = sum_by (λ (lane : LaneState). lane.format.channels) lanes
 
--- a block of every lane was read, and the values stand side by side, frame by frame
+-- a block was read from every lane; in each frame the values of all lanes are next to one another, lane after lane
 pub record AreRead (old new : List LaneState) (ins : List ℤ) (frames width : ℕ) : Type 0 where
   pub values : (from : ℤ) (feeds : List Feed) (t : ℤ) → AreFed from frames old feeds t
       → (f : ℕ) → f < frames → take width (drop (f * width) ins) ≡ studio_values feeds (t +ℤ pos f)

@@ -6,10 +6,11 @@ use Rattle.mix_packets.specs.OutSpec.{shift_of}
 use Rattle.studio_config.specs.Studio.{Studio}
 use Rattle.studio_mix.specs.Feed.{Feed, studio_values}
 
--- all channels: each the sum, over all streams and channels, of gain times value, rounded once and saturated once
+-- the samples of all channels: each is the sum, over all streams and channels, of gain times value, rounded once and
+-- saturated once
 abbrev pub mixed_samples : Studio → List Feed → ℤ → List ℤ
 mixed_samples studio feeds t = mixed_frame (matrix_at studio.schedule t) (studio_values feeds t) (shift_of studio.output.enc)
 
--- one channel
+-- the sample of one channel
 abbrev pub mixed_sample : Studio → List Feed → ℕ → ℤ → ℤ
 mixed_sample studio feeds channel t = slice_index_or (mixed_samples studio feeds t) channel (pos 0)

@@ -1,4 +1,4 @@
--- The state of a mixer whose lanes were fed and which has come to a block.
+-- The state of a mixer, and what holds after its lanes were fed marks and it has come to a block.
 use Rattle.std.specs.Prelude.{◌≡◌, ℕ, ◌+◌, ◌*◌, ◌^◌, ◌≤◌, Bool, false, ℤ, pos, ◌+ℤ◌, ◌≤ℤ◌, List, length, map, slice_get, Option, Some, None, All}
 use Rattle.rtp_stream.specs.MarkFacts.{MarkView}
 use Rattle.lane_align.specs.Lane.{LaneState, has_room_for, is_next, is_wanting}
@@ -14,15 +14,15 @@ use Rattle.studio_mix.specs.Feed.{Feed}
 use Rattle.studio_mix.specs.Lanes.{AreFed, IsLaneAt, lane_channels}
 use Rattle.studio_mix.specs.Saturated.{AreSaturated}
 
--- what contracts see of a mixer; `saturated` counts, channel by channel
+-- a mixer as contracts see it; `saturated` has the number of saturated samples of each channel
 pub record MixerState : Type 0 where
   pub lanes : List LaneState
   pub schedule : Changes
   pub packer : PackerState
   pub saturated : List ℕ
 
--- the mixer of this studio was fed these marks, gave the blocks before this one, and counted their saturated samples; it
--- keeps the schedule from this block on
+-- the mixer of this studio was fed these marks, returned the blocks before `next`, and counted their saturated samples;
+-- it keeps the schedule from this block on
 pub record HasFeeds (studio : Studio) (mixer : MixerState) (feeds : List Feed) (next : ℕ) : Type 0 where
   pub output : mixer.packer.spec ≡ studio.output
   pub schedule : mixer.schedule ≡ rest_at studio.schedule (block_start studio.output next)
@@ -32,7 +32,7 @@ pub record HasFeeds (studio : Studio) (mixer : MixerState) (feeds : List Feed) (
   pub lanes : AreFed studio.output.start studio.output.frames mixer.lanes feeds (block_start studio.output next)
   pub saturated : AreSaturated studio feeds next mixer.saturated
 
--- what holds of a lane, if there is one
+-- whether the test holds for the lane; false if there is no lane
 abbrev pub holds_of : (LaneState → Bool) → Option LaneState → Bool
 holds_of test None = false
 holds_of test (Some lane) = test lane
@@ -45,11 +45,11 @@ is_wanted_by mixer stream = holds_of (λ lane. is_wanting lane (lane.position +�
 abbrev pub is_next_of : MixerState → ℕ → MarkView → Bool
 is_next_of mixer stream mark = holds_of (λ lane. is_next lane mark) (slice_get mixer.lanes stream)
 
--- there is room for the mark, though no more may be wanted
+-- there is room for the mark, even if the next block needs no more marks of the stream
 abbrev pub has_room_of : MixerState → ℕ → MarkView → Bool
 has_room_of mixer stream mark = holds_of (λ lane. has_room_for lane mark) (slice_get mixer.lanes stream)
 
--- what is true of every mixer
+-- what holds for every mixer
 pub record IsMixer (mixer : MixerState) (out : Output) (time : ℤ) (one ins outs : List ℤ) : Type 0 where
   pub out_is : out ≡ mixer.packer.spec
   pub out_ok : IsOutput out

@@ -1,10 +1,10 @@
--- The room that a lane needs for marks that come before they are wanted.
+-- The room that a lane needs for marks that come before the next block needs them.
 use Rattle.std.specs.Prelude.{ℕ, ◌+◌, ◌*◌, ◌-◌, max, List, [], ◌∷◌, map}
 use Rattle.rtp_stream.specs.declared.stream_spec.Stream.{Stream}
 use Rattle.lane_align.specs.Lane.{LaneState}
 use Rattle.studio_config.specs.Studio.{Studio}
 
--- how far the marks of a stream may lie behind the time: its latency and a window of packets
+-- how far the marks of a stream may be behind the time: its latency plus a window of packets
 abbrev pub lag_of : Stream → ℕ
 lag_of stream = stream.latency + stream.window * stream.frames
 
@@ -13,7 +13,7 @@ abbrev pub greatest_lag : List Stream → ℕ
 greatest_lag [] = 0
 greatest_lag (stream ∷ streams) = max (lag_of stream) (greatest_lag streams)
 
--- by so much may a stream's marks lie before those of a stream of this lag, and a packet and a block
+-- the frames by which a stream's marks may be ahead of those of a stream with this lag, plus a packet and a block
 abbrev pub capacity_for : ℕ → ℕ → Stream → ℕ
 capacity_for lag block stream = lag - stream.latency + stream.frames + block
 

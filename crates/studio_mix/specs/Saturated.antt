@@ -8,17 +8,18 @@ use Rattle.studio_config.specs.Studio.{Studio}
 use Rattle.studio_mix.specs.Feed.{Feed, studio_values}
 use Rattle.studio_mix.specs.Ready.{are_covered}
 
--- a channel's samples at the first n sampling instants from a time
+-- the number of a channel's saturated samples in the first `n` frames from `t` on
 abbrev pub saturated_from : Studio → List Feed → ℕ → ℤ → ℕ → ℕ
 saturated_from studio feeds channel t zero = 0
 saturated_from studio feeds channel t (suc n) =
     saturated_from studio feeds channel t n + saturated_at (matrix_at studio.schedule (t +ℤ pos n)) (studio_values feeds (t +ℤ pos n)) (shift_of studio.output.enc) channel
 
--- and those of the blocks before one
+-- the number of a channel's saturated samples in the blocks before `next`
 abbrev pub saturated_before : Studio → List Feed → ℕ → ℕ → ℕ
 saturated_before studio feeds next channel = saturated_from studio feeds channel studio.output.start (next * studio.output.frames)
 
--- the counts of the blocks before one, of which each is final, channel by channel; one of 64 bits stays at the greatest
+-- the counts of saturated samples in the blocks before `next`, channel by channel; each count has 64 bits and stays at
+-- the greatest value. The streams' marks cover all of these blocks
 pub record AreSaturated (studio : Studio) (feeds : List Feed) (next : ℕ) (counts : List ℕ) : Type 0 where
   pub channels : length counts ≡ studio.output.channels
   pub each : (channel : ℕ) → channel < studio.output.channels → slice_index_or counts channel 0 ≡ min (saturated_before studio feeds next channel) (2 ^ 64 - 1)

@@ -4,7 +4,7 @@ ghost use Rattle.studio_mix.specs.Room as room;
 
 use rtp_stream::StreamSpec;
 
-/// Returns the frames by which the marks of a stream may lie behind the time: its latency and a window of packets.
+/// Returns the frames by which the marks of a stream may be behind the time: its latency plus a window of packets.
 fn lag_of(stream: &StreamSpec) -> u32
     ensures value { result ≡ room.lag_of stream.now }
     ensures short { result ≤ 2 ^ 23 }

@@ -5,7 +5,7 @@
 //!
 //! 1. As long as the mixer `wants` a mark of a stream, take the next mark of that stream and `feed`
 //!    it if the mixer `accepts` it.
-//! 2. `next_block` writes the next datagram to the front of the caller's slice once every stream is
+//! 2. `next_block` writes the next datagram to the start of the caller's slice once every stream is
 //!    final to the end of its block. Until then it changes nothing and returns `None`.
 //!
 //! After all streams have ended, `next_block` writes the blocks that are left.

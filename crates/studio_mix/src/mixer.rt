@@ -104,7 +104,7 @@ impl Mixer {
     /// a block wants only some of them.
     ///
     /// Each lane has room for a block, a packet, and the frames by which the stream that lags most, by its latency
-    /// and a window of packets, may lie behind this one.
+    /// and a window of packets, may be behind this one.
     pub fn with_room(alloc: Global, spec: &StudioSpec) -> Result<Mixer, AllocError>
         ensures stands { IfOk result (λ mixer. HasFeeds spec.now mixer (unfed spec.now.streams) 0) }
         ensures rooms { IfOk result (λ mixer. rooms_of mixer.lanes ≡ map (room_of spec.now) spec.now.streams) }
@@ -321,7 +321,7 @@ impl Mixer {
         are_covered(self.lanes.as_slice(), end) && reach_past(self.lanes.as_slice(), self.time, end)
     }
 
-    /// Writes the next datagram to the front of `out` and returns its length in octets, or returns `None` and changes
+    /// Writes the next datagram to the start of `out` and returns its length in octets, or returns `None` and changes
     /// nothing if its block isn't ready.
     pub fn next_block(&mut self, out: &mut [u8]) -> Option<usize>
         requires room { datagram_length self.old.packer.spec ≤ length out.old }

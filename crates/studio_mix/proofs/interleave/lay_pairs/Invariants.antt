@@ -3,7 +3,7 @@ use Rattle.gain_mix.specs.Mix.{Is24Bits}
 use Rattle.studio_mix.proofs.LayLemmas.{IsLaid}
 use Rattle.studio_mix.proofs.interleave.lay_pairs.Given as goal
 
--- the frames so far are laid, and the others are as they were
+-- the pairs of the frames so far are in place, and the other frames are as they were
 abbrev pub invariant-loop-frame : goal.invariant-loop-frame
 invariant-loop-frame l = record {
   laid : IsLaid l.width l.at 2 l.values l.fn.wide l.wide l.frame;

@@ -3,7 +3,7 @@ use Rattle.gain_mix.specs.Mix.{Is24Bits}
 use Rattle.studio_mix.proofs.LayLemmas.{IsLaid}
 use Rattle.studio_mix.proofs.interleave.lay_samples.Given as goal
 
--- the samples so far are laid, and the other frames are as they were
+-- the samples of the frames so far are in place, and the other frames are as they were
 abbrev pub invariant-loop-frame : goal.invariant-loop-frame
 invariant-loop-frame l = record {
   laid : IsLaid l.width l.at 1 l.values l.fn.wide l.wide l.frame;
