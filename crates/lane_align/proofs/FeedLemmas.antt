@@ -1,4 +1,4 @@
--- One mark more: the last marks, and the values.
+-- One more mark: the last marks, and the values.
 use Rattle.std.proofs.Common.{◌≡◌, ◌≤◌, ◌<◌, ◌+◌, ◌*◌, ◌/◌, ℕ, Bool, true, false, ◌&&◌, ◌||◌, List, [], ◌∷◌, ◌++◌, length, get_or, ℤ, pos, ◌+ℤ◌, ◌-ℤ◌, ◌≤ℤ◌, ◌<ℤ◌, Option, Some, None, unwrap_or, unsigned_abs, refl, sym, ap, ◌∙◌, arith}
 use Rattle.std.proofs.lemmas.Bool.{false≢true}
 use Rattle.std.proofs.lemmas.Bool.Decides.{nat_tests}
@@ -24,7 +24,7 @@ use Rattle.lane_align.specs.Lane.{IsAfter, frames_between, frames_left, body_sam
 use Rattle.lane_align.proofs.MarkListLemmas.{or_none, both_left, both_right}
 use Rattle.lane_align.proofs.LaneLemmas.{past, none, distance}
 
--- the last marks of a list and one more
+-- the last marks of a list with one more mark
 or_last : {A : Type 0} (a b c : Option A) → option_or (option_or a b) c ≡ option_or a (option_or b c)
 or_last None b c = refl
 or_last (Some x) b c = refl
@@ -46,14 +46,14 @@ pub has_end_more : (marks : List MarkView) (mark : MarkView) → has_end (marks 
 has_end_more [] mark = refl
 has_end_more (x ∷ marks) mark = ap (λ b. is_end x.kind || b) (has_end_more marks mark) ∙ or_past (is_end x.kind) (is_end mark.kind) (has_end marks)
 
--- the samples of a list and what follows it
+-- the samples of a list, and of the marks that follow it
 pub sample_among_more : (format : PacketFormat) (marks more : List MarkView) (t : ℤ) (k : ℕ) → sample_among format (marks ++ more) t k ≡ option_or (sample_among format marks t k) (sample_among format more t k)
 sample_among_more format [] more t k = refl
 sample_among_more format (x ∷ marks) more t k =
     ap (λ o. option_or (sample_in format x.kind t k) o) (sample_among_more format marks more t k)
     ∙ sym (or_last (sample_in format x.kind t k) (sample_among format marks t k) (sample_among format more t k))
 
--- a slot has no frame before it, and none past its end
+-- a slot has no frame before its start, and none after its end
 before_slot : (frames : ℕ) (media t : ℤ) → t <ℤ media → is_within frames media t ≡ false
 before_slot frames media t h = grind (arith, ints)
 
@@ -83,7 +83,7 @@ unwrap_last (Some x) s d = refl
 pub slot_later : (frames e n : ℕ) (m : ℤ) (b : Body) (e' n' : ℕ) (m' : ℤ) (b' : Body) → can_follow frames (Some (Slot e n m b)) (Slot e' n' m' b') ≡ true → (m +ℤ pos frames) ≤ℤ m'
 slot_later frames e n m b e' n' m' b' h = grind (arith, ints, nat_tests)
 
--- the last slot isn't before an earlier one
+-- the last slot is not before an earlier one
 not_before : (format : PacketFormat) (e n : ℕ) (m : ℤ) (b : Body) (marks : List MarkView) → is_mark_list_after format (Some (Slot e n m b)) marks ≡ true
     → m ≤ℤ (unwrap_or (last_slot marks) (record { epoch = e; number = n; media = m })).media
 not_before format e n m b [] h = omega (arith, ints)
@@ -151,7 +151,7 @@ body_in format (Got payload) h i k below lt =
     get_or-map-range_with_len (sample_at format.enc payload.items) 0 (sample_count format.enc payload.items) at at (pos 0) within (omega arith)
 body_in format Lost h i k below lt = get_or-replicate (format.frames * format.channels) (i * format.channels + k) (pos 0) (pos 0) (place_below i format.frames k format.channels below lt)
 
--- where a slot begins, from a position: ahead of it, or so many frames behind
+-- where a slot begins, seen from a position: `before` frames after the position, or `skipped` frames before it
 pub data Place (held before skipped : ℕ) (m t : ℤ) : Type 0 where
   ahead : m ≡ t +ℤ pos before → skipped ≡ 0 → held ≤ before → Place held before skipped m t
   behind : t ≡ m +ℤ pos skipped → before ≡ 0 → held ≡ 0 → Place held before skipped m t

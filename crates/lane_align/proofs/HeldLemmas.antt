@@ -1,4 +1,4 @@
--- Values that are held with silences as numbers.
+-- Values that are held, with silence stored as numbers of frames.
 use Rattle.std.proofs.Common.{◌≡◌, ◌≤◌, ◌<◌, ◌+◌, ◌*◌, ◌-◌, ℕ, min, List, [], ◌++◌, length, take, drop, replicate, ℤ, pos, refl, sym, ap, ◌∙◌, arith, append_assoc, length-append, length-take, length-drop, take-append-drop, inl, inr, zero-mul}
 use Rattle.std.proofs.lemmas.Bool.{cases_lt}
 use Rattle.std.proofs.lemmas.List.{append-nil, length-replicate, replicate-append-replicate, drop_at, take-append-le, drop-append-le, drop_all, take-replicate, drop-replicate, drop_min}
@@ -8,14 +8,14 @@ use borrow.Rule.Slice.PartMut.{put_mid}
 use Rattle.circular_buffer.specs.Buffer.{Buffer, buffer}
 use Rattle.lane_align.specs.HeldValues.{Held, silence, first_values, values_held, IsHeld}
 
--- one frame more
+-- one more frame of silence
 pub silence_more : (items : List ℤ) (channels i : ℕ) → (items ++ silence channels i) ++ replicate channels (pos 0) ≡ items ++ silence channels (i + 1)
 silence_more items channels i =
     append_assoc items (silence channels i) (replicate channels (pos 0))
     ∙ ap (λ s. items ++ s) (replicate-append-replicate (i * channels) channels (pos 0)
     ∙ ap (λ n. replicate n (pos 0)) (let e : i * channels + channels ≡ (i + 1) * channels = omega arith in e))
 
--- one frame more is stored
+-- one more frame of silence was stored
 pub frame_stored : (base : List ℤ) (channels i frames capacity : ℕ) (stored new : Buffer ℤ) (r : ℕ)
     → stored ≡ buffer (base ++ silence channels i) capacity
     → r ≡ min (length (take channels (replicate 64 (pos 0)))) (stored.capacity - length stored.items)
@@ -39,7 +39,7 @@ frame_stored base channels i frames capacity stored new r e k h few room lt =
     ∙ ap (λ xs. buffer ((base ++ silence channels i) ++ xs) capacity) piece
     ∙ ap (λ xs. buffer xs capacity) (silence_more base channels i)
 
--- silence that reaches past the end
+-- the first values, if silence reaches past their end
 first_silent : (n a : ℕ) (rest : List ℤ) → n ≤ a → first_values n (replicate a (pos 0) ++ rest) ≡ replicate n (pos 0)
 first_silent n a rest h =
     let len : length (replicate a (pos 0)) ≡ a = length-replicate a (pos 0) in
@@ -48,7 +48,7 @@ first_silent n a rest h =
     ∙ take-append-le n (replicate a (pos 0)) rest (omega arith)
     ∙ take-replicate n a (pos 0) h
 
--- what there is, and silence
+-- the first values of a list that may be too short: its values, and then silence
 first_stored : (w n : ℕ) (xs : List ℤ) → w ≤ n → take w (xs ++ replicate n (pos 0)) ≡ take (min w (length xs)) xs ++ replicate (w - min w (length xs)) (pos 0)
 first_stored w n xs h = elim (cases_lt (length xs) w) [
   | inl short ↦
@@ -65,7 +65,7 @@ first_stored w n xs h = elim (cases_lt (length xs) w) [
       ∙ sym (ap (λ k. take k xs ++ replicate (w - k) (pos 0)) m ∙ ap (λ k. take w xs ++ replicate k (pos 0)) none ∙ append-nil (take w xs))
 ]
 
--- silence, then what there is, and silence
+-- the first values after silence: the silence, then the values of a list, and then silence
 first_after : (z w : ℕ) (xs : List ℤ) → first_values (z + w) (replicate z (pos 0) ++ xs) ≡ replicate z (pos 0) ++ (take (min w (length xs)) xs ++ replicate (w - min w (length xs)) (pos 0))
 first_after z w xs =
     ap (take (z + w)) (append_assoc (replicate z (pos 0)) xs (replicate (z + w) (pos 0)))
@@ -73,7 +73,7 @@ first_after z w xs =
     ∙ take-append-add (replicate z (pos 0)) (xs ++ replicate (z + w) (pos 0)) w
     ∙ ap (λ s. replicate z (pos 0) ++ s) (first_stored w (z + w) xs (omega arith))
 
--- exactly what stands before a gap
+-- the first values, if they end exactly at a gap
 first_gapped : (z : ℕ) (xs rest : List ℤ) → first_values (z + length xs) (replicate z (pos 0) ++ (xs ++ rest)) ≡ replicate z (pos 0) ++ xs
 first_gapped z xs rest =
     ap (take (z + length xs)) (append_assoc (replicate z (pos 0)) (xs ++ rest) (replicate (z + length xs) (pos 0)))
@@ -82,7 +82,7 @@ first_gapped z xs rest =
     ∙ ap (λ s. replicate z (pos 0) ++ take (length xs) s) (append_assoc xs rest (replicate (z + length xs) (pos 0)))
     ∙ ap (λ s. replicate z (pos 0) ++ s) (take-append_seam xs (rest ++ replicate (z + length xs) (pos 0)))
 
--- what is written: silence, the stored values that were read, and silence
+-- the values that are written: silence, the stored values that were read, and silence
 written : (n z r : ℕ) (stored : List ℤ) → z ≤ n → r ≤ n - z
     → put_mid z (n - z) (replicate n (pos 0)) (take r stored ++ drop r (take (n - z) (drop z (replicate n (pos 0))))) ≡ replicate z (pos 0) ++ (take r stored ++ replicate (n - z - r) (pos 0))
 written n z r stored low few =
@@ -97,14 +97,14 @@ written n z r stored low few =
     ∙ ap (λ s. replicate z (pos 0) ++ ((take r stored ++ replicate (n - z - r) (pos 0)) ++ s)) none
     ∙ ap (λ s. replicate z (pos 0) ++ s) (append-nil (take r stored ++ replicate (n - z - r) (pos 0)))
 
--- with no gap, the values are the silence before and what is stored
+-- without a gap, the values are the silence before and the stored values
 pub without_gap : (channels lead front gap : ℕ) (stored : List ℤ) → gap ≡ 0 → values_held channels lead front gap stored ≡ silence channels lead ++ stored
 without_gap channels lead front gap stored none =
     ap (λ g. silence channels lead ++ (take front stored ++ (silence channels g ++ drop front stored))) none
     ∙ ap (λ k. silence channels lead ++ (take front stored ++ (replicate k (pos 0) ++ drop front stored))) (zero-mul channels)
     ∙ ap (λ s. silence channels lead ++ s) (take-append-drop front stored)
 
--- which of the three shapes they have at the next block: all silence, no gap in it, or a gap at its end
+-- the three shapes that the values of the next block can have: all silence, no gap in the block, or a gap at its end
 data Shape (channels block lead front gap : ℕ) (stored : List ℤ) : Type 0 where
   quiet : gap ≡ 0 → block < lead → Shape channels block lead front gap stored
   plain : gap ≡ 0 → lead ≤ block → Shape channels block lead front gap stored
@@ -126,7 +126,7 @@ shape_of channels block lead front gap stored held = elim (cases_lt 0 gap) [
       elim (cases_lt block lead) [ inl long ↦ quiet no_gap long | inr short ↦ plain no_gap short ]
 ]
 
--- what is read is the first values
+-- the values that are read are the first ones that are held
 pub values_read : (channels block lead front gap : ℕ) (stored : List ℤ) → IsHeld channels block lead front gap stored → (silent r : ℕ) (filled dst : List ℤ)
     → silent ≡ min lead block → filled ≡ replicate (block * channels) (pos 0)
     → r ≡ min (length (take (length filled - silent * channels) (drop (silent * channels) filled))) (length stored)
@@ -178,7 +178,7 @@ values_read channels block lead front gap stored held silent r filled dst e_sile
           ∙ ap (λ k. replicate z (pos 0) ++ take k stored) r_front)
     ])
 
--- and what is left are the rest
+-- the values that are left after reading are the rest of those that were held
 pub rest_read : (channels block lead front gap : ℕ) (stored : List ℤ) → IsHeld channels block lead front gap stored → (silent r : ℕ)
     → silent ≡ min lead block
     → r ≡ min (block * channels - silent * channels) (length stored)
@@ -239,7 +239,7 @@ length_held channels lead front gap stored some =
     let inner = length-append (silence channels gap) (drop front stored) in
     omega arith
 
--- where less than a block is held, there is no gap in it
+-- if at most a block is held, there is no gap in it
 pub no_gap : (channels block lead front gap : ℕ) (stored : List ℤ) → IsHeld channels block lead front gap stored → length (values_held channels lead front gap stored) ≤ block * channels → gap ≡ 0
 no_gap channels block lead front gap stored held short = elim (cases_lt 0 gap) [
   | inl some ↦
@@ -255,7 +255,7 @@ no_gap channels block lead front gap stored held short = elim (cases_lt 0 gap) [
 abbrev pub held_of : ℕ → ℕ → ℕ → List ℤ → Held
 held_of channels block room values = record { channels = channels; block = block; room = room; values = values }
 
--- silence and samples at the end
+-- silence and samples are added at the end
 pub values_added : (channels block lead front gap : ℕ) (stored : List ℤ) → IsHeld channels block lead front gap stored → (silent more capacity r end : ℕ) (samples : List ℤ) (old silenced new : Buffer ℤ)
     → old ≡ buffer stored capacity
     → length (values_held channels lead front gap stored) + silent * channels ≤ block * channels
@@ -292,7 +292,7 @@ values_added channels block lead front gap stored held silent more capacity r en
     ∙ sym (append_assoc (silence channels lead) stored (silence channels (silent + more) ++ samples))
     ∙ ap (λ xs. xs ++ (silence channels (silent + more) ++ samples)) (sym plain))
 
--- silence and samples at the end, all of them stored
+-- silence and samples are added at the end, and the silence is stored as values
 pub values_appended : (channels block lead front gap : ℕ) (stored : List ℤ) → IsHeld channels block lead front gap stored → (silent capacity r : ℕ) (samples : List ℤ) (old silenced new : Buffer ℤ)
     → old ≡ buffer stored capacity
     → length (values_held channels lead front gap stored) + silent * channels + length samples ≤ capacity

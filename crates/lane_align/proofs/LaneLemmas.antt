@@ -19,7 +19,7 @@ use Rattle.lane_align.specs.Lane.{LaneState, HasFeed, IsLane, is_next, last_kind
 use Rattle.lane_align.proofs.MarkListLemmas.{next_is}
 use Rattle.lane_align.proofs.ValueLemmas.{frames_by_place}
 
--- what may follow
+-- a mark may follow a lane's marks exactly if they stay a mark list with it
 pub fed_next : (stream : Stream) (from : ℤ) (size : ℕ) (lane : LaneState) (marks : List MarkView) (t : ℤ) (mark : MarkView)
     → HasFeed stream from size lane marks t → is_next lane mark ≡ is_mark_list (format_of stream) (marks ++ mark ∷ [])
 fed_next stream from size lane marks t mark fed =
@@ -32,11 +32,11 @@ fed_next stream from size lane marks t mark fed =
 abbrev pub lane_of : PacketFormat → ℤ → ℕ → ℤ → Option LastSlot → Option ℤ → Bool → ℕ → List ℤ → LaneState
 lane_of format start block position slot quiet ended room values = record { format = format; start = start; block = block; position = position; slot = slot; quiet = quiet; ended = ended; room = room; values = values }
 
--- a block is read
+-- a lane after a block was read
 abbrev pub after_block : LaneState → List ℤ → LaneState
 after_block lane values = record { format = lane.format; start = lane.start; block = lane.block; position = lane.position +ℤ pos lane.block; slot = lane.slot; quiet = lane.quiet; ended = lane.ended; room = lane.room; values = values }
 
--- what is past is a distance, and what isn't is none
+-- the distance to a later time is its difference, and the distance to an earlier time is 0
 pub data Distance (z : ℤ) : Type 0 where
   past : pos (natural z) ≡ z → Distance z
   none : z <ℤ pos 0 → natural z ≡ 0 → Distance z

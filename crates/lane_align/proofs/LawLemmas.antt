@@ -1,4 +1,4 @@
--- More marks: the values of a list and its cover that stay.
+-- More marks: the values of a list and its cover that do not change.
 use Rattle.std.proofs.Common.{◌≡◌, ℕ, Bool, true, ◌&&◌, List, [], ◌∷◌, ◌++◌, ℤ, pos, ◌+ℤ◌, ◌≤ℤ◌, ◌<ℤ◌, Option, Some, None, unwrap_or, refl, sym, ap, subst, ◌∙◌, arith, append_assoc, inl, inr, if◌then◌else◌}
 use Rattle.std.proofs.lemmas.Bool.{cases_Bool, false≢true}
 use Rattle.std.proofs.lemmas.Int.{ints, clamps}
@@ -63,7 +63,7 @@ reaches_more format last (x ∷ more) t r h =
     let rest = both_right (is_same_format x.format format && can_follow format.frames last x.kind) (is_mark_list_after format (Some x.kind) more) h in
     reaches_more format (Some x.kind) more t (reaches_next format.frames last x.kind t r follows) rest
 
--- what is covered is what the last mark reaches
+-- a time that is covered is one that the last mark reaches
 reaches_of : (frames : ℕ) (last : Option MarkKind) (e : Bool) (s : Option LastSlot) (q : Option ℤ) (t : ℤ) → Agrees frames last e s q → covers (cover_to e (time_reached frames s q)) t ≡ true → Reaches frames last t
 unfolding Reaches
 reaches_of frames last e s q t fresh h = absurd (false≢true h)
@@ -91,7 +91,7 @@ kind_after_more : (last : Option MarkKind) (marks more : List MarkView) → kind
 kind_after_more last [] more = refl
 kind_after_more last (x ∷ marks) more = kind_after_more (Some x.kind) marks more
 
--- values before the cover stay
+-- values before the cover stay the same after more marks
 pub values_stay : (format : PacketFormat) (marks more : List MarkView) (t : ℤ) (k : ℕ) → is_mark_list format (marks ++ more) ≡ true → covers (cover_of format marks) (t +ℤ pos 1) ≡ true
     → value_at format (marks ++ more) t k ≡ value_at format marks t k
 values_stay format marks more t k listed covered =
@@ -103,7 +103,7 @@ values_stay format marks more t k listed covered =
     ∙ ap (λ o. option_or (sample_among format marks t k) o) (silent_more format (kind_after None marks) more t k reached after)
     ∙ or_none (sample_among format marks t k))
 
--- and so does the cover
+-- a time that is covered stays covered after more marks
 pub cover_stays : (format : PacketFormat) (marks more : List MarkView) (t : ℤ) → is_mark_list format (marks ++ more) ≡ true → covers (cover_of format marks) t ≡ true
     → covers (cover_of format (marks ++ more)) t ≡ true
 cover_stays format marks more t listed covered =
@@ -123,7 +123,7 @@ end_stays format marks more listed is_over =
     let last = ends_last format.frames (kind_after None marks) (last_slot marks) (last_quiet marks) agrees in
     after_end format more (subst (λ o. is_mark_list_after format o more ≡ true) last (list_after format None marks more listed))
 
--- accepted marks begin with what was accepted, and are a mark list
+-- the accepted marks begin with those that were accepted before, and are a mark list
 pub record Extends (format : PacketFormat) (accepted result : List MarkView) : Type 0 where
   pub more : List MarkView
   pub is : result ≡ accepted ++ more

@@ -14,7 +14,7 @@ use Rattle.lane_align.specs.declared.last_slot.LastSlot.{LastSlot}
 use Rattle.lane_align.specs.Cover.{slot_of, quiet_of, last_slot, last_quiet}
 use Rattle.lane_align.specs.Lane.{last_kind}
 
--- the last mark's kind
+-- the kind of the last mark
 abbrev pub kind_after : Option MarkKind → List MarkView → Option MarkKind
 kind_after last [] = last
 kind_after last (mark ∷ marks) = kind_after (Some mark.kind) marks
@@ -48,7 +48,7 @@ pub or_false : (a : Bool) → a || false ≡ a
 or_false true = refl
 or_false false = refl
 
--- one mark more
+-- a mark list with one more mark
 list_more : (format : PacketFormat) (last : Option MarkKind) (marks : List MarkView) (mark : MarkView)
     → is_mark_list_after format last (marks ++ mark ∷ []) ≡ is_mark_list_after format last marks && (is_same_format mark.format format && can_follow format.frames (kind_after last marks) mark.kind)
 list_more format last [] mark = elim (cases_Bool (is_same_format mark.format format && can_follow format.frames last mark.kind)) [
@@ -59,7 +59,7 @@ list_more format last (x ∷ marks) mark =
     ap (λ b. (is_same_format x.format format && can_follow format.frames last x.kind) && b) (list_more format (Some x.kind) marks mark)
     ∙ sym (and_assoc (is_same_format x.format format && can_follow format.frames last x.kind) (is_mark_list_after format (Some x.kind) marks) (is_same_format mark.format format && can_follow format.frames (kind_after (Some x.kind) marks) mark.kind))
 
--- of a list and one more, the list is a mark list
+-- if two lists together are a mark list, so is the first one
 pub list_before : (format : PacketFormat) (last : Option MarkKind) (marks more : List MarkView) → is_mark_list_after format last (marks ++ more) ≡ true → is_mark_list_after format last marks ≡ true
 list_before format last [] more h = refl
 list_before format last (x ∷ marks) more h =
@@ -67,20 +67,20 @@ list_before format last (x ∷ marks) more h =
     let rest = list_before format (Some x.kind) marks more (both_right (is_same_format x.format format && can_follow format.frames last x.kind) (is_mark_list_after format (Some x.kind) (marks ++ more)) h) in
     rw here rest
 
--- and the rest is one after it
+-- if two lists together are a mark list, the second one may follow the first
 pub list_after : (format : PacketFormat) (last : Option MarkKind) (marks more : List MarkView) → is_mark_list_after format last (marks ++ more) ≡ true → is_mark_list_after format (kind_after last marks) more ≡ true
 list_after format last [] more h = h
 list_after format last (x ∷ marks) more h =
     list_after format (Some x.kind) marks more (both_right (is_same_format x.format format && can_follow format.frames last x.kind) (is_mark_list_after format (Some x.kind) (marks ++ more)) h)
 
--- the last mark, as the last slot, the last Quiet and the end tell it
+-- how the last mark agrees with the last slot, the last Quiet and the end
 pub data Agrees (frames : ℕ) : Option MarkKind → Bool → Option LastSlot → Option ℤ → Type 0 where
   fresh : Agrees frames None false None None
   quiet : (u : ℤ) → Agrees frames (Some (Quiet u)) false None (Some u)
   slot : (e n : ℕ) (m : ℤ) (b : Body) (q : Option ℤ) → ((u : ℤ) → q ≡ Some u → u ≤ℤ (m +ℤ pos frames)) → Agrees frames (Some (Slot e n m b)) false (Some (record { epoch = e; number = n; media = m })) q
   ended : (s : Option LastSlot) (q : Option ℤ) → Agrees frames (Some End) true s q
 
--- it agrees with what follows
+-- the agreement holds after a mark that may follow
 agrees_next : (frames : ℕ) (last : Option MarkKind) (e : Bool) (s : Option LastSlot) (q : Option ℤ) (next : MarkKind)
     → Agrees frames last e s q → can_follow frames last next ≡ true
     → Agrees frames (Some next) (is_end next || e) (option_or (slot_of next) s) (option_or (quiet_of next) q)
@@ -106,7 +106,7 @@ agrees_after format last e s q (x ∷ marks) agrees h =
     rw (or_turn (is_end x.kind) (has_end marks) e, or_assoc (last_slot marks) (slot_of x.kind) s, or_assoc (last_quiet marks) (quiet_of x.kind) q)
     (agrees_after format (Some x.kind) (is_end x.kind || e) (option_or (slot_of x.kind) s) (option_or (quiet_of x.kind) q) marks (agrees_next format.frames last e s q x.kind agrees follows) rest)
 
--- of a mark list
+-- the agreement holds for each mark list
 pub agrees_of : (format : PacketFormat) (marks : List MarkView) → is_mark_list format marks ≡ true → Agrees format.frames (kind_after None marks) (has_end marks) (last_slot marks) (last_quiet marks)
 agrees_of format marks h = rw (or_false (has_end marks), or_none (last_slot marks), or_none (last_quiet marks)) at (agrees_after format None false None None marks fresh h)
 
@@ -118,7 +118,7 @@ agrees_follow frames last e s q (Quiet u') (slot e0 n0 m0 b0 q0 le) = refl
 agrees_follow frames last e s q End (slot e0 n0 m0 b0 q0 le) = refl
 agrees_follow frames last e s q next (ended s0 q0) = refl
 
--- one mark more is a mark list exactly where it may follow the last
+-- a mark list with one more mark is a mark list exactly if that mark may follow the last one
 pub next_is : (format : PacketFormat) (marks : List MarkView) (mark : MarkView) → is_mark_list format marks ≡ true
     → is_mark_list format (marks ++ mark ∷ []) ≡ is_same_format mark.format format && can_follow format.frames (last_kind (has_end marks) (last_slot marks) (last_quiet marks)) mark.kind
 next_is format marks mark h =

@@ -1,4 +1,4 @@
--- One slot more: the marks that a lane was fed.
+-- The marks that a lane was fed, after one more slot.
 use Rattle.std.proofs.Common.{◌≡◌, ◌≤◌, ◌<◌, ◌+◌, ◌*◌, ◌-◌, ◌^◌, ℕ, min, Bool, true, false, not, ◌||◌, List, [], ◌∷◌, ◌++◌, length, take, drop, replicate, get_or, ℤ, pos, ◌+ℤ◌, ◌-ℤ◌, ◌≤ℤ◌, ◌<ℤ◌, Option, Some, None, unwrap_or, unsigned_abs, refl, sym, ap, subst, ◌∙◌, arith, length-append, length-drop, inl, inr}
 use Rattle.std.proofs.lemmas.Bool.{cases_lt, false≢true}
 use Rattle.std.proofs.lemmas.Bool.Decides.{nat_tests}
@@ -29,7 +29,7 @@ use Rattle.lane_align.proofs.MarkListLemmas.{or_none, both_right}
 use Rattle.lane_align.proofs.LaneLemmas.{past, none, distance, times_less, lane_of}
 use Rattle.lane_align.proofs.FeedLemmas.{last_slot_more, last_quiet_more, has_end_more, sample_among_more, sample_before, sample_past, sample_within, silent_after, body_length, body_in, place_below, slot_later, ahead, behind, place_of}
 
--- the values of a list and a slot: those of the list before it, and its own from it on
+-- the values of a list and a slot after it: those of the list before the slot, and those of the slot from its start on
 value_before : (format : PacketFormat) (marks : List MarkView) (mark : MarkView) (e n : ℕ) (m : ℤ) (b : Body) (u : ℤ) (k : ℕ) → mark.kind ≡ Slot e n m b → u <ℤ m
     → value_at format (marks ++ mark ∷ []) u k ≡ value_at format marks u k
 value_before format marks mark e n m b u k is_slot early =
@@ -94,12 +94,12 @@ in_silence xs ss c held gap f k len lt late early =
     ∙ get_or_append_left (silence c gap) ss (pos 0) (j * c + k) (omega arith)
     ∙ get_or-replicate (gap * c) (j * c + k) (pos 0) (pos 0) below
 
--- a time that isn't left is from the end of the last slot on
+-- a time of which no frame is left is not before the end of the last slot
 not_left : (frames : ℕ) (t : ℤ) (slot : Option LastSlot) (f : ℕ) → frames_left frames t slot ≤ f → IsAfter frames slot (t +ℤ pos f)
 not_left frames t None f h = tt
 not_left frames t (Some s) f h = elim (distance ((s.media +ℤ pos frames) -ℤ t)) [ past a ↦ omega (arith, ints) | none a y ↦ omega (arith, ints) ]
 
--- the values by places
+-- the values after one more slot, by places
 slot_values : (format : PacketFormat) (marks : List MarkView) (mark : MarkView) (e n : ℕ) (m : ℤ) (b : Body) (t : ℤ) (slot : Option LastSlot) (xs : List ℤ)
     → mark.kind ≡ Slot e n m b → HasLength (payload_length format) b → is_mark_list format marks ≡ true → slot ≡ last_slot marks → IsAfter format.frames slot m
     → length xs ≡ frames_left format.frames t slot * format.channels
@@ -138,7 +138,7 @@ slot_values format marks mark e n m b t slot xs is_slot fits listed is_last afte
       ]
     ]
 
--- the lane was fed the slot
+-- the lane was fed a slot
 pub fed_slot : (stream : Stream) (from : ℤ) (size : ℕ) (lane : LaneState) (marks : List MarkView) (t : ℤ) (mark : MarkView) (e n : ℕ) (m : ℤ) (b : Body)
     → HasFeed stream from size lane marks t → mark.kind ≡ Slot e n m b → HasLength (payload_length lane.format) b → IsAfter lane.format.frames lane.slot m
     → length lane.values ≡ frames_left lane.format.frames lane.position lane.slot * lane.format.channels
@@ -166,14 +166,14 @@ fed_slot stream from size lane marks t mark e n m b fed is_slot fits after len l
       ∙ values f k lt;
 }
 
--- silence at the front of other values
+-- silence before other values
 pub silence_at_front : (n k : ℕ) (xs ys : List ℤ) → k ≡ n → xs ≡ replicate k (pos 0) → take n (xs ++ ys) ≡ replicate n (pos 0)
 silence_at_front n k xs ys same silent =
     let all : xs ≡ replicate n (pos 0) = silent ∙ ap (λ k. replicate k (pos 0)) same in
     let len : length xs ≡ n = ap length all ∙ length-replicate n (pos 0) in
     ap (λ k. take k (xs ++ ys)) (sym len) ∙ take-append_seam xs ys ∙ all
 
--- what is read of a slot, from the first frame that isn't skipped on
+-- the samples that are read from a slot, from the first frame that is not skipped on
 pub slot_part : (format : PacketFormat) (body : Body) (samples : List ℤ) (skipped channels frames : ℕ) → channels ≡ format.channels → frames ≡ format.frames
     → take (format.frames * format.channels) samples ≡ body_samples format body
     → between (skipped * channels) (frames * channels) samples ≡ drop (skipped * format.channels) (body_samples format body)
@@ -183,7 +183,7 @@ slot_part format body samples skipped channels frames e_channels e_frames e =
     ∙ between_is samples (skipped * format.channels) (format.frames * format.channels)
     ∙ ap (drop (skipped * format.channels)) e
 
--- what is added behind what is held
+-- the samples that are added after the values that are held
 pub part_added : (held next : Held) (format : PacketFormat) (body : Body) (samples : List ℤ) (silent skipped channels frames : ℕ) → channels ≡ format.channels → frames ≡ format.frames
     → take (format.frames * format.channels) samples ≡ body_samples format body
     → next ≡ record held { values = held.values ++ (silence held.channels silent ++ between (skipped * channels) (frames * channels) samples) }
@@ -191,7 +191,7 @@ pub part_added : (held next : Held) (format : PacketFormat) (body : Body) (sampl
 part_added held next format body samples silent skipped channels frames e_channels e_frames e_samples e =
     e ∙ ap (λ xs. record held { values = held.values ++ (silence held.channels silent ++ xs) }) (slot_part format body samples skipped channels frames e_channels e_frames e_samples)
 
--- no more frames than all can be skipped
+-- skipping more frames than the slot has skips all of them
 slot_rest : (ss : List ℤ) (c frames k skipped : ℕ) → length ss ≡ frames * c → skipped ≡ min k frames → drop (skipped * c) ss ≡ drop (k * c) ss
 slot_rest ss c frames k skipped len s = elim (cases_lt k frames) [
   | inl some ↦ let same : skipped ≡ k = omega arith in ap (λ x. drop (x * c) ss) same
@@ -201,7 +201,7 @@ slot_rest ss c frames k skipped len s = elim (cases_lt k frames) [
       ap (λ x. drop (x * c) ss) same ∙ drop_all (frames * c) ss (omega arith) ∙ sym (drop_all (k * c) ss (omega arith))
 ]
 
--- what is added is what the slot adds
+-- the values that are added to what is held are those that the slot adds to the lane
 pub slot_joined : (lane : LaneState) (held next : Held) (slot : LastSlot) (body : Body) (silent past_by skipped : ℕ)
     → IsLane lane held → HasLength (payload_length lane.format) body
     → silent ≡ frames_between lane.position slot.media - frames_left lane.format.frames lane.position lane.slot
@@ -221,7 +221,7 @@ slot_joined lane held next slot body silent past_by skipped sound fits gap e_pas
     ∙ ap (λ n. record held { values = held.values ++ (silence n (frames_between lane.position slot.media - frames_left p lane.position lane.slot) ++ drop (frames_between slot.media lane.position * c) (body_samples lane.format body)) }) sound.channels
     ∙ ap (λ xs. record held { values = xs ++ (silence c (frames_between lane.position slot.media - frames_left p lane.position lane.slot) ++ drop (frames_between slot.media lane.position * c) (body_samples lane.format body)) }) (sym sound.values)
 
--- the same where a part of the silence is stored
+-- the same if a part of the silence is stored as values
 pub slot_added : (lane : LaneState) (held next : Held) (slot : LastSlot) (body : Body) (left before stored more block past_by skipped : ℕ)
     → IsLane lane held → HasLength (payload_length lane.format) body
     → left ≡ frames_left lane.format.frames lane.position lane.slot
@@ -235,7 +235,7 @@ slot_added lane held next slot body left before stored more block past_by skippe
     let gap : stored + more ≡ frames_between lane.position slot.media - frames_left lane.format.frames lane.position lane.slot = omega arith in
     slot_joined lane held next slot body (stored + more) past_by skipped sound fits gap e_past e_skipped e
 
--- what a lane holds reaches from its position to the end of its last slot
+-- the values that a lane holds reach from its position to the end of its last slot
 pub slot_length : (lane : LaneState) (held : Held) (slot : LastSlot) (body : Body)
     → IsLane lane held → HasLength (payload_length lane.format) body → IsAfter lane.format.frames lane.slot slot.media
     → length (with_slot lane slot body).values ≡ frames_between lane.position (slot.media +ℤ pos lane.format.frames) * lane.format.channels
@@ -262,7 +262,7 @@ slot_length lane held slot body sound fits after =
     ∙ sum
     ∙ ap (λ n. n * c) total
 
--- there is room for all of it where there is room to the slot's end
+-- if there is room for the frames to the slot's end, there is room for all values that are added
 pub kept_room : (lane : LaneState) (held : Held) (slot : LastSlot) (body : Body) (silent past_by skipped : ℕ)
     → IsLane lane held → HasLength (payload_length lane.format) body
     → silent ≡ frames_between lane.position slot.media - frames_left lane.format.frames lane.position lane.slot
@@ -286,7 +286,7 @@ kept_room lane held slot body silent past_by skipped sound fits gap e_past e_ski
     let e_room : held.room ≡ lane.room * c = sound.room in
     omega arith
 
--- with a slot, what is true of a lane is true of it
+-- what holds for every lane holds for a lane after one more slot
 pub slot_sound : (lane : LaneState) (held next : Held) (slot : LastSlot) (body : Body)
     → IsLane lane held → IsSlot (Some slot) → HasLength (payload_length lane.format) body → IsAfter lane.format.frames lane.slot slot.media
     → next ≡ record held { values = (with_slot lane slot body).values } → All Is24Bits (body_samples lane.format body)
@@ -318,7 +318,7 @@ slot_sound lane held next slot body sound small fits after e in_24_bits = record
   left = ap (λ (h : Held). length h.values) e ∙ slot_length lane held slot body sound fits after;
 }
 
--- there is room in the block
+-- the silence fits the block
 pub block_room : (len left stored block c held_c held_block : ℕ) → len ≡ left * c → held_c ≡ c → held_block ≡ block → left + stored ≤ block → len + stored * held_c ≤ held_block * held_c
 block_room len left stored block c held_c held_block e_len e_c e_block h =
     let more : (left + stored) * c ≤ block * c = mul-le-mul_right c h in
@@ -338,7 +338,7 @@ block_full len left stored block c held_c held_block e_len e_c e_block h =
 pub short_gap : (p m : ℤ) → pos 0 ≤ℤ p → m ≤ℤ pos (2 ^ 61) → frames_between p m ≤ 2 ^ 61
 short_gap p m h g = elim (distance (m -ℤ p)) [ past a ↦ omega (arith, ints) | none a y ↦ omega (arith, ints) ]
 
--- a mark that isn't a slot changes no value
+-- a mark that has no sample at a time changes no value at that time
 value_same : (format : PacketFormat) (marks : List MarkView) (mark : MarkView) (u : ℤ) (k : ℕ) → sample_in format mark.kind u k ≡ None → value_at format (marks ++ mark ∷ []) u k ≡ value_at format marks u k
 value_same format marks mark u k silent =
     ap (λ o. unwrap_or o (pos 0)) (
@@ -378,7 +378,7 @@ fed_end stream from size lane marks t mark fed is_last listed = record {
   values = λ f k lt. fed.values f k lt ∙ sym (value_same (format_of stream) marks mark (t +ℤ pos f) k (ap (λ kind. sample_in (format_of stream) kind (t +ℤ pos f) k) is_last));
 }
 
--- a slot that is accepted comes after the last
+-- a slot that is accepted is after the last one
 follows_after : (frames : ℕ) (ended : Bool) (slot : Option LastSlot) (quiet : Option ℤ) (e n : ℕ) (m : ℤ) (b : Body) → can_follow frames (last_kind ended slot quiet) (Slot e n m b) ≡ true → IsAfter frames slot m
 follows_after frames true slot quiet e n m b h = absurd (false≢true h)
 follows_after frames false None quiet e n m b h = tt
@@ -390,7 +390,7 @@ next_after lane mark e n m b h is_slot =
     (ap (can_follow lane.format.frames (last_kind lane.ended lane.slot lane.quiet)) (sym is_slot)
     ∙ both_right (is_same_format mark.format lane.format) (can_follow lane.format.frames (last_kind lane.ended lane.slot lane.quiet) mark.kind) h)
 
--- while the next block is wanted, less than a block is left
+-- while the next block needs more marks, less than a block is left
 left_of : (frames : ℕ) (t : ℤ) (block : ℕ) (ended : Bool) (slot : Option LastSlot) (quiet : Option ℤ) → 0 < block → not (covers (cover_to ended (time_reached frames slot quiet)) (t +ℤ pos block)) ≡ true → frames_left frames t slot < block
 left_of frames t block true slot quiet some h = absurd (false≢true h)
 left_of frames t block false None quiet some h = some
@@ -406,7 +406,7 @@ left_of frames t block false (Some s) (Some u) some h =
 pub wanted_left : (lane : LaneState) → 0 < lane.block → is_wanting lane (lane.position +ℤ pos lane.block) ≡ true → frames_left lane.format.frames lane.position lane.slot < lane.block
 wanted_left lane some h = left_of lane.format.frames lane.position lane.block lane.ended lane.slot lane.quiet some h
 
--- a block and a packet have room
+-- there is room for a block and a packet
 pub slot_room : (held_block block held_c c p room held_room skipped : ℕ) → held_block ≡ block → held_c ≡ c → block + p ≤ room → held_room ≡ room * c
     → held_block * held_c + (p * c - skipped * c) ≤ held_room
 slot_room held_block block held_c c p room held_room skipped e_block e_held enough e_room =

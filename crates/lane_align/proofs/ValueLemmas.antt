@@ -9,7 +9,7 @@ use Rattle.rtp_stream.specs.declared.mark.PacketFormat.{PacketFormat}
 use Rattle.lane_align.specs.HeldValues.{first_values}
 use Rattle.lane_align.specs.Value.{value_at, frames_from}
 
--- past the end there is silence
+-- every value of silence is 0, also past its end
 get_or-silence : (n i : ℕ) → get_or (replicate n (pos 0)) i (pos 0) ≡ pos 0
 get_or-silence n i = elim (cases_lt i n) [
   | inl below ↦ get_or-replicate n i (pos 0) (pos 0) below
@@ -56,7 +56,7 @@ rows p h channels a (suc n) same =
     ∙ ap (λ k. map (h a) (range_with_len 0 channels) ++ map p (range_with_len k (n * channels))) (let e : a * channels + channels ≡ (a + 1) * channels = omega arith in e)
     ∙ ap (λ vs. map (h a) (range_with_len 0 channels) ++ vs) (rows p h channels (a + 1) n same)
 
--- values that are right at each place are the frames
+-- a list with the right value at each place is the list of frames
 pub frames_by_place : (format : PacketFormat) (marks : List MarkView) (t : ℤ) (count : ℕ) (xs : List ℤ)
     → ((f k : ℕ) → k < format.channels → get_or xs (f * format.channels + k) (pos 0) ≡ value_at format marks (t +ℤ pos f) k)
     → first_values (count * format.channels) xs ≡ frames_from format marks t count

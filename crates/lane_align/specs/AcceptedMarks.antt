@@ -1,10 +1,10 @@
--- The marks that are accepted, of those that come.
+-- The marks of a list that are accepted.
 use Rattle.std.specs.Prelude.{List, [], ◌∷◌, ◌++◌, if◌then◌else◌}
 use Rattle.rtp_stream.specs.MarkFacts.{MarkView}
 use Rattle.rtp_stream.specs.MarkList.{is_mark_list}
 use Rattle.rtp_stream.specs.declared.mark.PacketFormat.{PacketFormat}
 
--- what was accepted, and this mark if with it that stays a mark list
+-- the accepted marks after one more mark, which is accepted if the marks stay a mark list with it
 abbrev pub accepted_with : PacketFormat → List MarkView → MarkView → List MarkView
 accepted_with format accepted mark = if is_mark_list format (accepted ++ mark ∷ []) then accepted ++ mark ∷ [] else accepted
 

@@ -1,4 +1,4 @@
--- Until when the marks of a stream say its values.
+-- The time before which the marks of a stream determine its values.
 use Rattle.std.specs.Prelude.{ℕ, ◌+◌, ◌^◌, ◌≤ℤ◌, Bool, true, false, List, [], ◌∷◌, ℤ, pos, ◌+ℤ◌, int_le, Option, Some, None, unwrap_or}
 use Rattle.std.specs.Int.{int_max}
 use Rattle.std.specs.Option.{option_or, option_map}
@@ -11,7 +11,7 @@ use Rattle.lane_align.specs.declared.cover.Cover.{Cover}
 use Rattle.lane_align.specs.declared.cover.Cover.TheVariants.{Nothing, Until, All}
 use Rattle.lane_align.specs.declared.last_slot.LastSlot.{LastSlot}
 
--- what a mark says of slots, and of silence before them
+-- the slot of a mark, if the mark is one; `quiet_of` is the time of a Quiet
 abbrev pub slot_of : MarkKind → Option LastSlot
 slot_of (Slot epoch number media body) = Some (record { epoch = epoch; number = number; media = media })
 slot_of (Quiet until) = None
@@ -22,7 +22,7 @@ quiet_of (Slot epoch number media body) = None
 quiet_of (Quiet until) = Some until
 quiet_of End = None
 
--- the last slot, and the last Quiet's time, where there is one
+-- the last slot of a list, if there is one; `last_quiet` is the time of its last Quiet
 abbrev pub last_slot : List MarkView → Option LastSlot
 last_slot [] = None
 last_slot (mark ∷ marks) = option_or (last_slot marks) (slot_of mark.kind)
@@ -31,7 +31,7 @@ abbrev pub last_quiet : List MarkView → Option ℤ
 last_quiet [] = None
 last_quiet (mark ∷ marks) = option_or (last_quiet marks) (quiet_of mark.kind)
 
--- the greater of two times, of those that there are
+-- the greater of two times; if there is only one, that one
 abbrev pub later_of : Option ℤ → Option ℤ → Option ℤ
 later_of None u = u
 later_of (Some t) None = Some t
@@ -56,11 +56,11 @@ covers Nothing t = false
 covers (Until u) t = int_le t u
 covers All t = true
 
--- the end of a list: the time that it reached, and the start where it reached none
+-- the end of a list: the time that it reached, or the start if it reached none
 abbrev pub end_of : PacketFormat → ℤ → List MarkView → ℤ
 end_of format start marks = unwrap_or (time_reached format.frames (last_slot marks) (last_quiet marks)) start
 
--- where it is a time, it is one that no sum of a few such leaves 64 bits by
+-- if the cover has a time, it is so small that sums of a few such times fit 64 bits
 abbrev pub IsSmallCover : Cover → Type 0
 IsSmallCover Nothing = Unit {0}
 IsSmallCover (Until t) = t ≤ℤ pos (2 ^ 61 + 192)

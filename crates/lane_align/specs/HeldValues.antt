@@ -1,22 +1,22 @@
 -- The values that a lane holds from its position on.
 use Rattle.std.specs.Prelude.{◌≡◌, ℕ, ◌+◌, ◌*◌, ◌^◌, ◌<◌, ◌≤◌, List, ◌++◌, length, take, drop, replicate, ℤ, pos}
 
--- values side by side, frame by frame; `room` is how many may be stored
+-- values, frame by frame; `room` is the number of values that may be stored
 pub record Held : Type 0 where
   pub channels : ℕ
   pub block : ℕ
   pub room : ℕ
   pub values : List ℤ
 
--- so many frames of silence
+-- `frames` frames of silence
 abbrev pub silence : ℕ → ℕ → List ℤ
 silence channels frames = replicate (frames * channels) (pos 0)
 
--- the first values, with silence past their end
+-- the first `count` values, with silence after their end
 abbrev pub first_values : ℕ → List ℤ → List ℤ
 first_values count values = take count (values ++ replicate count (pos 0))
 
--- silence, the front of the stored values, silence again, and the rest of them
+-- silence, the first `front` stored values, silence again, and the rest of the stored values
 abbrev pub values_held : ℕ → ℕ → ℕ → ℕ → List ℤ → List ℤ
 values_held channels lead front gap stored =
     silence channels lead ++ (take front stored ++ (silence channels gap ++ drop front stored))

@@ -1,4 +1,4 @@
--- The state of a lane that was fed marks and has come to a position.
+-- The state of a lane, and what holds after it was fed marks and has come to a position.
 use Rattle.std.specs.Prelude.{◌≡◌, ℕ, ◌+◌, ◌*◌, ◌^◌, ◌<◌, ◌≤◌, Bool, true, false, not, ◌&&◌, nat_le, ◌-◌, List, ◌++◌, length, drop, slice_index_or, ℤ, pos, negsuc, ◌+ℤ◌, ◌-ℤ◌, ◌≤ℤ◌, ◌<ℤ◌, Option, Some, None, unwrap_or}
 use Rattle.rtp_stream.specs.declared.stream_spec.Stream.{Stream}
 use Rattle.rtp_stream.specs.StreamSpecFacts.{format_of}
@@ -17,7 +17,8 @@ use Rattle.lane_align.specs.HeldValues.{Held, silence}
 use Rattle.std.specs.List.{All}
 use Rattle.rtp_wire.specs.Sample.{Is24Bits, samples_of}
 
--- what contracts see of a lane: its facts, its last marks, and the values from its position to the end of its last slot
+-- a lane as contracts see it: its format and start, its block size and room, its last marks, and the values from its
+-- position to the end of its last slot
 pub record LaneState : Type 0 where
   pub format : PacketFormat
   pub start : ℤ
@@ -46,11 +47,11 @@ last_kind false (Some slot) quiet = Some (Slot slot.epoch slot.number slot.media
 last_kind false None (Some until) = Some (Quiet until)
 last_kind false None None = None
 
--- the mark is of this stream, and may follow the last
+-- the mark has the format of the lane's stream, and may follow the last mark
 abbrev pub is_next : LaneState → MarkView → Bool
 is_next lane mark = is_same_format mark.format lane.format && can_follow lane.format.frames (last_kind lane.ended lane.slot lane.quiet) mark.kind
 
--- how far one time is past another
+-- the size of a distance; 0 if the distance is negative. `frames_between` is how far one time is after another
 abbrev pub natural : ℤ → ℕ
 natural (pos n) = n
 natural (negsuc n) = 0
@@ -83,7 +84,7 @@ abbrev pub body_samples : PacketFormat → Body → List ℤ
 body_samples format (Got payload) = samples_of format.enc payload.items
 body_samples format Lost = silence format.channels format.frames
 
--- with a slot: silence up to it, and those of its frames that aren't before the position
+-- the lane after one more slot: silence up to the slot, and those of its frames that are not before the lane's position
 abbrev pub with_slot : LaneState → LastSlot → Body → LaneState
 with_slot lane slot body = record lane {
   slot = Some slot;
@@ -105,7 +106,7 @@ pub record HasFeed (stream : Stream) (from : ℤ) (size : ℕ) (lane : LaneState
   pub values : (frame channel : ℕ) → channel < stream.channels
       → slice_index_or lane.values (frame * stream.channels + channel) (pos 0) ≡ value_at (format_of stream) marks (t +ℤ pos frame) channel
 
--- a stream's facts, the start, the block and the room are those of before
+-- the format, the start, the block size and the room are unchanged
 pub record HasSameFacts (old new : LaneState) : Type 0 where
   pub format : new.format ≡ old.format
   pub start : new.start ≡ old.start
@@ -120,7 +121,7 @@ abbrev pub IsQuiet : Option ℤ → Type 0
 IsQuiet None = Unit {0}
 IsQuiet (Some until) = IsTime until
 
--- what is true of every lane
+-- what holds for every lane
 pub record IsLane (lane : LaneState) (held : Held) : Type 0 where
   pub some_channels : 0 < lane.format.channels
   pub few_channels : lane.format.channels ≤ 64

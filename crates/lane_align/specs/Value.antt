@@ -14,24 +14,24 @@ use Rattle.rtp_stream.specs.declared.mark.MarkKind.TheVariants.{Slot, Quiet, End
 abbrev pub is_within : ℕ → ℤ → ℤ → Bool
 is_within frames media t = int_le media t && int_lt t (media +ℤ pos frames)
 
--- a channel's sample, so many frames into a packet that came
+-- a channel's sample at this frame of a packet, if the packet came
 abbrev pub sample_of : PacketFormat → Body → ℕ → ℕ → Option ℤ
 sample_of format (Got payload) frame k = Some (sample_at format.enc payload.items (frame * format.channels + k))
 sample_of format Lost frame k = None
 
--- a channel's sample at a time, where the mark is a slot that has it
+-- a channel's sample at a time, if the mark is a slot that has this sample
 abbrev pub sample_in : PacketFormat → MarkKind → ℤ → ℕ → Option ℤ
 sample_in format (Slot epoch number media body) t k =
     if is_within format.frames media t then sample_of format body (unsigned_abs (t -ℤ media)) k else None
 sample_in format (Quiet until) t k = None
 sample_in format End t k = None
 
--- in whichever mark
+-- a channel's sample at a time, if one of the marks is a slot that has this sample
 abbrev pub sample_among : PacketFormat → List MarkView → ℤ → ℕ → Option ℤ
 sample_among format [] t k = None
 sample_among format (mark ∷ marks) t k = option_or (sample_in format mark.kind t k) (sample_among format marks t k)
 
--- the value of a channel at a time: that sample, and silence where there is none
+-- the value of a channel at a time: its sample, or silence if no mark has a sample
 abbrev pub value_at : PacketFormat → List MarkView → ℤ → ℕ → ℤ
 value_at format marks t k = unwrap_or (sample_among format marks t k) (pos 0)
 

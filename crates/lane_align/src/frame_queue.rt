@@ -10,7 +10,7 @@ use std::marker::Model;
 /// One frame's silence, of as many channels as a stream may have.
 const SILENCE: [i32; 64] = [0; 64];
 
-/// The values of a stream's channels from a position on, side by side, frame by frame.
+/// The values of a stream's channels from a position on, frame by frame.
 ///
 /// They are `lead` frames of silence, the first `front` stored values, `gap` frames of silence and
 /// the rest of the stored values.

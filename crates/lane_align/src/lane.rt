@@ -108,7 +108,7 @@ impl Lane {
     };
     ghost use Rattle.rtp_stream.specs.MarkFacts.{IsMark};
 
-    /// Returns a lane that begins at media time `start`, in sampling instants, and gives blocks of `block` frames,
+    /// Returns a lane that begins at media time `start`, in sampling instants, and returns blocks of `block` frames,
     /// or an error if its allocation fails.
     pub fn new(alloc: Global, spec: StreamSpec, start: i64, block: u16) -> Result<Lane, AllocError>
         requires not_low { pos 0 ≤ℤ start }

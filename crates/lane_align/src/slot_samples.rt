@@ -20,7 +20,7 @@ pub(crate) type SlotRoom = [i32; MAX_SAMPLES];
 /// A room before its first slot.
 pub(crate) const EMPTY_ROOM: SlotRoom = [0; MAX_SAMPLES];
 
-/// Reads the samples of a slot, frame by frame, to the front of `room`.
+/// Reads the samples of a slot, frame by frame, to the start of `room`.
 fn read_slot(room: &mut SlotRoom, format: PacketFormat, payload: Option<&[u8]>)
     requires count { format.frames * format.channels ≤ 720 }
     requires len { HasLength (payload_length format) (body_from (option_copied payload)) }

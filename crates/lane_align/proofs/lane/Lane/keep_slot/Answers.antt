@@ -10,7 +10,7 @@ use Rattle.lane_align.proofs.SlotLemmas.{slot_joined, slot_sound, kept_room}
 use Rattle.lane_align.proofs.lane.Lane.keep_slot.Goals.{After-append_slot, After-frames_between, After-frames_before-skipped}
 use Rattle.lane_align.proofs.lane.Lane.keep_slot.Goals as goal
 
--- the frames that are held, and those between the lane's place and the slot's
+-- the frames that the lane holds, and those between the position of the lane and the slot
 left_is : (c : After-frames_between) → c.frames_left-held.result ≡ frames_left c.self.inside.format.frames c.self.inside.position c.self.inside.slot
 left_is c =
     let early = c.self.invariant.not_early in
@@ -54,7 +54,7 @@ append_slot-requires-clause-room c =
     kept_room (lane_of c.self.inside.format c.self.inside.start c.self.inside.block c.self.inside.position c.self.inside.slot c.self.inside.quiet c.self.inside.ended c.self.inside.room c.self.inside.values.values) c.self.inside.values c.args.slot (body_from (option_copied c.args.payload)) (c.frames_between.result - c.frames_left-held.result) (frames_between c.args.slot.media c.self.inside.position) c.frames_before-skipped.result
     c.self.invariant (fits_is at.After-frames_before-skipped) (ap (λ n. n - c.frames_left-held.result) (before_is at.After-frames_between) ∙ ap (λ n. frames_between c.self.inside.position c.args.slot.media - n) (left_is at.After-frames_between)) refl (skipped_is at.After-frames_before-skipped) (after_is at.After-frames_before-skipped) (room_is at.After-frames_before-skipped)
 
--- what the lane then holds
+-- the values that the lane holds after the slot
 joined_is : (c : After-append_slot) → HasLength (payload_length c.self.inside.format) (body_from (option_copied c.args.payload))
     → c.frames_between.result - c.frames_left-held.result ≡ frames_between c.self.inside.position c.args.slot.media - frames_left c.self.inside.format.frames c.self.inside.position c.self.inside.slot
     → c.frames_before-skipped.result ≡ min (frames_between c.args.slot.media c.self.inside.position) c.self.inside.format.frames

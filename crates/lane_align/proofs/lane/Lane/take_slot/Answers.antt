@@ -10,7 +10,7 @@ use Rattle.lane_align.proofs.SlotLemmas.{slot_added, slot_sound, block_room, blo
 use Rattle.lane_align.proofs.lane.Lane.take_slot.Goals.{After-add_slot, After-frames_between}
 use Rattle.lane_align.proofs.lane.Lane.take_slot.Goals as goal
 
--- the frames that are held, and those between the lane's place and the slot's
+-- the frames that the lane holds, and those between the position of the lane and the slot
 left_is : (c : After-frames_between) → c.frames_left-held.result ≡ frames_left c.self.inside.format.frames c.self.inside.position c.self.inside.slot
 left_is c =
     let early = c.self.invariant.not_early in
@@ -61,7 +61,7 @@ add_slot-requires-clause-small c =
 fits_is : (c : After-add_slot) → HasLength (payload_length c.self.inside.format) (body_from (option_copied c.args.payload))
 fits_is c = subst (λ (l : LaneState). HasLength (payload_length l.format) (body_from (option_copied c.args.payload))) (sym c.self.view_is) c.requires.len
 
--- what the lane then holds
+-- the values that the lane holds after the slot
 added_is : (c : After-add_slot) → c.frames_left-held.result ≡ frames_left c.self.inside.format.frames c.self.inside.position c.self.inside.slot → c.frames_between.result ≡ frames_between c.self.inside.position c.args.slot.media
     → c.add_slot.new.values ≡ record c.self.inside.values { values = (with_slot (lane_of c.self.inside.format c.self.inside.start c.self.inside.block c.self.inside.position c.self.inside.slot c.self.inside.quiet c.self.inside.ended c.self.inside.room c.self.inside.values.values) c.args.slot (body_from (option_copied c.args.payload))).values }
 added_is c left before =
