@@ -14,7 +14,7 @@ use Rattle.gain_mix.specs.Schedule.{IsChanges, has_few, has_one_shape, has_times
 use Rattle.gain_mix.specs.declared.schedule.ScheduleFault.TheVariants.{TooMany, Shape, Time, Order}
 use Rattle.gain_mix.proofs.ChangeLemmas.{shared-last_change}
 
--- the last of them is in force from its time on
+-- the last change of a list is in force from its time on
 pub last_change_push : (rows : List (List ℤ)) (later : List (ℤ × List (List ℤ))) (at : ℤ) (more : List (List ℤ)) (t : ℤ)
     → last_change rows (later ++ (at, more) ∷ []) t ≡ cond (int_le at t) more (last_change rows later t)
 last_change_push rows [] at more t = refl
@@ -33,7 +33,7 @@ pub last_change_before : (later : List (ℤ × List (List ℤ))) (at t : ℤ) �
 last_change_before [] at t h rows = refl
 last_change_before (c ∷ later) at t h rows = before_step rows c (before at later) later at t h (last_change_before later at t h) (int_lt c.0 at) refl
 
--- no time before it changes
+-- a change of gains does not change the matrix at times before it
 pub unchanged_before : (changes : Changes) (at : ℤ) (more : List (List ℤ)) (t : ℤ) → t <ℤ at → matrix_at (with_change changes at more) t ≡ matrix_at changes t
 unchanged_before changes at more t h =
     let late : int_le at t ≡ false = grind (arith, ints, h) in
@@ -41,7 +41,7 @@ unchanged_before changes at more t h =
     ∙ ap (λ (b : Bool). cond b more (last_change changes.first (before at changes.later) t)) late
     ∙ last_change_before changes.later at t h changes.first
 
--- and from its time on its matrix is in force
+-- a change's matrix is in force from its time on
 pub changed_from : (changes : Changes) (at : ℤ) (more : List (List ℤ)) (t : ℤ) → at ≤ℤ t → matrix_at (with_change changes at more) t ≡ more
 changed_from changes at more t h =
     let there : int_le at t ≡ true = grind (arith, ints, h) in
@@ -54,7 +54,7 @@ rest_due rows c later t h =
     let there : int_le c.0 t ≡ true = grind (arith, ints, h) in
     ap (λ (b : Bool). cond b (rest_of c.1 later t) (record { first = rows; later = c ∷ later })) there
 
--- the rest is in force as the whole is
+-- from its time on, the rest of a schedule has the same matrices in force as the whole schedule
 matrix_step : (rows : List (List ℤ)) (c : ℤ × List (List ℤ)) (later : List (ℤ × List (List ℤ))) (t u : ℤ) → t ≤ℤ u
     → matrix_at (rest_of c.1 later t) u ≡ last_change c.1 later u
     → (b : Bool) → int_le c.0 t ≡ b
@@ -68,7 +68,7 @@ pub matrix_at_rest : (later : List (ℤ × List (List ℤ))) (t u : ℤ) → t �
 matrix_at_rest [] t u h rows = refl
 matrix_at_rest (c ∷ later) t u h rows = matrix_step rows c later t u h (matrix_at_rest later t u h c.1) (int_le c.0 t) refl
 
--- the rest of the rest
+-- the rest of a rest, at a later time, is the rest of the whole schedule
 rest_step : (rows : List (List ℤ)) (c : ℤ × List (List ℤ)) (later : List (ℤ × List (List ℤ))) (t u : ℤ) → t ≤ℤ u
     → rest_at (rest_of c.1 later t) u ≡ rest_of c.1 later u
     → (b : Bool) → int_le c.0 t ≡ b
@@ -82,7 +82,7 @@ pub rest_rest : (later : List (ℤ × List (List ℤ))) (t u : ℤ) → t ≤ℤ
 rest_rest [] t u h rows = refl
 rest_rest (c ∷ later) t u h rows = rest_step rows c later t u h (rest_rest later t u h c.1) (int_le c.0 t) refl
 
--- a change for now leaves none to come
+-- a change for the current time leaves no change to come
 now_step : (rows : List (List ℤ)) (c : ℤ × List (List ℤ)) (kept : List (ℤ × List (List ℤ))) (at t : ℤ) (more : List (List ℤ)) → at ≤ℤ t
     → ((r : List (List ℤ)) → rest_of r (kept ++ (at, more) ∷ []) t ≡ record { first = more; later = [] })
     → (b : Bool) → int_lt c.0 at ≡ b → rest_of rows (cond b (c ∷ kept) kept ++ (at, more) ∷ []) t ≡ record { first = more; later = [] }
@@ -96,7 +96,7 @@ rest_now : (later : List (ℤ × List (List ℤ))) (at t : ℤ) (more : List (Li
 rest_now [] at t more h rows = rest_due rows (at, more) [] t h
 rest_now (c ∷ later) at t more h rows = now_step rows c (before at later) at t more h (rest_now later at t more h) (int_lt c.0 at) refl
 
--- the rest of a schedule with a change more is that of its rest with the change
+-- the rest of a schedule with one more change is the rest of its own rest with this change
 later_step : (rows : List (List ℤ)) (c : ℤ × List (List ℤ)) (later : List (ℤ × List (List ℤ))) (t at : ℤ) (more : List (List ℤ)) → t <ℤ at
     → rest_at (with_change (rest_of c.1 later t) at more) t ≡ rest_of c.1 (before at later ++ (at, more) ∷ []) t
     → (b : Bool) → int_le c.0 t ≡ b
@@ -125,7 +125,7 @@ rest_with_change changes t at more h = by (int_le at t) refl
         rest_now (rest_at changes t).later at t more now (rest_at changes t).first ∙ sym (rest_now changes.later at t more now changes.first)
     by false e = rest_later changes.later t at more (grind (arith, ints, e)) changes.first
 
--- the changes of a schedule rise
+-- the times of a schedule's changes rise
 fault_free : (a b c d : Bool) → cond a (cond b (cond c (cond d None (Some Order)) (Some Time)) (Some Shape)) (Some TooMany) ≡ None → (a ≡ true) × (d ≡ true)
 fault_free true true true true e = (refl, refl)
 fault_free true true true false e = absurd (let f : Some Order ≡ None = e in cc)
@@ -159,7 +159,7 @@ rises_if (c ∷ later) e = rises_all c.0 later e
 pub schedule_rises : (first : List (List ℤ)) (later : List (ℤ × List (List ℤ))) → schedule_fault_of first later ≡ None → Rises later
 schedule_rises first later none = rises_if later (fault_free (has_few later) (has_one_shape first later) (has_times later) (is_rising later) none).1
 
--- those before a time: they rise too, and are the first of all
+-- the changes before a time: their times rise too, and they are the first of all changes
 before_holds_step : (P : ℤ × List (List ℤ) → Type 0) (c : ℤ × List (List ℤ)) (kept : List (ℤ × List (List ℤ))) → All P kept → (b : Bool) → (b ≡ true → P c) → All P (cond b (c ∷ kept) kept)
 before_holds_step P c kept all true p = All-cons P c kept (p refl) all
 before_holds_step P c kept all false p = all
@@ -183,7 +183,7 @@ before_rises : (at : ℤ) (later : List (ℤ × List (List ℤ))) → Rises late
 before_rises at [] rises = tt
 before_rises at (c ∷ later) rises = before_rises_step c (before at later) (before_holds (comes_after c.0) at later rises.0) (before_rises at later rises.1) (int_lt c.0 at)
 
--- one change more, which comes after them
+-- the times rise after one more change that is later than all
 rises_push : (later : List (ℤ × List (List ℤ))) (x : ℤ × List (List ℤ)) → Rises later → All (comes_before x.0) later → Rises (later ++ x ∷ [])
 rises_push [] x rises all = (All-nil (comes_after x.0), tt)
 rises_push (c ∷ later) x rises all = (
@@ -191,7 +191,7 @@ rises_push (c ∷ later) x rises all = (
   rises_push later x rises.1 (All-tail (comes_before x.0) c later all),
 )
 
--- where all come later, none comes before
+-- if all changes are later than a time, none is before it
 none_before_step : (c : ℤ × List (List ℤ)) (kept : List (ℤ × List (List ℤ))) → kept ≡ [] → (b : Bool) → b ≡ false → cond b (c ∷ kept) kept ≡ []
 none_before_step c kept e true f = absurd (false≢true (sym f))
 none_before_step c kept e false f = e
@@ -223,7 +223,7 @@ before_few at (c ∷ later) =
     let step = few_step c (before at later) (length later) (before_few at later) (int_lt c.0 at) in
     omega (arith, step)
 
--- counting them one by one
+-- counting the changes before a time one by one
 count_step : (c : ℤ × List (List ℤ)) (kept : List (ℤ × List (List ℤ))) (b : Bool) → length (cond b (c ∷ kept) kept) ≡ cond b 1 0 + length kept
 count_step c kept true = omega arith
 count_step c kept false = omega arith
@@ -231,7 +231,7 @@ count_step c kept false = omega arith
 before_count : (at : ℤ) (c : ℤ × List (List ℤ)) (later : List (ℤ × List (List ℤ))) → length (before at (c ∷ later)) ≡ cond (int_lt c.0 at) 1 0 + length (before at later)
 before_count at c later = count_step c (before at later) (int_lt c.0 at)
 
--- the count so far, one change more
+-- the count so far, after one more change
 module _ (at : ℤ) (items : List (ℤ × List (List ℤ))) (i kept : ℕ) (change : ℤ × List (List ℤ)) (h : i < length items) (is : change ≡ get_or items i change)
     (so_far : kept + length (before at (drop i items)) ≡ length (before at items)) where
   next_count : length (before at (drop i items)) ≡ cond (int_lt change.0 at) 1 0 + length (before at (drop (i + 1) items))
@@ -258,7 +258,7 @@ module _ (at : ℤ) (items : List (ℤ × List (List ℤ))) (i kept : ℕ) (chan
       let few = before_few at items in
       omega (arith, sum, few)
 
--- a schedule in use that let go of some changes up to a time
+-- a schedule in use that passed some of the changes up to a time
 pub record HasPassed (t : ℤ) (old : Changes) (first : List (List ℤ)) (slots : List (ℤ × List (List ℤ))) (used : ℕ) : Type 0 where
   pub sound : AreSlots first slots used
   pub all : length slots ≡ 64
@@ -297,7 +297,7 @@ pass_step t old first c rest n passed h =
       ins = ins ∙ passed.ins;
     }
 
--- one change more is passed
+-- one more change is passed
 pub HasPassed-more : (t : ℤ) (old : Changes) (first : List (List ℤ)) (slots : List (ℤ × List (List ℤ))) (used : ℕ) (slot : ℤ × List (List ℤ))
     → HasPassed t old first slots used → is_due (take used slots) t ≡ true → slice_get slots 0 ≡ Some slot
     → HasPassed t old slot.1 (drop 1 slots ++ (slot.0, first) ∷ []) (used - 1)
@@ -318,7 +318,7 @@ pub due_some : (slots : List (ℤ × List (List ℤ))) (used : ℕ) (t : ℤ) �
 due_some slots zero t due = absurd (false≢true due)
 due_some slots (suc n) t due = omega arith
 
--- none is due any more
+-- no change is due any more
 not_due : (rows : List (List ℤ)) (later : List (ℤ × List (List ℤ))) (t : ℤ) → is_due later t ≡ false → rest_of rows later t ≡ record { first = rows; later = later }
 not_due rows [] t none = refl
 not_due rows (c ∷ later) t none = ap (λ (b : Bool). cond b (rest_of c.1 later t) (record { first = rows; later = c ∷ later })) none
@@ -341,7 +341,7 @@ pub ins_of-like : (first : List (List ℤ)) (gs : List ℤ) → length gs ≡ le
 ins_of-like [] gs e = refl
 ins_of-like (row ∷ rows) gs e = ins_of-rows_of (length row) (length (row ∷ rows)) gs (omega arith) e
 
--- a change more is written behind those before it
+-- one more change is written after those before its time
 module _ (first : List (List ℤ)) (slots : List (ℤ × List (List ℤ))) (used kept : ℕ) (at : ℤ) (gs : List ℤ)
     (sound : AreSlots first slots used) (is : kept ≡ length (before at (take used slots))) (h : kept < length slots) (e : length gs ≡ length first * ins_of first) where
   put_taken : take (kept + 1) (set slots kept (at, rows_of (ins_of first) (length first) gs)) ≡ before at (take used slots) ++ (at, rows_of (ins_of first) (length first) gs) ∷ []
@@ -368,7 +368,7 @@ module _ (first : List (List ℤ)) (slots : List (ℤ × List (List ℤ))) (used
       ≡ with_change (record { first = first; later = take used slots }) at (rows_of (ins_of first) (length first) gs)
   put_changes = ap (λ (later : List (ℤ × List (List ℤ))). record { first = first; later = later }) put_taken
 
--- one free place more
+-- one more free place
 pub HasFree-more : (first : List (List ℤ)) (later slots : List (ℤ × List (List ℤ))) (room : ℕ) (t : ℤ) (rows : List (List ℤ)) → HasFree first later slots room → rows ≡ first
     → HasFree first later (slots ++ (t, rows) ∷ []) (room + 1)
 HasFree-more first later slots room t rows free e =

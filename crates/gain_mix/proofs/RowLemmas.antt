@@ -50,7 +50,7 @@ IsMatrix-no_fault m n gs facts =
     ap (λ (b : Bool). cond b (cond (has_range gs) None (Some Range)) (Some Shape)) shape
     ∙ ap (λ (b : Bool). cond b None (Some Range)) range
 
--- what is known of a matrix that is seen as these rows
+-- what is known of a matrix that contracts see as these rows
 module _ (n m : ℕ) (gs : List ℤ) (v : List (List ℤ)) (seen : rows_of n m gs ≡ v) (facts : IsMatrix m n gs) where
   pub seen_outs : length v ≡ m
   seen_outs = ap length (sym seen) ∙ length-rows_of n m gs

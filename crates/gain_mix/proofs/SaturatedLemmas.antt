@@ -7,7 +7,7 @@ use Rattle.std.specs.List.{slice_get}
 use Rattle.std.specs.Prelude.{if◌then◌else◌}
 use Rattle.gain_mix.specs.Saturated.{AreAdded, is_saturated_sample, saturated_at}
 
--- counts of which the first n have so many more
+-- counts after `more` was added to the first `n` of them
 pub record AreAddedTo (old new : List ℕ) (more : ℕ → ℕ) (n : ℕ) : Type 0 where
   pub len : length new ≡ length old
   pub done : (k : ℕ) → k < n → k < length old → get_or new k 0 ≡ min (get_or old k 0 + more k) (2 ^ 64 - 1)
@@ -16,7 +16,7 @@ pub record AreAddedTo (old new : List ℕ) (more : ℕ → ℕ) (n : ℕ) : Type
 pub added_none : (old : List ℕ) (more : ℕ → ℕ) → AreAddedTo old old more 0
 added_none old more = record { len = refl; done = λ k h g. absurd (omega (arith, h)); left = λ k h. refl }
 
--- one more of them
+-- one more count was added to
 pub added_next : (old new : List ℕ) (more : ℕ → ℕ) (n v : ℕ) → AreAddedTo old new more n → n < length old → v ≡ min (get_or new n 0 + more n) (2 ^ 64 - 1)
     → AreAddedTo old (set new n v) more (n + 1)
 added_next old new more n v a within is =
@@ -37,7 +37,7 @@ added_next old new more n v a within is =
           ];
     }
 
--- one to which nothing is added
+-- one more count, to which nothing is added
 pub added_same : (old new : List ℕ) (more : ℕ → ℕ) (n : ℕ) → AreAddedTo old new more n → more n ≡ 0 → ((k : ℕ) → Fits w64 (get_or old k 0))
     → AreAddedTo old new more (n + 1)
 added_same old new more n a none fits =
@@ -60,7 +60,7 @@ added_whole old new more n a whole = record { len = a.len; each = λ k h. a.done
 pub adds_none : (old : List ℕ) (more : ℕ → ℕ) → ((k : ℕ) → more k ≡ 0) → ((k : ℕ) → Fits w64 (get_or old k 0)) → AreAdded old old more
 adds_none old more none fits = record { len = refl; each = λ k h. let fit = fits k in let no = none k in omega (arith, fit, no) }
 
--- two sums one after the other
+-- adding twice adds the sum
 pub adds_both : (old mid new : List ℕ) (more next : ℕ → ℕ) → AreAdded old mid more → AreAdded mid new next → AreAdded old new (λ k. more k + next k)
 adds_both old mid new more next a b =
     let count = a.len in
@@ -69,7 +69,7 @@ adds_both old mid new more next a b =
 pub adds_same : (old new : List ℕ) (more other : ℕ → ℕ) → AreAdded old new more → ((k : ℕ) → more k ≡ other k) → AreAdded old new other
 adds_same old new more other a same = record { len = a.len; each = λ k h. a.each k h ∙ ap (λ x. min (get_or old k 0 + x) (2 ^ 64 - 1)) (same k) }
 
--- an output that is there
+-- whether an output's sample is saturated, for an output that the matrix has
 pub at_output : (rows : List (List ℤ)) (values : List ℤ) (s k : ℕ) (b result : Bool) → k < length rows → result ≡ b
     → ((row : List ℤ) → slice_get rows k ≡ Some row → result ≡ is_saturated_sample s values row)
     → saturated_at rows values s k ≡ (if b then 1 else 0)

@@ -5,7 +5,7 @@ use Rattle.std.proofs.lemmas.List.{take-replicate, drop-replicate}
 use Rattle.gain_mix.specs.Mix.{frame_at, mixed_frame, output_sample, rounded_sum, saturated_sum, weighted_sum}
 use Rattle.gain_mix.proofs.RowLemmas.{row_end}
 
--- so many samples of silence
+-- `n` samples of silence
 abbrev pub silence : ℕ → List ℤ
 silence n = replicate n (pos 0)
 

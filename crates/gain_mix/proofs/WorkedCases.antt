@@ -39,7 +39,7 @@ passed = refl
 not_yet : rest_at planned (pos 99) ≡ planned
 not_yet = refl
 
--- a change for now is in force at once, and nothing is to come
+-- a change for the current time is in force at once, and no change is to come
 now : rest_at (with_change planned (pos 100) (one (pos 40))) (pos 100) ≡ record { first = one (pos 40); later = [] }
 now = refl
 
@@ -47,7 +47,8 @@ now = refl
 abbrev filled : Changes
 filled = record { first = one (pos 10); later = replicate 64 (pos 100, one (pos 20)) }
 
--- a change after them finds no place, one at their time replaces them, and one before the block is too early
+-- a change after these 64 finds no place, a change at their time replaces them, and a change before the block is too
+-- early
 too_many : change_fault_of filled (pos 100) (pos 101) (pos 40 ∷ []) ≡ Some TooMany
 too_many = refl
 

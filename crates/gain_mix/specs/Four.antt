@@ -1,4 +1,4 @@
--- Four outputs side by side: their rows of gains, their sums and their samples.
+-- Four outputs at once: their rows of gains, their sums and their samples.
 use Rattle.std.specs.Prelude.{ℕ, ◌≡◌, ◌+◌, ◌*◌, ◌^◌, ◌≤◌, ℤ, List, Some, take, set, slice_get}
 use Rattle.std.specs.Int.RustNames.{unsigned_abs}
 use Rattle.gain_mix.specs.declared.four_rows.FourRows.{FourRows}
@@ -6,21 +6,21 @@ use Rattle.gain_mix.specs.declared.four_rows.FourSums.{FourSums}
 use Rattle.gain_mix.specs.Gain.{IsRow}
 use Rattle.gain_mix.specs.Mix.{IsWeighted, rounded_sum, saturated_sum, weighted_sum}
 
--- four rows, with a gain for each of so many inputs
+-- four rows, each with a gain for each of `ins` inputs
 pub record AreRows (ins : ℕ) (rows : FourRows) : Type 0 where
   pub first : IsRow ins rows.first.now
   pub second : IsRow ins rows.second.now
   pub third : IsRow ins rows.third.now
   pub fourth : IsRow ins rows.fourth.now
 
--- the rows of four outputs, from one on
+-- the rows of four outputs, from this one on
 pub record AreRowsAt (matrix : List (List ℤ)) (output : ℕ) (rows : FourRows) : Type 0 where
   pub first : slice_get matrix output ≡ Some rows.first.now
   pub second : slice_get matrix (output + 1) ≡ Some rows.second.now
   pub third : slice_get matrix (output + 2) ≡ Some rows.third.now
   pub fourth : slice_get matrix (output + 3) ≡ Some rows.fourth.now
 
--- the sum over the first so many inputs, and how large it gets
+-- the sum over the first `count` inputs, and a bound of its size
 pub record IsSumTo (gains values : List ℤ) (count : ℕ) (sum : ℤ) : Type 0 where
   pub sum_is : sum ≡ weighted_sum (take count gains) (take count values)
   pub bounded : unsigned_abs sum ≤ count * 8796093022208
@@ -48,7 +48,7 @@ pub record AreBounded (sums : FourSums) : Type 0 where
 abbrev pub sample_of : ℕ → ℤ → ℤ
 sample_of s sum = saturated_sum s (rounded_sum s sum)
 
--- samples of which four, from one on, are those of these sums
+-- the samples with four of them, from place `i` on, set to those of these sums
 abbrev pub with_four : ℕ → FourSums → ℕ → List ℤ → List ℤ
 with_four s sums i samples =
     set (set (set (set samples i (sample_of s sums.first)) (i + 1) (sample_of s sums.second)) (i + 2) (sample_of s sums.third)) (i + 3) (sample_of s sums.fourth)

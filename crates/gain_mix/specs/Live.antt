@@ -1,4 +1,4 @@
--- A schedule in use, which takes changes, and when it refuses one.
+-- A schedule in use, which takes changes, and the reasons for which it refuses a change.
 use Rattle.std.specs.Prelude.{◌≡◌, ℕ, ◌+◌, ◌*◌, ◌^◌, ◌≤◌, ◌<ℤ◌, ◌&&◌, ◌==◌, not, nat_lt, int_le, int_lt, Bool, false, ℤ, pos, List, [], ◌∷◌, length, take, All, ⊤, Option, Some, None, if◌then◌else◌}
 use Rattle.gain_mix.specs.Gain.{ins_of}
 use Rattle.gain_mix.specs.Changes.{Changes, before}
@@ -14,11 +14,11 @@ fits_shape changes gains = length gains == length changes.first * ins_of changes
 abbrev pub is_time_from : ℤ → ℤ → Bool
 is_time_from from at = not (int_lt at from) && not (int_lt (pos (2 ^ 60)) at)
 
--- fewer than 64 changes before this time are still to come
+-- fewer than 64 of the changes that are still to come are before this time
 abbrev pub has_place : Changes → ℤ → Bool
 has_place changes at = nat_lt (length (before at changes.later)) 64
 
--- the first fault of a change, of which no time before `from` may be
+-- the first fault of a change, which may not be before `from`
 abbrev pub change_fault_of : Changes → ℤ → ℤ → List ℤ → Option ChangeFault
 change_fault_of changes from at gains =
     if fits_shape changes gains then if has_range gains then if is_time_from from at then if has_place changes at then None else Some TooMany else Some Time else Some Range else Some Shape
@@ -33,14 +33,15 @@ abbrev pub Rises : List (ℤ × List (List ℤ)) → Type 0
 Rises [] = ⊤
 Rises (change ∷ later) = All (λ next. change.0 <ℤ next.0) later × Rises later
 
--- places for changes, of which so many are taken, in the order of their times; each has a matrix of the first one's shape
+-- the places for changes: the first `used` hold changes, in the order of their times, and each place has a matrix of
+-- the first matrix's shape
 pub record AreSlots (first : List (List ℤ)) (slots : List (ℤ × List (List ℤ))) (used : ℕ) : Type 0 where
   pub outs : All (λ slot. length slot.1 ≡ length first) slots
   pub ins : All (λ slot. ins_of slot.1 ≡ ins_of first) slots
   pub few : used ≤ length slots
   pub rises : Rises (take used slots)
 
--- the changes are first, and behind them so many places are free
+-- the first places hold the changes, and `room` free places follow
 pub record HasFree (first : List (List ℤ)) (later : List (ℤ × List (List ℤ))) (slots : List (ℤ × List (List ℤ))) (room : ℕ) : Type 0 where
   pub sound : AreSlots first slots (length later)
   pub begin : take (length later) slots ≡ later

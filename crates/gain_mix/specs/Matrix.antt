@@ -1,11 +1,11 @@
--- The gains that are refused.
+-- The reasons for which gains are refused.
 use Rattle.std.specs.Prelude.{ℕ, ◌*◌, ◌&&◌, Bool, ℤ, List, length, Option, Some, None, nat_le, ◌==◌, if◌then◌else◌}
 use Rattle.std.specs.List.{list_all}
 use Rattle.std.specs.Int.RustNames.{unsigned_abs}
 use Rattle.gain_mix.specs.declared.matrix.MatrixFault.{MatrixFault}
 use Rattle.gain_mix.specs.declared.matrix.MatrixFault.TheVariants.{Shape, Range}
 
--- 1 to 8 outputs of 1 to 1,024 inputs, and a gain for each pair
+-- there are 1 to 8 outputs and 1 to 1,024 inputs, and a gain for each pair of them
 abbrev pub has_shape : ℕ → ℕ → List ℤ → Bool
 has_shape outs ins gains =
     nat_le 1 outs && nat_le outs 8 && nat_le 1 ins && nat_le ins 1024 && length gains == outs * ins

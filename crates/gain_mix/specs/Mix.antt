@@ -15,20 +15,21 @@ weighted_sum [] values = pos 0
 weighted_sum (gain ∷ gains) [] = pos 0
 weighted_sum (gain ∷ gains) (value ∷ values) = (gain *ℤ value) +ℤ weighted_sum gains values
 
--- that sum, which is at most 2 ^ 53 in size
+-- this is the weighted sum, which is at most 2 ^ 53 in size
 pub record IsWeighted (gains values : List ℤ) (sum : ℤ) : Type 0 where
   pub sum_is : sum ≡ weighted_sum gains values
   pub bounded : unsigned_abs sum ≤ 2 ^ 53
 
--- the sum over 2 ^ s, rounded to the nearest number, and half a unit up: the floor of (sum + 2 ^ (s - 1)) / 2 ^ s
+-- the sum divided by 2 ^ s and rounded to the nearest number, halves up: the floor of (sum + 2 ^ (s - 1)) / 2 ^ s
 abbrev pub rounded_sum : ℕ → ℤ → ℤ
 rounded_sum s sum = int_div_euclid (sum +ℤ pos (2 ^ (s - 1))) (pos (2 ^ s))
 
--- output samples go from -2 ^ h to 2 ^ h - 1: L24 at a shift of 16, L16 at one of 24
+-- the `h` for which output samples go from -2 ^ h to 2 ^ h - 1: 23 for L24, whose shift is 16, and 15 for L16, whose
+-- shift is 24
 abbrev pub output_bits : ℕ → ℕ
 output_bits s = if s == 16 then 23 else 15
 
--- the nearest output sample
+-- the nearest value that an output sample can have
 abbrev pub saturated_sum : ℕ → ℤ → ℤ
 saturated_sum s sum = saturate_to_bits (output_bits s) sum
 
@@ -45,7 +46,7 @@ pub record HasMixed (rows : List (List ℤ)) (values : List ℤ) (s n : ℕ) (sa
   pub count : length samples ≡ length rows
   pub so_far : take n samples ≡ take n (mixed_frame rows values s)
 
--- the samples of one sampling instant, out of so many a frame
+-- the samples of frame `f`, if each frame has `channels` samples
 abbrev pub frame_at : ℕ → ℕ → List ℤ → List ℤ
 frame_at channels f samples = take channels (drop (f * channels) samples)
 

@@ -1,15 +1,15 @@
--- A schedule of matrices, and when one is refused.
+-- A schedule of matrices, and the reasons for which a schedule is refused.
 use Rattle.std.specs.Prelude.{◌≡◌, All, ◌^◌, ◌&&◌, not, Bool, true, ℤ, pos, List, [], ◌∷◌, length, Option, Some, None, nat_le, int_lt, ◌==◌, if◌then◌else◌}
 use Rattle.std.specs.List.{list_all}
 use Rattle.gain_mix.specs.Gain.{ins_of}
 use Rattle.gain_mix.specs.declared.schedule.ScheduleFault.{ScheduleFault}
 use Rattle.gain_mix.specs.declared.schedule.ScheduleFault.TheVariants.{TooMany, Shape, Time, Order}
 
--- no more than 64 changes
+-- there are at most 64 changes
 abbrev pub has_few : List (ℤ × List (List ℤ)) → Bool
 has_few later = nat_le (length later) 64
 
--- each matrix has the first one's outputs and inputs
+-- each matrix has as many outputs and inputs as the first one
 abbrev pub has_one_shape : List (List ℤ) → List (ℤ × List (List ℤ)) → Bool
 has_one_shape first later =
     list_all (λ change. length change.1 == length first && ins_of change.1 == ins_of first) later
@@ -18,7 +18,7 @@ has_one_shape first later =
 abbrev pub has_times : List (ℤ × List (List ℤ)) → Bool
 has_times later = list_all (λ change. not (int_lt change.0 (pos 0)) && not (int_lt (pos (2 ^ 60)) change.0)) later
 
--- each time is later than the one before it, and the first than this one
+-- each change is later than the change before it, and the first change is later than `t`
 abbrev pub rises_from : ℤ → List (ℤ × List (List ℤ)) → Bool
 rises_from t [] = true
 rises_from t (change ∷ later) = int_lt t change.0 && rises_from change.0 later
@@ -33,7 +33,7 @@ abbrev pub schedule_fault_of : List (List ℤ) → List (ℤ × List (List ℤ))
 schedule_fault_of first later =
     if has_few later then if has_one_shape first later then if has_times later then if is_rising later then None else Some Order else Some Time else Some Shape else Some TooMany
 
--- changes of matrices that are of one shape, and have no fault
+-- the matrices of the changes have the first one's shape, and the changes have no fault
 pub record IsChanges (first : List (List ℤ)) (later : List (ℤ × List (List ℤ))) : Type 0 where
   pub outs : All (λ change. length change.1 ≡ length first) later
   pub ins : All (λ change. ins_of change.1 ≡ ins_of first) later

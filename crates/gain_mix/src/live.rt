@@ -58,7 +58,7 @@ pub enum ChangeFault {
 #[derive(Debug, Drop)]
 pub struct LiveSchedule {
     first: Matrix,
-    /// 64 places: the changes to come, in their order, and behind them the free places.
+    /// 64 places: the changes to come, in their order, and after them the free places.
     slots: Vec<(i64, Matrix)>,
     used: usize,
 }
@@ -168,7 +168,7 @@ impl LiveSchedule {
         }
     }
 
-    /// Puts a change behind the `kept` changes before it.
+    /// Puts a change after the `kept` changes before it.
     fn put(&mut self, kept: usize, at: i64, gains: &[i32])
         requires kept { kept ≡ length (before at self.old.later) }
         requires place { kept < 64 }
@@ -217,7 +217,7 @@ fn count_before(later: &[(i64, Matrix)], at: i64) -> usize
     kept
 }
 
-/// Returns the changes of a schedule, and behind them free places up to 64.
+/// Returns the changes of a schedule, and after them free places up to 64.
 fn with_free(alloc: Global, schedule: &Schedule) -> Result<Vec<(i64, Matrix)>, AllocError>
     ensures free { IfOk result (λ slots. HasFree schedule.now.first schedule.now.later slots.items
         (64 - length schedule.now.later)) }
@@ -246,7 +246,7 @@ fn write_slot(first: &Matrix, slots: &mut Vec<(i64, Matrix)>, place: usize, at: 
     slot.1.set(gains);
 }
 
-/// Puts the first change's matrix in the place of the one before any change, and that one behind all places.
+/// Makes the matrix of the first change the first matrix, and moves the former first matrix to the last place.
 fn pass_first(first: &mut Matrix, slots: &mut Vec<(i64, Matrix)>)
     requires some { 0 < length slots.old.items }
     ensures { (slot : ℤ × List (List ℤ)) → slice_get slots.old.items 0 ≡ Some slot

@@ -11,7 +11,7 @@ use Rattle.gain_mix.proofs.saturation.count_saturated.Goals as goal
 pub loop-frame-init : goal.loop-frame-init
 loop-frame-init c = adds_none c.args.counts.now (λ output. 0) (λ k. refl) c.type_inv.counts
 
--- a part of so many, from a place on
+-- the part of a list that is frame `i`
 part_of : (i n w : ℕ) (xs : List ℤ) → n ≡ w → take ((i * n + n) - i * n) (drop (i * n) xs) ≡ frame_at w i xs
 part_of i n w xs wide =
     let e : (i * n + n) - i * n ≡ n = omega arith in
