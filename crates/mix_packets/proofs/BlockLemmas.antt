@@ -16,7 +16,7 @@ use Rattle.mix_packets.specs.OutSpec.{IsOutput, sample_total, datagram_length}
 use Rattle.mix_packets.specs.Block.{block_datagram, block_head}
 use Rattle.mix_packets.specs.Laws.{CountsUp}
 
--- a front is written to a list, and then a body to what follows it
+-- one list is written to the start of another, and then a body to what follows it
 side_by_side : (front body old whole part : List ℕ) (start count : ℕ) → length front ≡ start
     → whole ≡ front ++ drop start old
     → part ≡ body ++ drop count (take (length whole - start) (drop start whole))
@@ -33,7 +33,7 @@ side_by_side front body old whole part start count len e f =
     ∙ ap (λ r. front ++ r) (append-nil part ∙ after)
     ∙ sym (append_assoc front body (drop (start + count) old))
 
--- a header is written to the front of a list, and then a block's octets to what follows it
+-- a header is written to the start of a list, and then a block's octets to what follows it
 pub datagram-written : (out : Output) (number : ℕ) (block : List ℤ) (old whole part : List ℕ) (start : ℕ) (head : Head) (enc : Enc)
     → start ≡ 12 → head ≡ block_head out number → enc ≡ out.enc → length block ≡ sample_total out
     → whole ≡ head_octets head ++ drop 12 old
@@ -75,13 +75,13 @@ head-only out number block head payload ok at =
     sym (Places-of (block_datagram out number block) head payload at).head_is
     ∙ (Places-of (block_datagram out number block) (block_head out number) (block_octets out.enc block) (IsDatagram-block out number block ok)).head_is
 
--- the timestamp of one block more
+-- the timestamp of the next block
 timestamp_next : (start : ℤ) (frames number offset : ℕ) → pos 0 ≤ℤ start
     → unsigned_abs (int_rem_euclid (start +ℤ pos ((number + 1) * frames) +ℤ pos offset) (pos 4294967296)) ≡ (unsigned_abs (int_rem_euclid (start +ℤ pos (number * frames) +ℤ pos offset) (pos 4294967296)) + frames) % 4294967296
 timestamp_next (pos n) frames number offset low = omega arith
 timestamp_next (negsuc n) frames number offset low = absurd (omega (arith, ints))
 
--- of two blocks in a row the second counts on
+-- the header of a block follows the header of the block before it
 CountsUp-next : (out : Output) (number : ℕ) → IsOutput out → CountsUp out.frames (block_head out number) (block_head out (number + 1))
 CountsUp-next out number ok = record {
   seq = omega arith;

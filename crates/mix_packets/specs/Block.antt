@@ -9,15 +9,15 @@ use Rattle.mix_packets.specs.declared.out_spec.Output.{Output}
 abbrev pub block_start : Output → ℕ → ℤ
 block_start out number = out.start +ℤ pos (number * out.frames)
 
--- the sequence number rises by one a block
+-- the sequence number, which rises by one with each block
 abbrev pub sequence_number_of : Output → ℕ → ℕ
 sequence_number_of out number = (out.seq0 + number) % 2 ^ 16
 
--- the timestamp is the media time of the first sampling instant, and the offset (AES67)
+-- the timestamp: the media time of the first sampling instant plus the offset (AES67)
 abbrev pub timestamp_of : Output → ℕ → ℕ
 timestamp_of out number = unsigned_abs (int_rem_euclid (block_start out number +ℤ pos out.offset) (pos (2 ^ 32)))
 
--- the header, with no marker
+-- the header of a block, without a marker
 abbrev pub block_head : Output → ℕ → Head
 block_head out number = record {
   marker = false;
@@ -27,6 +27,7 @@ block_head out number = record {
   ssrc = out.ssrc;
 }
 
--- the header, with no padding, extension or contributing source, and the samples, frame by frame
+-- the datagram of a block: the header, without padding, extension or contributing sources, and then the samples, frame
+-- by frame
 abbrev pub block_datagram : Output → ℕ → List ℤ → List ℕ
 block_datagram out number block = head_octets (block_head out number) ++ block_octets out.enc block

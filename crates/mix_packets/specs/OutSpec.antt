@@ -1,4 +1,4 @@
--- The parts of an output's specification, and the facts of every one.
+-- The parts of an output's specification, and what holds for every specification without a fault.
 use Rattle.std.specs.Prelude.{◌≡◌, ℕ, ◌+◌, ◌*◌, ◌^◌, ◌<◌, ◌≤◌, pos, ◌≤ℤ◌, true, not, ◌&&◌, nat_lt, nat_le, ℤ, int_le, Bool, Option, Some, None, if◌then◌else◌}
 use Rattle.rtp_wire.specs.declared.encoding.Enc.{Enc}
 use Rattle.rtp_wire.specs.declared.encoding.Enc.TheVariants.{L16, L24}
@@ -8,24 +8,24 @@ use Rattle.mix_packets.specs.declared.out_spec.Output.{Output}
 use Rattle.mix_packets.specs.declared.out_spec.OutFault.{OutFault}
 use Rattle.mix_packets.specs.declared.out_spec.OutFault.TheVariants.{Channels, Frames, PayloadType, TooLong, Start}
 
--- the samples of a block
+-- the number of samples of a block
 abbrev pub sample_total : Output → ℕ
 sample_total out = out.frames * out.channels
 
--- their octets
+-- the number of octets of a block's samples
 abbrev pub payload_length : Output → ℕ
 payload_length out = sample_total out * octets_per_sample out.enc
 
--- the octets of a datagram: the header's twelve and the payload's (RFC 3550, 5.1)
+-- the number of octets of a datagram: twelve of the header, and those of the payload (RFC 3550, 5.1)
 abbrev pub datagram_length : Output → ℕ
 datagram_length out = 12 + payload_length out
 
--- from the scale of a gain's product to that of a sample: 16 bits, and 8 more where samples have 16
+-- the shift from a product of gain and value to a sample: 16 bits, and 8 more if samples have 16 bits
 abbrev pub shift_of : Enc → ℕ
 shift_of L16 = 24
 shift_of L24 = 16
 
--- an output may start at this time
+-- an output may start at this time: it is from 0 to 2^60
 abbrev pub is_start : ℤ → Bool
 is_start start = int_le (pos 0) start && int_le start (pos (2 ^ 60))
 
@@ -39,7 +39,7 @@ out_fault_of out =
     else if not (is_start out.start) then Some Start
     else None
 
--- what follows of a specification with no fault
+-- what follows from a specification without a fault
 pub record IsOutput (out : Output) : Type 0 where
   pub some_channels : 0 < out.channels
   pub few_channels : out.channels ≤ 8

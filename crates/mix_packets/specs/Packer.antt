@@ -1,4 +1,4 @@
--- The state of a packer that contracts see, and the facts of every one.
+-- The state of a packer as contracts see it, and what holds for every packer.
 use Rattle.std.specs.Prelude.{◌≡◌, ℕ}
 use Rattle.mix_packets.specs.declared.out_spec.Output.{Output}
 use Rattle.mix_packets.specs.OutSpec.{IsOutput}
@@ -9,7 +9,7 @@ pub record PackerState : Type 0 where
   pub spec : Output
   pub number : ℕ
 
--- what is kept for the next header is what its number says
+-- the sequence number and the timestamp that are kept for the next header are those of the next block
 pub record IsInStep (packer : PackerState) (seq ts : ℕ) : Type 0 where
   pub spec_ok : IsOutput packer.spec
   pub seq_is : seq ≡ sequence_number_of packer.spec packer.number

@@ -1,7 +1,7 @@
 //! The packetizer of the output: each block of samples becomes one RTP datagram.
 //!
 //! 1. `OutSpec::of` checks the parameters of the output, or returns its first fault.
-//! 2. `Packer::next` writes the datagram of the next block to the front of the caller's slice: the
+//! 2. `Packer::next` writes the datagram of the next block to the start of the caller's slice: the
 //!    header, then the samples. It returns the length of the datagram, which is `datagram_len` of the
 //!    output each time.
 //!

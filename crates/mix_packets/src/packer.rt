@@ -55,7 +55,7 @@ impl Packer {
         }
     }
 
-    /// Writes the next datagram to the front of `out`, and returns its length in octets.
+    /// Writes the next datagram to the start of `out`, and returns its length in octets.
     ///
     /// The block has its samples frame by frame: all channels of one sampling instant, then those of the next.
     pub fn next(&mut self, block: &[i32], out: &mut [u8]) -> usize
