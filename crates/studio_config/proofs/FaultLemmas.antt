@@ -19,7 +19,7 @@ first_of-first_of : {E : Type 0} (a b c : Option E) → first_of a (first_of b c
 first_of-first_of (Some e) b c = refl
 first_of-first_of None b c = refl
 
--- rows after other rows
+-- the first fault of rows that follow other rows
 pub rows_fault-append : (place : ConfigTable) (m : Members) (rows more : List Row) → rows_fault place m (rows ++ more) ≡ first_of (rows_fault place m rows) (rows_fault place m more)
 rows_fault-append place m [] more = refl
 rows_fault-append place m (row ∷ rows) more = ap (first_of (row_fault place m row)) (rows_fault-append place m rows more) ∙ first_of-first_of (row_fault place m row) (rows_fault place m rows) (rows_fault place m more)
@@ -38,20 +38,20 @@ stream_rows-fault place m =
     ∙ ap (first_of (rows_fault place m wait_rows)) (rows_fault-append place m port_rows (path_rows ++ name_rows)
     ∙ ap (first_of (rows_fault place m port_rows)) (rows_fault-append place m path_rows name_rows))))
 
--- a fault of a key is that of the stream
+-- a fault of a key is the fault of the stream's table
 pub stream_fault-rows : (place : ConfigTable) (m : Members) (e : SpecError) → stream_parts place m ≡ Some e → stream_fault place m ≡ Some e
 stream_fault-rows place m e faulty =
     let rows : rows_fault place m stream_rows ≡ Some e = stream_rows-fault place m ∙ faulty in
     rw rows
 
--- a fault comes before later ones, and after those that aren't
+-- the first of two faults: the earlier one, or the later one if there is no earlier one
 pub first_of-some : {E : Type 0} (a later : Option E) (e : E) → a ≡ Some e → first_of a later ≡ Some e
 first_of-some a later e is = rw is
 
 pub first_of-none : {E : Type 0} (a later : Option E) (e : E) → a ≡ None → later ≡ Some e → first_of a later ≡ Some e
 first_of-none a later e none is = rw (none, is)
 
--- the first of four faults and of what is tested after them
+-- the first of four faults and a later one
 module _ {E : Type 0} (a b c d later : Option E) (e : E) where
   first_in-1 : a ≡ Some e → first_of a (first_of b (first_of c (first_of d later))) ≡ Some e
   first_in-1 is = rw is
@@ -65,7 +65,7 @@ module _ {E : Type 0} (a b c d later : Option E) (e : E) where
   first_in-4 : a ≡ None → b ≡ None → c ≡ None → d ≡ Some e → first_of a (first_of b (first_of c (first_of d later))) ≡ Some e
   first_in-4 none second third is = rw (none, second, third, is)
 
--- what is tested of the output's table after its keys
+-- the first fault of the output's table after the faults of its keys
 abbrev after_keys : ℕ → Members → Option SpecError
 after_keys ins m =
     first_in (
@@ -73,17 +73,17 @@ after_keys ins m =
     ∷ schedule_fault (number_or m key.Channels 0) ins m
     ∷ [])
 
--- what is tested of it after the key of its changes
+-- the first fault of the output's table after the key of its changes
 abbrev after_changes : ℕ → Members → Option SpecError
 after_changes ins m =
     first_of (each_fault change_fault 0 (tables_at m key.Change))
     (first_of (rows_fault at.Output m address_rows) (first_of (rows_fault at.Output m sender_rows) (first_of (unknown_fault at.Output (map key_of output_rows) m) (after_keys ins m))))
 
--- what is tested of it after its gains
+-- the first fault of the output's table after its gains
 abbrev after_gains : ℕ → Members → Option SpecError
 after_gains ins m = first_of (row_fault at.Output m change_row) (after_changes ins m)
 
--- a fault of the output's first keys is that of the output
+-- a fault of the first keys of the output's table is the fault of the table
 pub output_fault-packets : (ins : ℕ) (m : Members) (e : SpecError) → rows_fault at.Output m packet_rows ≡ Some e → output_fault ins m ≡ Some e
 output_fault-packets ins m e is = first_of-some (rows_fault at.Output m packet_rows) (first_of (rows_fault at.Output m number_rows) (first_of (row_fault at.Output m gains_row) (after_gains ins m))) e is
 
@@ -98,9 +98,9 @@ output_fault-gains ins m e packets numbers is =
     first_of-none (rows_fault at.Output m packet_rows) (first_of (rows_fault at.Output m number_rows) later) e packets
     (first_of-none (rows_fault at.Output m number_rows) later e numbers (first_of-some (row_fault at.Output m gains_row) (after_gains ins m) e is))
 
--- so far nothing is wrong with the output's table
+-- the keys of the output's table up to its gains have no fault
 module _ (ins : ℕ) (m : Members) (e : SpecError) (packets : rows_fault at.Output m packet_rows ≡ None) (numbers : rows_fault at.Output m number_rows ≡ None) (gains : row_fault at.Output m gains_row ≡ None) where
-  -- a fault after the gains is that of the output
+  -- a fault after the gains is the fault of the output's table
   output_fault-after : after_gains ins m ≡ Some e → output_fault ins m ≡ Some e
   output_fault-after is =
       let later = first_of (row_fault at.Output m gains_row) (after_gains ins m) in
@@ -126,12 +126,12 @@ module _ (ins : ℕ) (m : Members) (e : SpecError) (packets : rows_fault at.Outp
     pub output_fault-unknown : each_fault change_fault 0 (tables_at m key.Change) ≡ None → rows_fault at.Output m address_rows ≡ None → rows_fault at.Output m sender_rows ≡ None → unknown_fault at.Output (map key_of output_rows) m ≡ Some e → output_fault ins m ≡ Some e
     output_fault-unknown each addresses senders is = output_fault-later (first_in-4 (each_fault change_fault 0 (tables_at m key.Change)) (rows_fault at.Output m address_rows) (rows_fault at.Output m sender_rows) (unknown_fault at.Output (map key_of output_rows) m) (after_keys ins m) e each addresses senders is)
 
--- nothing after a fault
+-- the first of a fault and of no fault
 first_of-nothing : {E : Type 0} (a : Option E) → first_of a None ≡ a
 first_of-nothing (Some e) = refl
 first_of-nothing None = refl
 
--- the top table has no fault, row by row
+-- the top table has no fault if none of its rows has one
 pub top_fault-none : (m : Members) → row_fault at.Top m (required key.OpenAt (whole 0 1152921504606846976)) ≡ None → row_fault at.Top m (required key.Stream (few_tables 1 16)) ≡ None → row_fault at.Top m (required key.Output a_table) ≡ None → unknown_fault at.Top (map key_of top_rows) m ≡ None → table_fault at.Top top_rows m ≡ None
 top_fault-none m open_at streams output known = rw (open_at, streams, output, known)
 
@@ -143,7 +143,7 @@ config_fault-output m fault top streams is =
     ∙ first_of-nothing (output_fault (channel_total (streams_of m)) (table_at m key.Output))
     ∙ is
 
--- the first fault of a table of three rows, and of what is tested after it
+-- the first fault of a table of three rows, and of what comes after it
 module _ {E : Type 0} (a b c unknown later : Option E) (e : E) where
   three-1 : a ≡ Some e → first_of (first_of (first_of a (first_of b (first_of c None))) unknown) later ≡ Some e
   three-1 is = rw is
@@ -157,7 +157,7 @@ module _ {E : Type 0} (a b c unknown later : Option E) (e : E) where
   three-unknown : a ≡ None → b ≡ None → c ≡ None → unknown ≡ Some e → first_of (first_of (first_of a (first_of b (first_of c None))) unknown) later ≡ Some e
   three-unknown none second third is = rw (none, second, third, is)
 
--- a fault of the top table is that of the configuration
+-- a fault of the top table is the fault of the configuration
 module _ (m : Members) (e : SpecError) where
   abbrev open_at_fault : Option SpecError
   open_at_fault = row_fault at.Top m (required key.OpenAt (whole 0 1152921504606846976))

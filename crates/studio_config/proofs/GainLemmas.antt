@@ -23,7 +23,7 @@ module _ {X : Type 0} (f : X → List ℤ) (ins : ℕ) where
       let rest = flat-length xs more in
       length-append (f x) (flat_map f xs) ∙ omega arith
 
-  -- cut into rows again
+  -- dividing the gains of rows into rows again returns the same rows
   pub flat-rows : (xs : List X) → list_all (λ x. eqb (length (f x)) ins) xs ≡ true → rows_of ins (length xs) (flat_map f xs) ≡ map f xs
   flat-rows [] even = refl
   flat-rows (x ∷ xs) even =
@@ -33,14 +33,14 @@ module _ {X : Type 0} (f : X → List ℤ) (ins : ℕ) where
       let rest : drop ins (f x ++ flat_map f xs) ≡ flat_map f xs = ap (λ n. drop n (f x ++ flat_map f xs)) (sym same) ∙ drop-append_seam (f x) (flat_map f xs) in
       rw (first, rest, flat-rows xs more)
 
--- rows in range, one after the other
+-- the gains of rows that are in range are in range
 pub flat-range : {X : Type 0} (f : X → List ℤ) (xs : List X) → list_all (λ x. has_range (f x)) xs ≡ true → has_range (flat_map f xs) ≡ true
 flat-range f [] fine = refl
 flat-range f (x ∷ xs) fine =
     let (here, more) = and_parts (has_range (f x)) (list_all (λ y. has_range (f y)) xs) fine in
     list_all-append (λ g. leb (unsigned_abs g) 1048576) (f x) (flat_map f xs) ∙ rw (here, flat-range f xs more)
 
--- rows that stand in values have this fault
+-- the fault of the rows of gains that values have
 module _ {X : Type 0} (f : X → List ℤ) (outs ins : ℕ) (xs : List X) where
   has_rows-map : has_rows outs ins (map f xs) ≡ (eqb (length xs) outs && list_all (λ x. eqb (length (f x)) ins) xs)
   has_rows-map = rw (length-map xs f, list_all-map (λ row. eqb (length row) ins) f xs)
@@ -63,7 +63,7 @@ module _ {X : Type 0} (f : X → List ℤ) (outs ins : ℕ) (xs : List X) where
       let range : list_all has_range (map f xs) ≡ true = range-map ∙ fine in
       rw (shape, range)
 
-  -- the matrix of rows with no fault is made, and is those rows
+  -- gains of rows with no fault make a matrix, which has these rows
   pub flat-no_fault : 1 ≤ outs → outs ≤ 8 → 1 ≤ ins → ins ≤ 1024 → (eqb (length xs) outs && list_all (λ x. eqb (length (f x)) ins) xs) ≡ true → list_all (λ x. has_range (f x)) xs ≡ true → matrix_fault_of outs ins (flat_map f xs) ≡ None
   flat-no_fault some few wide narrow even fine =
       let (count, each) = and_parts (eqb (length xs) outs) (list_all (λ x. eqb (length (f x)) ins) xs) even in
@@ -77,7 +77,7 @@ module _ {X : Type 0} (f : X → List ℤ) (outs ins : ℕ) (xs : List X) where
       let same : outs ≡ length xs = grind (arith, nat_tests, count) in
       ap (λ n. rows_of ins n (flat_map f xs)) same ∙ flat-rows f ins xs each
 
--- what a result is, said of either outcome
+-- what follows for an `Ok` result and for an error from a claim about both
 pub ok_from : {A E : Type 0} (x : A) (y : E) (r : Result A E) → MatchResult r (λ a. a ≡ x) (λ e. e ≡ y) → IfOk r (λ a. a ≡ x)
 ok_from x y (Ok a) h = h
 ok_from x y (Err e) h = tt
@@ -90,7 +90,7 @@ pub ok_as : {A E : Type 0} (x : A) (y : E) (Q : A → Type 0) (r : Result A E) �
 ok_as x y Q (Ok a) h q = subst Q (sym h) q
 ok_as x y Q (Err e) h q = tt
 
--- rows of one length have so many outputs and inputs
+-- `outs` rows of `ins` gains each have that many outputs and inputs
 pub even-outs : {X : Type 0} (f : X → List ℤ) (outs ins : ℕ) (xs : List X) → (eqb (length xs) outs && list_all (λ x. eqb (length (f x)) ins) xs) ≡ true → length (map f xs) ≡ outs
 even-outs f outs ins xs even =
     let (count, each) = and_parts (eqb (length xs) outs) (list_all (λ x. eqb (length (f x)) ins) xs) even in

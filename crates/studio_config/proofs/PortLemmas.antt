@@ -1,4 +1,4 @@
--- The facts that are known of streams, row by row.
+-- Tables with a row for each stream.
 use Rattle.std.proofs.Common.{◌≡◌, ℕ, zero, suc, ◌-◌, ◌<◌, ◌≤◌, List, [], ◌∷◌, ◌++◌, map, length, Option, slice_set, refl, ap, sym, ◌∙◌, arith}
 use Rattle.std.proofs.lemmas.List.{length-append, length-map, map-append, append_assoc}
 use Rattle.toml.specs.Data.{Members}
@@ -21,7 +21,7 @@ module _ {A : Type 0} (row : Members → List (Option A)) where
       let left = length-absent A (16 - length ms) in
       length-append (map row ms) (absent_rows (16 - length ms)) ∙ omega arith
 
-  -- the row of one stream more
+  -- the row of one more stream
   pub row_table-more : (ms : List Members) (m : Members) → length ms < 16 → slice_set (row_table row ms) (length ms) (row m) ≡ row_table row (ms ++ m ∷ [])
   row_table-more ms m few =
       let longer = length-append ms (m ∷ []) in

@@ -1,4 +1,4 @@
--- Moved changes: only their times can be at fault.
+-- Moved changes: only their times can have a fault.
 use Rattle.std.proofs.Common.{◌≡◌, ◌^◌, ◌++◌, not, FitsSigned, w64, ℤ, pos, ◌+ℤ◌, IfNone, Bool, true, false, ◌&&◌, nat_le, List, [], ◌∷◌, length, Option, Some, None, refl, ap, sym, ◌∙◌, arith}
 use Rattle.std.specs.Bool.{if◌then◌else◌}
 use Rattle.std.specs.Int.RustNames.{int_le, int_lt}
@@ -29,7 +29,7 @@ is_rising-moved : (by : ℤ) (later : List (ℤ × List (List ℤ))) → is_risi
 is_rising-moved by [] = refl
 is_rising-moved by (change ∷ later) = rises_from-moved by change.0 later
 
--- the first fault, where each is there or isn't
+-- the first fault, by which of the tests passed
 abbrev first_by : Bool → Bool → Bool → Bool → Option ScheduleFault
 first_by few shape times rising = if few then if shape then if times then if rising then None else Some Order else Some Time else Some Shape else Some TooMany
 
@@ -41,7 +41,7 @@ only_times true true false rising true f none some = absurd (none-some Time (sym
 only_times true false times rising true f none some = absurd (none-some Shape (sym none))
 only_times false shape times rising true f none some = absurd (none-some TooMany (sym none))
 
--- changes with no fault that have one once they are moved, have a time out of range then
+-- if changes have no fault, and have one after they were moved, then a moved time is out of range
 pub has_times-moved : (first : List (List ℤ)) (later : List (ℤ × List (List ℤ))) (by : ℤ) (f : ScheduleFault) → schedule_fault_of first later ≡ None → schedule_fault_of first (shifted_changes by later) ≡ Some f → has_times (shifted_changes by later) ≡ false
 has_times-moved first later by f none some =
     let moved = has_times (shifted_changes by later) in
@@ -54,7 +54,7 @@ has_times-moved first later by f none some =
     ∙ ap (first_by (has_few later) (has_one_shape first later) moved) rising) in
     only_times (has_few later) (has_one_shape first later) (has_times later) (is_rising later) moved f none (same ∙ some)
 
--- changes whose moved ones are refused
+-- if changes have no fault, and are refused after they were moved, then a moved time is out of range
 pub has_times-refused : (first : List (List ℤ)) (later : List (ℤ × List (List ℤ))) (by : ℤ) → schedule_fault_of first later ≡ None → IfNone (schedule_fault_of first (shifted_changes by later)) ⊥ → has_times (shifted_changes by later) ≡ false
 has_times-refused first later by none refused = by_fault (schedule_fault_of first (shifted_changes by later)) refl refused
   where
@@ -66,7 +66,7 @@ has_times-refused first later by none refused = by_fault (schedule_fault_of firs
 &&-false true = refl
 &&-false false = refl
 
--- times out of reach
+-- times at which an output may not start
 pub is_start-early : (t : ℤ) → int_lt t (pos 0) ≡ true → is_start t ≡ false
 is_start-early t early = by_low (int_le (pos 0) t) refl
   where
@@ -93,7 +93,7 @@ is_start-within t low high = by_tests (int_le (pos 0) t) refl (int_le t (pos (2 
 abbrev pub is_time : ℤ × List (List ℤ) → Bool
 is_time change = not (int_lt change.0 (pos 0)) && not (int_lt (pos (2 ^ 60)) change.0)
 
--- a time past what an i64 holds is out of range
+-- a time that an `i64` cannot hold is out of range
 pub is_time-unfit : (t : ℤ) → (FitsSigned w64 t → ⊥) → (not (int_lt t (pos 0)) && not (int_lt (pos (2 ^ 60)) t)) ≡ false
 is_time-unfit t unfit = by_tests (int_lt t (pos 0)) refl (int_lt (pos (2 ^ 60)) t) refl
   where
@@ -102,7 +102,7 @@ is_time-unfit t unfit = by_tests (int_lt t (pos 0)) refl (int_lt (pos (2 ^ 60)) 
     by_tests false is true was = refl
     by_tests false is false was = absurd (unfit (record { sfits = omega (arith, ints) }))
 
--- changes of which one's time is out of range
+-- if the time of one change is out of range, the times of all are
 pub has_times-seam : (before : List (ℤ × List (List ℤ))) (change : ℤ × List (List ℤ)) (after : List (ℤ × List (List ℤ))) → is_time change ≡ false → has_times (before ++ change ∷ after) ≡ false
 has_times-seam [] change after out = rw out
 has_times-seam (other ∷ before) change after out = ap (λ b. is_time other && b) (has_times-seam before change after out) ∙ &&-false (is_time other)

@@ -9,11 +9,11 @@ use Rattle.studio_config.specs.OutputTable.{each_fault}
 use Rattle.studio_config.specs.declared.config.fault.SpecError.{SpecError}
 
 module _ {X : Type 0} (xs : List X) (i : ℕ) where
-  -- a test that each passes
+  -- a test that every value passes
   pub passes : (test : X → Bool) (x : X) → list_all test xs ≡ true → i < length xs → x ≡ get_or xs i x → test x ≡ true
   passes test x all below is = ap test is ∙ AllPass-from_list_all test xs all i x below
 
-  -- what is read of them
+  -- what is read of all values
   pub map-all : {Y : Type 0} (f : X → Y) → length xs ≤ i → map f (take i xs) ≡ map f xs
   map-all f end = ap (map f) (take_all i xs end)
 

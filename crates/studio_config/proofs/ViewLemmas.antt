@@ -1,4 +1,4 @@
--- Values, arrays and tables beside the data that they stand for.
+-- Values, arrays and tables, and the data that contracts see of them.
 use Rattle.std.proofs.Common.{◌≡◌, Bool, ◌&&◌, List, [], ◌∷◌, map, Option, Some, option_map, String, Vec, Global, string_bytes, Bor, refl, ap, sym, ◌∙◌}
 use Rattle.std.specs.List.{list_all}
 use Rattle.std.specs.Map.{keys_of}
@@ -22,7 +22,7 @@ pub list_of-view : (vs : List Value) → list_of (items_view vs) ≡ map view vs
 list_of-view [] = refl
 list_of-view (v ∷ vs) = ap (λ rest. view v ∷ rest) (list_of-view vs)
 
--- the items of an array are what its values stand for
+-- the items of an array are the data of its values
 pub items_in-array : (d : Data) (vs : List Value) → as_array d ≡ Some (items_view vs) → items_in d ≡ map view vs
 items_in-array d vs is = rw is (list_of-view vs)
 
@@ -34,10 +34,10 @@ pub map-view : {A : Type 0} (f : Data → A) (vs : List Value) → map (λ v. f 
 map-view f [] = refl
 map-view f (v ∷ vs) = ap (λ rest. f (view v) ∷ rest) (map-view f vs)
 
--- a test of all items, by the values
+-- a test of all items is a test of the data of all values
 pub is_array_of-array : (test : Data → Bool) (d : Data) (vs : List Value) → as_array d ≡ Some (items_view vs) → is_array_of test d ≡ list_all (λ v. test (view v)) vs
 is_array_of-array test d vs is = rw is (rw (list_of-view vs) (list_all-map test vs))
 
--- what is read of each item, by the values
+-- what is read of each item is read of the data of each value
 pub map-items_in : {A : Type 0} (f : Data → A) (d : Data) (vs : List Value) → as_array d ≡ Some (items_view vs) → map (λ v. f (view v)) vs ≡ map f (items_in d)
 map-items_in f d vs is = map-view f vs ∙ ap (map f) (sym (items_in-array d vs is))

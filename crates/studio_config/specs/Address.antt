@@ -7,6 +7,6 @@ use Rattle.std.specs.Net.Reader.{read_ipv4, whole_value}
 abbrev pub of_octets : List ℕ → Ipv4Addr
 of_octets octets = record { octets = octets }
 
--- the address that a text writes, and nothing beside it
+-- the address that a text spells, if the whole text spells one
 unfoldable pub address_of : List ℕ → Option Ipv4Addr
 address_of text = option_map of_octets (whole_value (read_ipv4 text))

@@ -1,4 +1,4 @@
--- A whole configuration: the studio that it says, or its first fault.
+-- A whole configuration: the studio that it describes, or its first fault.
 use Rattle.std.specs.Prelude.{ℕ, ◌-◌, pos, List, [], ◌∷◌, ◌++◌, map, length, Option, None}
 use Rattle.std.specs.declared.net.ipv4_addr.Ipv4Addr.{Ipv4Addr}
 use Rattle.toml.specs.Data.{Members}
@@ -22,15 +22,15 @@ top_rows =
     ∷ required key.Output a_table
     ∷ []
 
--- the streams that a configuration says
+-- the streams that a configuration describes
 abbrev pub streams_of : Members → List Stream
 streams_of members = map stream_of (tables_at members key.Stream)
 
--- a row for each of up to sixteen streams, of which those that aren't there have nothing
+-- sixteen rows: one for each of the streams, and then rows of `None`
 abbrev pub row_table : {A : Type 0} → (Members → List (Option A)) → List Members → List (List (Option A))
 row_table row streams = map row streams ++ absent_rows (16 - length streams)
 
--- their ports, their addresses, and those of their senders
+-- the ports of the streams' paths, the addresses at which they are received, and their source addresses
 abbrev pub port_table : List Members → List (List (Option ℕ))
 port_table = row_table ports_of
 
@@ -40,7 +40,7 @@ bind_table = row_table binds_of
 abbrev pub sender_table : List Members → List (List (Option Ipv4Addr))
 sender_table = row_table sender_addresses_of
 
--- the studio that a configuration says
+-- the studio that a configuration describes
 abbrev pub studio_of : Members → Studio
 studio_of members = record {
   open_at = pos (number_or members key.OpenAt 0);
@@ -59,7 +59,7 @@ studio_of members = record {
   };
 }
 
--- its first fault: of the top table, of each stream's, of the output's
+-- the first fault of a configuration: of the top table, then of each stream's table, then of the output's table
 abbrev pub config_fault_of : Members → Option SpecError
 config_fault_of members =
     first_in (
@@ -68,6 +68,6 @@ config_fault_of members =
     ∷ output_fault (channel_total (streams_of members)) (table_at members key.Output)
     ∷ [])
 
--- memory was refused
+-- the error for an allocation failure
 abbrev pub no_memory : SpecError
 no_memory = record { place = place.Top; key = None; kind = kind.Memory }

@@ -1,4 +1,4 @@
--- The addresses in the tables of streams and of the output: their rows, and what they say.
+-- The addresses in the tables of streams and of the output: their rows, and their values.
 use Rattle.std.specs.Prelude.{List, [], ◌∷◌, ◌++◌, Option}
 use Rattle.std.specs.declared.net.ipv4_addr.Ipv4Addr.{Ipv4Addr}
 use Rattle.toml.specs.Data.{Members}
@@ -7,7 +7,7 @@ use Rattle.studio_config.specs.Rows.{Row, optional, whole, an_address}
 use Rattle.studio_config.specs.declared.networks.OutputAddresses.{OutputAddresses}
 use Rattle.studio_config.specs.declared.config.keys.Key.TheVariants as key
 
--- the address at which each path of a stream is received
+-- the rows of the addresses at which a stream's paths are received
 abbrev pub bind_rows : List Row
 bind_rows =
     optional key.AddressA an_address
@@ -16,7 +16,7 @@ bind_rows =
     ∷ optional key.AddressD an_address
     ∷ []
 
--- the addresses of its paths
+-- the addresses at which a stream's paths are received
 abbrev pub binds_of : Members → List (Option Ipv4Addr)
 binds_of members =
     address_at members key.AddressA
@@ -25,7 +25,7 @@ binds_of members =
     ∷ address_at members key.AddressD
     ∷ []
 
--- the address from which each of its paths is heard
+-- the rows of the source addresses to which a stream's paths are limited
 abbrev pub sender_address_rows : List Row
 sender_address_rows =
     optional key.SourceA an_address
@@ -34,7 +34,7 @@ sender_address_rows =
     ∷ optional key.SourceD an_address
     ∷ []
 
--- the addresses of its paths' senders
+-- the source addresses to which a stream's paths are limited
 abbrev pub sender_addresses_of : Members → List (Option Ipv4Addr)
 sender_addresses_of members =
     address_at members key.SourceA
@@ -43,11 +43,11 @@ sender_addresses_of members =
     ∷ address_at members key.SourceD
     ∷ []
 
--- the addresses in the table of a stream
+-- the rows of all addresses in the table of a stream
 abbrev pub path_rows : List Row
 path_rows = bind_rows ++ sender_address_rows
 
--- from which address, and to which, each copy of the output's packets is sent, and through how many routers
+-- the rows of the source and destination addresses of the output's two copies, and of their time to live
 abbrev pub sender_rows : List Row
 sender_rows =
     optional key.FromA an_address
@@ -57,7 +57,7 @@ sender_rows =
     ∷ optional key.Ttl (whole 1 255)
     ∷ []
 
--- the senders that the output's table says
+-- the addresses and the time to live of the output's two copies
 abbrev pub senders_of : Members → OutputAddresses
 senders_of members = record {
   from_a = address_at members key.FromA;

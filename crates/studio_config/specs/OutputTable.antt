@@ -1,4 +1,4 @@
--- The table of the output and those of its changes: their rows, what they say, and the first fault.
+-- The table of the output and those of its changes: their rows, their values, and the first fault.
 use Rattle.std.specs.Prelude.{ℕ, ◌+◌, ℤ, pos, ◌&&◌, ◌==◌, nat_le, Bool, List, [], ◌∷◌, ◌++◌, map, length, Option, Some, None, option_map, if◌then◌else◌}
 use Rattle.std.specs.List.{list_all}
 use Rattle.std.specs.Int.RustNames.{unsigned_abs}
@@ -20,7 +20,7 @@ use Rattle.studio_config.specs.declared.config.fault.ConfigTable.TheVariants as 
 use Rattle.studio_config.specs.declared.config.fault.SpecErrorKind.TheVariants as kind
 use Rattle.studio_config.specs.declared.config.fault.SpecError.{SpecError}
 
--- the source of the packets, and the numbers of the first one
+-- the rows of the packets' source, and of the numbers of the first packet
 abbrev pub number_rows : List Row
 number_rows =
     required key.Ssrc (whole 0 4294967295)
@@ -29,15 +29,15 @@ number_rows =
     ∷ optional key.Offset (whole 0 4294967295)
     ∷ []
 
--- the gains before any change
+-- the row of the gains before any change
 abbrev pub gains_row : Row
 gains_row = required key.Gains gains
 
--- the changes of gains
+-- the row of the changes of gains
 abbrev pub change_row : Row
 change_row = optional key.Change tables
 
--- where the two copies of each packet go
+-- the rows of the UDP ports to which the two copies of each packet are sent
 abbrev pub address_rows : List Row
 address_rows =
     optional key.ToA (whole 1 65535)
@@ -47,14 +47,14 @@ address_rows =
 abbrev pub output_rows : List Row
 output_rows = packet_rows ++ number_rows ++ gains_row ∷ change_row ∷ address_rows ++ sender_rows
 
--- a change: its time, and the gains from then on
+-- the rows of a change: its time, and the gains from then on
 abbrev pub change_rows : List Row
 change_rows =
     required key.At (whole 0 1152921504606846976)
     ∷ required key.Gains gains
     ∷ []
 
--- the output that a table says
+-- the output that a table describes
 abbrev pub output_of : Members → Output
 output_of members = record {
   enc = encoding_at members key.Encoding;
@@ -67,27 +67,27 @@ output_of members = record {
   offset = number_or members key.Offset 0;
 }
 
--- a change that a table says
+-- the change that a table describes
 abbrev pub change_of : Members → ℤ × List (List ℤ)
 change_of members = (pos (number_or members key.At 0), gains_at members key.Gains)
 
--- the gains that the output's table says, and their changes
+-- the gains and their changes that the output's table describes
 abbrev pub schedule_of : Members → Changes
 schedule_of members = record { first = gains_at members key.Gains; later = map change_of (tables_at members key.Change) }
 
--- a gain is at most 16, of either sign, in units of 1/65,536
+-- a gain, in units of 1/65,536, is from -16 to 16
 abbrev pub is_gain : ℤ → Bool
 is_gain gain = nat_le (unsigned_abs gain) 1048576
 
--- so many rows, each of so many gains
+-- there are `outs` rows of `ins` gains each
 abbrev pub has_rows : ℕ → ℕ → List (List ℤ) → Bool
 has_rows outs ins rows = (length rows == outs) && list_all (λ row. length row == ins) rows
 
--- the first fault of gains for so many outputs and inputs: their shape, then their range
+-- the first fault of gains for `outs` outputs and `ins` inputs: their shape, then their range
 abbrev pub gains_fault : ℕ → ℕ → List (List ℤ) → Option MatrixFault
 gains_fault outs ins rows = if has_rows outs ins rows then if list_all has_range rows then None else Some Range else Some Shape
 
--- the first fault of tables one after the other, the first of which has this number
+-- the first fault of tables that are numbered from `n` on
 abbrev pub each_fault : (ℕ → Members → Option SpecError) → ℕ → List Members → Option SpecError
 each_fault fault n [] = None
 each_fault fault n (members ∷ more) = first_of (fault n members) (each_fault fault (n + 1) more)
@@ -96,7 +96,7 @@ each_fault fault n (members ∷ more) = first_of (fault n members) (each_fault f
 abbrev pub change_fault : ℕ → Members → Option SpecError
 change_fault n members = table_fault (place.Change n) change_rows members
 
--- the fault of the gains of a table, for so many outputs and inputs
+-- the fault of the gains of a table, for `outs` outputs and `ins` inputs
 abbrev pub matrix_fault : ℕ → ℕ → ConfigTable → Members → Option SpecError
 matrix_fault outs ins place members = at_key place key.Gains (option_map kind.Gains (gains_fault outs ins (gains_at members key.Gains)))
 
@@ -109,8 +109,8 @@ schedule_fault outs ins members =
     ∷ at_key place.Output key.Change (option_map kind.Schedule (schedule_fault_of (gains_at members key.Gains) (map change_of (tables_at members key.Change))))
     ∷ [])
 
--- the first fault of the output's table, where the streams have so many channels: of its keys, with
--- the tables of changes at the place of theirs, then of the output that it says, then of the gains
+-- the first fault of the output's table, if the streams have `ins` channels: of its keys, with the tables of changes
+-- right after their key, then of the output that the table describes, then of the gains
 abbrev pub output_fault : ℕ → Members → Option SpecError
 output_fault ins members =
     first_in (

@@ -1,11 +1,11 @@
 -- The ports of streams, path by path.
 use Rattle.std.specs.Prelude.{ℕ, zero, suc, List, [], ◌∷◌, Option, None, slice_get, unwrap_or}
 
--- four paths of which nothing is known
+-- a row of four paths with nothing known
 abbrev pub absent_row : {A : Type 0} → List (Option A)
 absent_row = None ∷ None ∷ None ∷ None ∷ []
 
--- so many streams of which nothing is known
+-- rows of streams with nothing known
 abbrev pub absent_rows : {A : Type 0} → ℕ → List (List (Option A))
 absent_rows zero = []
 absent_rows (suc streams) = absent_row ∷ absent_rows streams

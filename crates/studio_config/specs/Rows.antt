@@ -1,4 +1,4 @@
--- The tables of a configuration, one row a key, and the first fault of a table by its rows.
+-- The tables of a configuration, with a row for each key, and the first fault of a table by its rows.
 use Rattle.std.specs.Prelude.{ℕ, ℤ, pos, negsuc, Bool, ◌&&◌, nat_le, List, [], ◌∷◌, length, map, codes, Option, Some, None, is_some, if◌then◌else◌}
 use Rattle.std.specs.List.{list_any, list_all}
 use Rattle.std.specs.Str.{bytes_eq}
@@ -12,21 +12,21 @@ use Rattle.studio_config.specs.declared.config.fault.SpecErrorKind.{SpecErrorKin
 use Rattle.studio_config.specs.declared.config.fault.SpecErrorKind.TheVariants.{Missing, WrongKind, OutOfRange, Unknown}
 use Rattle.studio_config.specs.declared.config.fault.SpecError.{SpecError}
 
--- what the value of a key has to be
+-- the values that a key may have
 pub data Range : Type 0 where
-  -- a whole number from the first to the second
+  -- a whole number from the first number to the second
   whole : ℕ → ℕ → Range
   -- one of these texts
   one_of : List (List ℕ) → Range
   -- the text of an IPv4 address
   an_address : Range
-  -- a text of at most so many octets
+  -- a text of at most this number of octets
   a_text : ℕ → Range
   -- a table
   a_table : Range
   -- an array of tables
   tables : Range
-  -- an array of so many tables, from the first to the second
+  -- an array of tables, whose number is from the first number to the second
   few_tables : ℕ → ℕ → Range
   -- an array of arrays of whole numbers
   gains : Range
@@ -38,7 +38,7 @@ encodings = codes "L16" ∷ codes "L24" ∷ []
 abbrev pub clocks : List (List ℕ)
 clocks = codes "media" ∷ codes "arrival" ∷ codes "follow" ∷ []
 
--- a row of a table: a key, and what its value has to be
+-- a row of a table: a key, and the values that it may have
 pub data Row : Type 0 where
   required : Key → Range → Row
   optional : Key → Range → Row
@@ -57,11 +57,11 @@ abbrev pub first_in : {E : Type 0} → List (Option E) → Option E
 first_in [] = None
 first_in (fault ∷ faults) = first_of fault (first_in faults)
 
--- the fault of a value that is of its kind, or isn't
+-- the fault of a value, by whether it has the right type
 abbrev pub kind_fault : Bool → Option SpecErrorKind
 kind_fault fits = if fits then None else Some WrongKind
 
--- the fault of a value that is in its range, or isn't
+-- the fault of a value, by whether it is in its range
 abbrev pub range_fault : Bool → Option SpecErrorKind
 range_fault fits = if fits then None else Some OutOfRange
 
@@ -81,12 +81,12 @@ abbrev pub address_fault : Option (List ℕ) → Option SpecErrorKind
 address_fault (Some text) = range_fault (is_some (address_of text))
 address_fault None = Some WrongKind
 
--- the fault of a text that has to have at most so many octets
+-- the fault of a text that has to have at most `most` octets
 abbrev pub length_fault : ℕ → Option (List ℕ) → Option SpecErrorKind
 length_fault most (Some text) = range_fault (nat_le (length text) most)
 length_fault most None = Some WrongKind
 
--- the first fault of a value: its kind, then its range
+-- the first fault of a value: its type, then its range
 abbrev pub value_fault : Range → Data → Option SpecErrorKind
 value_fault (whole least greatest) d = whole_fault least greatest (as_integer d)
 value_fault (one_of texts) d = text_fault texts (as_str d)

@@ -1,4 +1,4 @@
--- A studio by a clock that reads otherwise: each of its times is moved by the same.
+-- A studio by a clock with another zero: each of its times is moved by the same amount.
 use Rattle.std.specs.Prelude.{ℤ, ◌+ℤ◌, ◌-ℤ◌, List, [], ◌∷◌, Option, map}
 use Rattle.gain_mix.specs.Schedule.{has_times}
 use Rattle.mix_packets.specs.OutSpec.{is_start}
@@ -8,15 +8,15 @@ use Rattle.studio_config.specs.declared.config.keys.Key.TheVariants as key
 use Rattle.studio_config.specs.declared.config.fault.ConfigTable.TheVariants as place
 use Rattle.studio_config.specs.declared.config.fault.SpecError.{SpecError}
 
--- a change that comes so many sampling instants later
+-- a change that comes `by` sampling instants later
 abbrev pub shifted_change : ℤ → ℤ × List (List ℤ) → ℤ × List (List ℤ)
 shifted_change by change = (change.0 +ℤ by, change.1)
 
--- changes that come so many sampling instants later
+-- changes that come `by` sampling instants later
 abbrev pub shifted_changes : ℤ → List (ℤ × List (List ℤ)) → List (ℤ × List (List ℤ))
 shifted_changes by changes = map (shifted_change by) changes
 
--- the same studio, opened at this time
+-- the studio opened at this time, with all other times moved by as much
 abbrev pub shifted : ℤ → Studio → Studio
 shifted open_at studio =
     let by = open_at -ℤ studio.open_at in
@@ -34,7 +34,7 @@ start_fault start = at_key place.Output key.Start (range_fault (is_start start))
 abbrev pub changes_fault : List (ℤ × List (List ℤ)) → Option SpecError
 changes_fault changes = at_key place.Output key.Change (range_fault (has_times changes))
 
--- the first of a studio's times that isn't from 0 to 2 ^ 60
+-- the fault of the first of a studio's times that is not from 0 to 2 ^ 60
 abbrev pub shift_fault_of : Studio → Option SpecError
 shift_fault_of studio =
     first_in (

@@ -1,4 +1,4 @@
--- The table of a stream: its rows, what they say, and the first fault.
+-- The table of a stream: its rows, their values, and the first fault.
 use Rattle.std.specs.Prelude.{ℕ, List, [], ◌∷◌, ◌++◌, Option, option_map, if◌then◌else◌}
 use Rattle.rtp_stream.specs.declared.stream_spec.Stream.{Stream}
 use Rattle.rtp_stream.specs.StreamSpecFacts.{spec_fault_of}
@@ -12,7 +12,7 @@ use Rattle.studio_config.specs.declared.config.fault.ConfigTable.{ConfigTable}
 use Rattle.studio_config.specs.declared.config.fault.SpecErrorKind.TheVariants as kind
 use Rattle.studio_config.specs.declared.config.fault.SpecError.{SpecError}
 
--- how packets lie, in the table of a stream and of the output
+-- the rows of the packet format, in the table of a stream and in that of the output
 abbrev pub packet_rows : List Row
 packet_rows =
     required key.Encoding (one_of encodings)
@@ -21,7 +21,7 @@ packet_rows =
     ∷ required key.Pt (whole 0 255)
     ∷ []
 
--- where a stream's packets come from, and by which clock
+-- the rows of the source and the clock of a stream
 abbrev pub source_rows : List Row
 source_rows =
     optional key.Ssrc (whole 0 4294967295)
@@ -29,7 +29,7 @@ source_rows =
     ∷ optional key.Offset (whole 0 4294967295)
     ∷ []
 
--- how long packets are waited for, and on how many paths
+-- the rows of the latency, the window and the number of paths
 abbrev pub wait_rows : List Row
 wait_rows =
     required key.Latency (whole 0 4294967295)
@@ -37,7 +37,7 @@ wait_rows =
     ∷ optional key.Paths (whole 1 4)
     ∷ []
 
--- where each path comes in
+-- the rows of the UDP ports at which the paths are received
 abbrev pub port_rows : List Row
 port_rows =
     optional key.PortA (whole 1 65535)
@@ -46,18 +46,18 @@ port_rows =
     ∷ optional key.PortD (whole 1 65535)
     ∷ []
 
--- how people call it
+-- the row of the name of a stream, which is for people only
 abbrev pub name_rows : List Row
 name_rows = optional key.Name (a_text 64) ∷ []
 
 abbrev pub stream_rows : List Row
 stream_rows = packet_rows ++ source_rows ++ wait_rows ++ port_rows ++ path_rows ++ name_rows
 
--- the clock that it names; the media clock with its offset, which is 0 if absent
+-- the clock that a table names; the media clock has the table's offset, or 0 if it is absent
 abbrev pub clock_of : Members → StreamClock
 clock_of members = with_offset (clock_named (text_at members key.Clock)) (number_or members key.Offset 0)
 
--- the stream that a table says; it has two paths if it doesn't say how many
+-- the stream that a table describes; it has two paths if their number is absent
 abbrev pub stream_of : Members → Stream
 stream_of members = record {
   enc = encoding_at members key.Encoding;
@@ -71,11 +71,11 @@ stream_of members = record {
   paths = number_or members key.Paths 2;
 }
 
--- the ports of its paths
+-- the ports of a stream's paths
 abbrev pub ports_of : Members → List (Option ℕ)
 ports_of members = number_at members key.PortA ∷ number_at members key.PortB ∷ number_at members key.PortC ∷ number_at members key.PortD ∷ []
 
--- the first fault of a stream's table: of its keys, then of the stream that it says
+-- the first fault of a stream's table: of its keys, then of the stream that it describes
 abbrev pub stream_fault : ConfigTable → Members → Option SpecError
 stream_fault place members =
     first_of (table_fault place stream_rows members) (at_table place (option_map kind.Stream (spec_fault_of (stream_of members))))

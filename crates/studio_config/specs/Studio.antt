@@ -7,7 +7,7 @@ use Rattle.mix_packets.specs.declared.out_spec.Output.{Output}
 use Rattle.studio_config.specs.declared.ports.Ports.{Ports}
 use Rattle.studio_config.specs.declared.networks.Networks.{Networks}
 
--- what contracts see of a specification
+-- the specification of a studio, as contracts see it
 pub record Studio : Type 0 where
   pub open_at : ℤ
   pub streams : List Stream
@@ -16,11 +16,12 @@ pub record Studio : Type 0 where
   pub ports : Ports
   pub networks : Networks
 
--- the channels of all streams
+-- the number of channels of all streams
 abbrev pub channel_total : List Stream → ℕ
 channel_total streams = sum_by (λ (stream : Stream). stream.channels) streams
 
--- the matrices have a row for each channel of the output, and in it a gain for each channel of a stream
+-- a studio opens at a time from 0 to 2 ^ 60 and has 1 to 16 streams; its first matrix has a row for each channel of the
+-- output, and in each row a gain for each channel of the streams
 pub record IsStudio (studio : Studio) : Type 0 where
   pub open_low : pos 0 ≤ℤ studio.open_at
   pub open_high : studio.open_at ≤ℤ pos (2 ^ 60)

@@ -17,11 +17,11 @@ abbrev pub list_of : Items → List Data
 list_of no_items = []
 list_of (item d ds) = d ∷ list_of ds
 
--- the items of a value, none if it is no array
+-- the items of a value, none if it is not an array
 abbrev pub items_in : Data → List Data
 items_in d = unwrap_or (option_map list_of (as_array d)) []
 
--- the members of a value, none if it is no table
+-- the members of a value, none if it is not a table
 abbrev pub members_in : Data → Members
 members_in d = unwrap_or (as_table d) no_members
 
@@ -35,11 +35,11 @@ is_integer d = is_some (as_integer d)
 abbrev pub is_array_of : (Data → Bool) → Data → Bool
 is_array_of test d = is_some (as_array d) && list_all test (items_in d)
 
--- an array that holds tables alone
+-- an array of tables
 abbrev pub are_tables : Data → Bool
 are_tables d = is_array_of is_table d
 
--- an array that holds whole numbers alone
+-- an array of whole numbers
 abbrev pub is_row : Data → Bool
 is_row d = is_array_of is_integer d
 
@@ -51,7 +51,7 @@ are_gains d = is_array_of is_row d
 abbrev pub tables_in : Data → List Members
 tables_in d = map members_in (items_in d)
 
--- the gain that a value is, 0 if it is no whole number
+-- the gain that a value is, 0 if it is not a whole number
 abbrev pub gain_in : Data → ℤ
 gain_in d = unwrap_or (as_integer d) (pos 0)
 
@@ -67,24 +67,24 @@ rows_in d = map row_in (items_in d)
 abbrev pub value_at : Members → Key → Option Data
 value_at members key = get_member (name_of key) members
 
--- the number that an integer from 0 on is
+-- the natural number that an integer is, if it is not below 0
 abbrev pub natural_of : ℤ → Option ℕ
 natural_of (pos n) = Some n
 natural_of (negsuc n) = None
 
--- the whole number from 0 on that a value is
+-- the natural number that a value is, if it is one
 abbrev pub natural_in : Data → Option ℕ
 natural_in d = option_and_then natural_of (as_integer d)
 
--- the whole number from 0 on at a key, if there is one
+-- the natural number at a key, if there is one
 abbrev pub number_at : Members → Key → Option ℕ
 number_at members key = option_and_then natural_in (value_at members key)
 
--- that number, or this one if there is none
+-- the natural number at a key, or `absent` if there is none
 abbrev pub number_or : Members → Key → ℕ → ℕ
 number_or members key absent = unwrap_or (number_at members key) absent
 
--- the text that a value is, empty if it is none
+-- the text that a value is, empty if it is not a text
 abbrev pub text_in : Data → List ℕ
 text_in d = unwrap_or (as_str d) []
 
@@ -96,14 +96,14 @@ text_at members key = unwrap_or (option_map text_in (value_at members key)) []
 abbrev pub encoding_of : List ℕ → Enc
 encoding_of text = if bytes_eq text (codes "L16") then L16 else L24
 
--- the encoding that a value names, and that at a key
+-- the encoding that a value names, and the encoding at a key
 abbrev pub encoding_in : Data → Enc
 encoding_in d = encoding_of (text_in d)
 
 abbrev pub encoding_at : Members → Key → Enc
 encoding_at members key = encoding_of (text_at members key)
 
--- the address that a value is, if it is one, and that at a key
+-- the address that a value is, if it is one, and the address at a key
 abbrev pub address_in : Data → Option Ipv4Addr
 address_in d = option_and_then address_of (as_str d)
 

@@ -54,7 +54,7 @@ const KEYS: [Key; 23] = [
     Key::Name,
 ];
 
-/// The SSRC that packets are limited to, if the table gives one, and the clock of their media times.
+/// The SSRC that packets are limited to, if the table has one, and the clock of their media times.
 #[derive(Clone, Copy)]
 struct StreamSource {
     ssrc: Option<u32>,

@@ -92,7 +92,7 @@ returns-clause-ok c =
     c.loop-number.invariant.left
     ∙ fault-end c.args.tables.now c.loop-number.number (λ (k : ℕ). stream_fault (at.Stream k)) (λ (t : Value). members_in (view t)) c.loop-number-test.false
 
--- the tables that were read, once all were
+-- the tables that were read, once all of them were read
 all : (tables : List Value) (n : ℕ) → length tables ≤ n → map (λ (t : Value). members_in (view t)) (take n tables) ≡ map (λ (t : Value). members_in (view t)) tables
 all tables n end = map-all tables n (λ (t : Value). members_in (view t)) end
 

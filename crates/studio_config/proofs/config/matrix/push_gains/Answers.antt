@@ -9,11 +9,11 @@ use Rattle.studio_config.specs.OutputTable.{is_gain}
 use Rattle.studio_config.proofs.StepLemmas.{passes, map-more, map-all}
 use Rattle.studio_config.proofs.config.matrix.push_gains.Goals as goal
 
--- a gain is a number of 32 bits
+-- a gain fits 32 bits
 fits : (gain : ℤ) → is_gain gain ≡ true → FitsSigned w32 gain
 fits gain small = grind (arith, common_steps)
 
--- each gain that is read is one
+-- each gain that is read fits 32 bits
 fits_at : (more : List Value) (i : ℕ) (value : Value) (gain : ℤ) → list_all (λ v. is_gain (gain_in (view v))) more ≡ true → i < length more → value ≡ get_or more i value → gain ≡ gain_in (view value) → FitsSigned w32 gain
 fits_at more i value gain all below is same = fits gain (ap is_gain same ∙ passes more i (λ v. is_gain (gain_in (view v))) value all below is)
 

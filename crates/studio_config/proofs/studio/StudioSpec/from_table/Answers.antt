@@ -53,7 +53,7 @@ new-studio-requires-clause-not_low c =
     let number : to_z w64 c.in_ok-open_at.field-0 ≡ pos c.in_ok-open_at.field-0 = to_z_pos w64 (omega (arith, c.in_ok-open_at.ensures.high)) in
     rw number search rules
 
--- how many streams were read of the tables
+-- as many streams were read as there are tables
 count : (streams : List Stream) (tables : List Value) → streams ≡ map stream_of (map (λ t. members_in (view t)) tables) → length streams ≡ length tables
 count streams tables read = ap length read ∙ length-map (map (λ t. members_in (view t)) tables) stream_of ∙ length-map tables (λ t. members_in (view t))
 

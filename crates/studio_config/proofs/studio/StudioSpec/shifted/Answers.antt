@@ -16,7 +16,7 @@ returns-then-open_at-lt0-clause-fault c =
     let is = to_z-of_z w64 c.args.open_at c.ranges.open_at in
     elim c.then-open_at-lt0.branch [ then-open_at-lt0-via-then-open_at-lt0 w ↦ let early = is_start-early c.args.open_at (ap (λ t. int_lt t (pos 0)) (sym is) ∙ w.if-open_at-lt0.true) in inr (rw (early, c.out_of_range.ensures)) | then-open_at-lt0-via-else-open_at-lt0+then-open_at-gt-MAX_TIME w ↦ let late = is_start-late c.args.open_at (ap (int_lt (pos (2 ^ 60))) (sym is) ∙ w.if-open_at-gt-MAX_TIME.true) in inr (rw (late, c.out_of_range.ensures)) ]
 
--- by how much the times move
+-- the amount by which the times move
 module _ (open_at own : ℤ) (f : FitsSigned w64 open_at) (low : int_lt (to_z w64 (of_z w64 open_at)) (pos 0) ≡ false) (high : int_lt (pos (2 ^ 60)) (to_z w64 (of_z w64 open_at)) ≡ false) (from_zero : pos 0 ≤ℤ own) (to_latest : own ≤ℤ pos (2 ^ 60)) where
   difference : to_z w64 (of_z w64 (to_z w64 (of_z w64 open_at) -ℤ to_z w64 (of_z w64 own))) ≡ open_at -ℤ own
   difference = omega (arith, ints)

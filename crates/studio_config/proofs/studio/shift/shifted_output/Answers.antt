@@ -3,11 +3,11 @@ use Rattle.std.proofs.lemmas.Int.{ints}
 use Rattle.mix_packets.specs.OutSpec.{is_start}
 use Rattle.studio_config.proofs.studio.shift.shifted_output.Goals as goal
 
--- the sum of a start and of how much it moves
+-- the sum of a start and the amount by which it moves
 sum : (start by : ℤ) → pos 0 ≤ℤ start → start ≤ℤ pos (2 ^ 60) → negsuc (2 ^ 60) ≤ℤ by → by ≤ℤ pos (2 ^ 60) → to_z w64 (of_z w64 (to_z w64 (of_z w64 start) +ℤ to_z w64 (of_z w64 by))) ≡ start +ℤ by
 sum start by from_zero to_latest low high = omega (arith, ints)
 
--- it fits its type
+-- the sum fits 64 bits
 sum_fits : (start by : ℤ) → pos 0 ≤ℤ start → start ≤ℤ pos (2 ^ 60) → negsuc (2 ^ 60) ≤ℤ by → by ≤ℤ pos (2 ^ 60) → FitsSigned w64 (to_z w64 (of_z w64 start) +ℤ to_z w64 (of_z w64 by))
 sum_fits start by from_zero to_latest low high = omega (arith, ints)
 
