@@ -17,7 +17,7 @@ pub(crate) struct FeedReader<F> {
 }
 
 impl<F: Drop> FeedReader<F> {
-    /// Returns a reader of a feed that was not asked yet.
+    /// Returns a reader of a feed that was not called yet.
     pub(crate) fn new(feed: F) -> FeedReader<F>
         ensures { result ≡ new_reader feed }
     {
@@ -28,7 +28,7 @@ impl<F: Drop> FeedReader<F> {
     }
 }
 
-/// Allocates the readers of the next `count` feeds, or of those that are left. None of the feeds was asked yet.
+/// Allocates the readers of the next `count` feeds, or of those that are left. None of the feeds was called yet.
 fn next_readers<F: Drop>(
     alloc: Global,
     feeds: &mut IntoIter<F>,
@@ -47,7 +47,7 @@ fn next_readers<F: Drop>(
     Ok(own)
 }
 
-/// Allocates the readers of these streams' feeds, which are ordered by stream and then by path. None was asked yet.
+/// Allocates the readers of these streams' feeds, which are ordered by stream and then by path. None was called yet.
 /// Also returns true if there is one feed for each path.
 pub(crate) fn all_readers<F: Drop>(
     alloc: Global,

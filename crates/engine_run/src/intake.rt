@@ -16,14 +16,14 @@ use studio_io::{Feed, FeedAnswer};
 const MAX_TAKEN: u32 = 64;
 
 /// The longest rest, in sampling instants at 48 kHz: 50 ms.
-// A feed that has nothing is asked again by then, so a run ends at most so long after its feeds.
+// A feed that has nothing is called again by then, so a run ends at most 50 ms after its feeds.
 pub(crate) const LONGEST_REST: i64 = 2_400;
 
 /// The longest rest after a feed failed, in sampling instants at 48 kHz: 2 ms.
 // Short, since a datagram may wait behind the fault.
 const FAULT_REST: i64 = 96;
 
-/// The outcome of asking a feed once.
+/// The outcome of one call of a feed.
 #[derive(Clone, Copy, PartialEq, Eq, Debug)]
 enum FeedOutcome {
     /// The feed returned a datagram, which the engine took.
@@ -34,7 +34,7 @@ enum FeedOutcome {
     Nothing,
 }
 
-/// Asks a feed once, passes its datagram to the engine, and notifies the observer.
+/// Calls a feed once, passes its datagram to the engine, and notifies the observer.
 ///
 /// Returns the engine's `ArriveFault` if the engine does not take it.
 fn take_one<F: Feed, T: RunObserver<F>>(

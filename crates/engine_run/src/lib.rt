@@ -9,9 +9,9 @@
 //! 4. waits by the `IdleWait`;
 //! 5. takes at most 64 datagrams from each feed.
 //!
-//! The datagrams of a round are judged by the reading of that round, so none that came in time is
-//! late for the wait. If the `IdleWait` says that this reading is too old, they are judged by a new
-//! one.
+//! The datagrams of a round are judged by the clock reading of that round. So a datagram that came in
+//! time is not late because of the wait. If the `IdleWait` says that this reading is too old, the
+//! datagrams are judged by a new one.
 //!
 //! Once every feed has ended, the clock is read a last time, the engine is closed, and the remaining
 //! datagrams are sent. If the report is `settled`, there is one list of events for which the sink

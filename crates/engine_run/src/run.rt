@@ -26,7 +26,7 @@ pub trait IdleWait: Drop {
     /// It may end earlier, or later: blocks that become due meanwhile are then sent after it.
     ///
     /// Returns true if the datagrams that arrived are to be judged by the clock reading before the wait, the engine's
-    /// time, so that none is late for the wait. After false the clock is read again first.
+    /// time, so that none is late because of the wait. After false the clock is read again first.
     fn wait_for_input(&mut self, engine: &Engine, most: i64) -> bool;
 }
 
@@ -35,7 +35,7 @@ pub trait IdleWait: Drop {
 /// The caller passes a feed for each path, ordered by stream and then by path. All memory is allocated before the clock
 /// is first read, and `AllocError` is returned if that fails. A run is settled unless there was not one feed for each
 /// path, or it took 2^62 events. If there are too few feeds the last paths have none, and feeds beyond the last path
-/// are not asked.
+/// are not called.
 ///
 /// In each round `gains` is asked for changes of gains, until it has no request or 64 were answered. A settled run is
 /// one of the studio with exactly the changes that were taken. `tap` is notified of exactly these, in a run that is not
@@ -105,7 +105,7 @@ fn run_rounds<R: Wait, F: Feed, C: Clock, K: Sink, T: RunObserver<F>, P: IdleWai
     ensures noted { HasNotedTaken (G.taken gains.old) (G.taken gains.new)
         (T.noted state.old.tap) (T.noted state.new.tap) }
 {
-    // The first round does not rest: no feed was asked yet.
+    // The first round does not rest: no feed was called yet.
     let mut most = 0;
     // The contract of `Feed::next` says what it returns for a buffer of this length only.
     let mut buf = [0u8; MAX_ARRIVAL_OCTETS];

@@ -154,9 +154,9 @@ impl<F: Feed, C: Clock, K: Sink, T: RunObserver<F>> RunState<F, C, K, T> {
         }
         self.notify_before_wait();
         let most = until_deadline(&self.engine, most);
-        // The rest comes between the reading and the datagrams: one that arrives in a short rest is judged by the
-        // reading before it, so none is late that came in time. After a long rest that reading is too old, and another
-        // is made.
+        // The rest comes between the clock reading and the datagrams: a datagram that arrives in a short rest is judged
+        // by the reading before the rest, so it is not late if it came in time. After a long rest that reading is too
+        // old, and the clock is read again.
         let is_new = rest.wait_for_input(&self.engine, most);
         self.turn_if_stale(is_new)?;
         let most = self.take(buf)?;
@@ -164,7 +164,7 @@ impl<F: Feed, C: Clock, K: Sink, T: RunObserver<F>> RunState<F, C, K, T> {
     }
 }
 
-/// Returns the greatest clock reading so far with one more, at most 2^60.
+/// Returns the greatest clock reading so far, with `answer` included, of which at most 2^60 counts.
 // A clock that goes back, or beyond 2^60, would be a clock fault: such readings are ignored or limited.
 fn greatest(time: i64, answer: i64) -> i64
     ensures { result ≡ time_with time answer }

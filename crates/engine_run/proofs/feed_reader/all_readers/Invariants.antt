@@ -5,7 +5,7 @@ use Rattle.engine_run.specs.Intake.{new_reader}
 use Rattle.engine_run.proofs.GroupLemmas.{rest_of}
 use Rattle.engine_run.proofs.feed_reader.all_readers.Given as goal
 
--- the feeds of the streams so far, and those that are left
+-- the feeds of the streams so far have readers, and the feeds that are left are those of the other streams
 abbrev pub invariant-loop-stream : goal.invariant-loop-stream
 invariant-loop-stream g l = record {
   begun : map (λ own. own.items) l.readers.items ≡ grouped (take l.stream l.specs) (map new_reader l.fn.feeds.items);

@@ -5,7 +5,7 @@ use Rattle.studio_engine.specs.Session.{HasSession}
 use Rattle.engine_run.specs.Intake.{TakesAll}
 use Rattle.engine_run.proofs.intake.take_all.Given as goal
 
--- the streams so far
+-- the datagrams of the streams so far were taken
 abbrev pub invariant-loop-stream : goal.invariant-loop-stream
 invariant-loop-stream g l = record {
   room : length l.buf ≡ 2048;

@@ -5,7 +5,7 @@ use Rattle.studio_engine.specs.Session.{HasSession}
 use Rattle.engine_run.specs.Intake.{Takes}
 use Rattle.engine_run.proofs.intake.take_some.Given as goal
 
--- the answers so far, each of which was a datagram
+-- the results so far, each of which was a datagram
 abbrev pub invariant-loop : goal.invariant-loop
 invariant-loop g l = record {
   room : length l.buf ≡ 2048;

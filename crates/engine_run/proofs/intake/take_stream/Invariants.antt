@@ -5,7 +5,7 @@ use Rattle.studio_engine.specs.Session.{HasSession}
 use Rattle.engine_run.specs.Intake.{TakesStream}
 use Rattle.engine_run.proofs.intake.take_stream.Given as goal
 
--- the feeds so far
+-- the datagrams of the feeds so far were taken
 abbrev pub invariant-loop-number : goal.invariant-loop-number
 invariant-loop-number g l = record {
   room : length l.buf ≡ 2048;

@@ -8,7 +8,7 @@ use Rattle.studio_engine.specs.Engine.{HasAllMarks}
 use Rattle.studio_engine.specs.Session.{HasSession}
 use Rattle.engine_run.proofs.report.all_counts.Given as goal
 
--- the counts of the streams so far
+-- the counts of the streams so far were copied
 abbrev pub invariant-loop-stream : goal.invariant-loop-stream
 invariant-loop-stream l = record {
   count : length l.counts.items ≡ l.stream;

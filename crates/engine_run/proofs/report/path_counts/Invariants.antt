@@ -7,7 +7,7 @@ use Rattle.studio_session.specs.Event.{TraceEvent}
 use Rattle.studio_engine.specs.Session.{HasSession}
 use Rattle.engine_run.proofs.report.path_counts.Given as goal
 
--- the counts of the paths so far
+-- the counts of the paths so far were copied
 abbrev pub invariant-loop-number : goal.invariant-loop-number
 invariant-loop-number l = (studio : Studio) (events : List TraceEvent) (datagrams : List (List ℕ)) (spec : Stream) → HasSession studio l.engine events datagrams → slice_get studio.streams l.stream ≡ Some spec
     → tallies_of l.counts.items ≡ path_tallies spec l.stream events l.number
