@@ -5,11 +5,11 @@ ghost use Rattle.studio_io.specs.Answers.{Answer, IsWithin, Tells};
 /// The result of `Feed::next`.
 #[derive(Clone, Copy, PartialEq, Eq, Debug)]
 pub enum FeedAnswer {
-    /// The first so many octets of the buffer are a datagram.
+    /// A datagram, with this number of octets, at the start of the buffer.
     Datagram(usize),
     /// No datagram has arrived yet.
     Nothing,
-    /// The device failed. After 1,000 faults in a row, with a rest after each, the feed is not asked again.
+    /// The device failed. After 1,000 faults in a row, with a rest after each, the feed is not called again.
     Fault,
     /// No datagram will arrive any more.
     Ended,
@@ -27,7 +27,8 @@ pub trait Feed: Drop {
         ensures within { IsWithin result (length buf.old) }
         ensures tells { length buf.old ≡ 2048 → Tells (told self.old) buf.new result (told self.new) };
 
-    /// Returns true if `next` waits by itself before it returns `Nothing`. The path's worker then asks again at once.
+    /// Returns true if `next` waits by itself before it returns `Nothing`. The path's worker then calls it again at
+    /// once.
     // A rest of the worker in addition would delay the datagrams that arrive meanwhile.
     fn waits(&self) -> bool {
         false

@@ -15,12 +15,12 @@ pub struct FeedState {
     pub in_a_row: u32,
     /// The number of faults that the feed returned in all. It stays at 2^64 - 1 once it is reached.
     pub faults: u64,
-    /// True once the feed has ended: it said so, or failed 1,000 times in a row. It is not asked again.
+    /// True once the feed has ended: it said so, or failed 1,000 times in a row. It is not called again.
     pub ended: bool,
 }
 
 impl FeedState {
-    /// Returns the state of a feed that was not asked yet.
+    /// Returns the state of a feed that was not called yet.
     pub fn new() -> FeedState
         ensures { result ≡ new_state }
     {
@@ -45,7 +45,7 @@ impl FeedState {
         }
     }
 
-    /// Notes a fault. The last of so many in a row that end a feed is not counted in `in_a_row`.
+    /// Notes a fault. The 1,000th in a row, which ends the feed, is not counted in `in_a_row`.
     fn note_fault(&mut self)
         ensures noted { NotesFault self.old self.new }
         ensures faults { self.old.faults + 1 < 2 ^ 64 → self.new.faults ≡ self.old.faults + 1 }

@@ -126,11 +126,11 @@ impl GainAction {
         }
     }
 
-    /// Writes to `gains` the gains that a request asks for, where `in_force` has those in force at its time: all gains
-    /// of the buffer, those in force but for one, or those in force.
+    /// Writes to `gains` the gains that a request asks for, if `in_force` is the matrix in force at its time: all gains
+    /// of the buffer, those in force with one replaced, or those in force.
     ///
-    /// The only error is `ChangeFault::Shape`, and it changes nothing: the input or the output is not one of the
-    /// matrix, or the buffer has not a place for each gain.
+    /// The only error is `ChangeFault::Shape`, and it changes nothing: the matrix does not have the input or the
+    /// output, or the buffer does not have a place for each gain.
     pub fn write_gains(&self, in_force: &Matrix, gains: &mut [i32]) -> Result<(), ChangeFault>
         ensures written { OnOk result (gains.new ≡ wanted_gains self.now in_force.now gains.old) }
         ensures fine { OnOk result (fits_request self.now in_force.now gains.old ≡ true) }
@@ -150,7 +150,7 @@ impl GainAction {
     }
 }
 
-/// Writes to `gains` the gains of a matrix, but for one.
+/// Writes to `gains` the gains of a matrix, with one of them replaced.
 fn write_one(
     matrix: &Matrix,
     output: usize,
@@ -177,7 +177,7 @@ fn write_one(
 
 /// Writes to `gains` the gains of a matrix, row by row.
 ///
-/// The only error is `ChangeFault::Shape`, and it changes nothing: `gains` has not a place for each of them.
+/// The only error is `ChangeFault::Shape`, and it changes nothing: `gains` does not have a place for each of them.
 pub fn copy_gains(matrix: &Matrix, gains: &mut [i32]) -> Result<(), ChangeFault>
     ensures written { OnOk result (gains.new ≡ gains_in matrix.now) }
     ensures len { OnOk result (length gains.new ≡ length matrix.now * ins_of matrix.now) }

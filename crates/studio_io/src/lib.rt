@@ -10,7 +10,7 @@
 //!
 //! The run returns a `WorkReport`, or the `WorkFault` for which it did not begin.
 //!
-//! A feed or a clock may state what it will return, and a sink what it was given. The contracts of a
+//! A feed or a clock may state what it will return, and a sink what it was passed. The contracts of a
 //! run are about feeds, clocks and sinks that do so. `MemoryFeed`, `MemoryClock` and `MemorySink` do.
 #![tactic(auto)]
 
