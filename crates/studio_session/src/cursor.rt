@@ -424,7 +424,7 @@ fn reading_of(merge: &Merge<SlotWindow>, now: i64) -> Option<i64>
     ensures can { CanReach merge.now (goal.goal_of result) }
     ensures some { clock_fault_of merge.now.time merge.now.closed now ≡ None → result ≡ Some now }
 {
-    // A merge may be asked only for marks up to a reading that it can reach, so a refused one is dropped.
+    // A merge returns marks only up to a clock reading that it can reach, so a reading that it refuses is dropped.
     match merge.goal(now) {
         Ok(_) => Some(now),
         Err(_) => None,

@@ -29,10 +29,10 @@ pub enum StudioFault {
     /// A clock reading goes back, is past 2^60 sampling instants, or comes after a close.
     #[error("event {0}: clock")]
     Clock(usize),
-    /// A datagram is for a stream that the studio lacks.
+    /// A datagram is for a stream that the studio does not have.
     #[error("event {0}: stream")]
     Stream(usize),
-    /// A datagram came in on a path that its stream lacks.
+    /// A datagram came in on a path that its stream does not have.
     #[error("event {0}: path")]
     Path(usize),
     /// An allocation failed.
@@ -124,7 +124,7 @@ fn event_fault(
     }
 }
 
-/// Returns the fault of a path, if its stream lacks it.
+/// Returns the fault of a path, if its stream does not have it.
 fn path_fault(place: usize, stream: &StreamSpec, path: Path) -> Option<StudioFault>
     ensures { result ≡ spec.path_fault place (Some stream.now) path }
 {

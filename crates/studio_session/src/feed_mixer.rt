@@ -52,7 +52,7 @@ pub fn pull_marks(mixer: &mut Mixer, stream: usize, cursor: &mut Cursor) -> bool
 {
     // The label names the loop in its proof.
     'marks: loop {
-        // The mixer is asked before each mark, so that a lane never holds more than a block and a packet.
+        // `wants` is tested before each mark, so that a lane never holds more than a block and a packet.
         if !mixer.wants(stream) {
             return false;
         }

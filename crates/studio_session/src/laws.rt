@@ -6,9 +6,9 @@ ghost use Rattle.studio_session.specs.Fault.{session_fault_of};
 ghost use Rattle.studio_session.specs.Play.{IsRunnableBy};
 ghost use Rattle.studio_session.specs.Pruned.{IsSameRun, pruned_events};
 
-/// States that a clock reading which another one follows directly may be left out, and so may all such readings. If
-/// events have no fault, nothing is at fault without these readings either, and the datagrams and the counts stay as
-/// they are. Marks of silence may be fewer.
+/// States that a clock reading which is directly followed by another one may be left out, and so may all such readings.
+/// If events have no fault, they have none without these readings either, and the datagrams and the counts stay the
+/// same. There may be fewer Quiets.
 pub fn readings_may_be_left_out()
     ensures one { (studio : Studio) (first rest : List TraceEvent) (a b : ℤ) → IsRunnableBy studio []
         → session_fault_of studio (first ++ Reading a ∷ Reading b ∷ rest) ≡ None

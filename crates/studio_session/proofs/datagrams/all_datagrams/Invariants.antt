@@ -5,7 +5,7 @@ use Rattle.studio_session.specs.Play.{HasPlayed, IsRunnableBy}
 use Rattle.studio_session.specs.Run.{HasGivenBlocks, blocks_left}
 use Rattle.studio_session.proofs.datagrams.all_datagrams.Given as goal
 
--- the datagrams of the blocks so far
+-- the datagrams so far are those of the first blocks
 abbrev pub invariant-rounds : goal.invariant-rounds
 invariant-rounds g l = record {
   ready : All (IsReadyFor (g.E.EventSource.events l.source)) l.session.cursors;
