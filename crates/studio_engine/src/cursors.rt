@@ -1,4 +1,4 @@
-//! The cursors of an engine's streams, of which a datagram moves its own stream's alone.
+//! The cursors of an engine's streams. A datagram moves only the cursor of its own stream.
 ghost use Rattle.std.specs.Prelude.{
   ◌≡◌,
   ℕ,
@@ -47,7 +47,7 @@ use studio_session::{ArriveOutcome, Cursor, studio_cursors};
 
 /// The cursors of an engine's streams, and the number of events that they took.
 ///
-/// A datagram moves the cursor of its own stream alone, so that it costs the same however many streams there are. The
+/// A datagram moves only the cursor of its own stream, so that it costs the same however many streams there are. The
 /// other cursors pass over it before their next step.
 #[derive(Drop)]
 pub(crate) struct Cursors {
@@ -97,8 +97,8 @@ impl Cursors {
         self.cursors.len()
     }
 
-    /// Returns a reference to the cursor of a stream, which may lack events of other streams, or `None` if there is no
-    /// such stream.
+    /// Returns a reference to the cursor of a stream, which may not have passed over other streams' events yet, or
+    /// `None` if there is no such stream.
     pub(crate) fn get(&self, stream: usize) -> Option<&Cursor>
         ensures some { IfSome result (λ cursor.
             slice_get self.now.cursors stream ≡ Some (at_place self.now.count cursor.now)) }

@@ -10,7 +10,7 @@ pub enum ArriveFault {
     /// There is no such stream.
     #[error("there is no such stream")]
     Stream,
-    /// The stream lacks the path.
+    /// The stream does not have the path.
     #[error("the stream lacks the path")]
     Path,
     /// 2^62 events were taken.

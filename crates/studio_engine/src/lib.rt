@@ -3,7 +3,7 @@
 //! Begin with `Engine`. `Engine::new` allocates; no later call does. The engine has no thread, no
 //! socket and no list of events.
 //!
-//! 1. `arrive` takes a datagram of a stream with its path, and returns what became of it.
+//! 1. `arrive` takes a datagram of a stream with its path, and returns its outcome.
 //! 2. `turn` takes a clock reading, moves all merges to it, and writes the next datagram. Call it
 //!    with the same reading until it returns `None`: until then it takes nothing else.
 //!    `next_deadline` returns the reading before which no datagram comes if nothing arrives.
