@@ -1,5 +1,6 @@
-//! The changes of gains that the lines of a text say, put into the schedule of a studio. `field` reads the fields of a
-//! line, `line` the change that it says, and `studio` all lines. `change` makes changed matrices and schedules.
+//! The changes of gains that the lines of a text specify, put into the schedule of a studio. `field` reads the fields
+//! of a line, `line` the change that it specifies, and `studio` all lines. `change` makes changed matrices and
+//! schedules.
 
 pub(crate) mod change;
 pub(crate) mod fault;

@@ -11,9 +11,9 @@
 //! - `write_mark`, `write_datagram` and the like write one line each to a `TextBuffer`, whose
 //!   `finish` writes what it still holds. `push_count` and `push_tally` add the parts of other lines.
 //!
-//! `studio_with_gains` returns the studio whose gains change as the lines of a text say, or the first fault
+//! `studio_with_gains` returns a studio whose gains change as the lines of a text say, or the first fault
 //! of the text. The studio is for a run offline, as `play` makes it: it has the streams, the output and the
-//! opening time of the one that is given, and no ports or addresses.
+//! opening time of the studio that is passed, and no ports or addresses.
 //!
 //! This crate also exports the types of a studio and of its run.
 #![tactic(auto)]

@@ -39,10 +39,10 @@ pub enum PlayFault {
     /// An allocation failed.
     #[error("out of memory")]
     Memory,
-    /// The trace is at fault.
+    /// The trace has a fault.
     #[error("{0}")]
     Trace(TraceFault),
-    /// An event of the trace is at fault.
+    /// An event of the trace has a fault.
     #[error("{0}")]
     Run(StudioFault),
     /// A write failed, or took no octet. A prefix of the text was written.
@@ -120,7 +120,7 @@ pub fn read_all<R: Read>(alloc: Global, reader: &mut R) -> Result<Vec<u8>, PlayF
     }
 }
 
-/// Returns the events of a trace, if none is at fault.
+/// Returns the events of a trace, if none of them has a fault.
 pub fn runnable_events<'a>(
     alloc: Global,
     spec: &StudioSpec,

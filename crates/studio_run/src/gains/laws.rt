@@ -13,7 +13,7 @@ pub fn a_change_is_in_force_from_its_time_on()
         → t <ℤ change.0 → matrix_at next.0 t ≡ matrix_at state.0 t }
 {}
 
-/// States that a change of one gain is that of the gain from its input to its output, and of no other.
+/// States that a change of one gain changes the gain from its input to its output, and no other.
 pub fn one_gain_changes_alone()
     ensures gain { (rows : List (List ℤ)) (output input : ℕ) (gain : ℤ) → output < length rows
         → input < length (slice_index_or rows output [])

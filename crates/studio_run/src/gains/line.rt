@@ -1,4 +1,4 @@
-//! The change of gains that a line says.
+//! The change of gains that a line specifies.
 ghost use Rattle.std.specs.Prelude.{◌≡◌, ◌⊎◌, ◌*◌, ◌+◌, ◌≤◌, ◌∷◌, [], true, length, Ok, Err, IfOk, IfErr};
 ghost use Rattle.gain_mix.specs.Gain.{ins_of};
 ghost use Rattle.gain_mix.specs.Matrix.{has_range};
@@ -26,7 +26,7 @@ use std::alloc::{AllocError, Global};
 /// The greatest size of a gain, 16 times the input.
 const MAX_GAIN: u64 = 1_048_576;
 
-/// Returns the change that a line says: its time, and the gains from then on.
+/// Returns the change that a line specifies: its time, and the gains from then on.
 pub(crate) fn read_change(
     alloc: Global,
     schedule: &Schedule,
@@ -41,7 +41,7 @@ pub(crate) fn read_change(
     read_fields(alloc, schedule, word, fields)
 }
 
-/// Returns the change that a word and the fields after it say.
+/// Returns the change that a word and the fields after it specify.
 fn read_fields(
     alloc: Global,
     schedule: &Schedule,
@@ -110,7 +110,7 @@ fn gain_count(schedule: &Schedule) -> usize
     first.gains().len()
 }
 
-/// Returns the change that the numbers after the word `gain` say.
+/// Returns the change that the numbers after the word `gain` specify.
 fn change_of_one(
     alloc: Global,
     schedule: &Schedule,
@@ -160,7 +160,7 @@ fn one_change(
     }
 }
 
-/// Returns the change that the numbers after the word `gains` say.
+/// Returns the change that the numbers after the word `gains` specify.
 fn change_of_all(
     alloc: Global,
     schedule: &Schedule,

@@ -53,8 +53,8 @@ pub(crate) const OUT_OF_MEMORY: TraceFault = TraceFault {
     kind: TraceFaultKind::Memory,
 };
 
-/// Reads the first line of a text that comes after `events` events: returns the event that it gives, if one, and the
-/// text after it.
+/// Reads the first line of a text that comes after `events` events: returns the event of the line, if it has one, and
+/// the text after it.
 pub(crate) fn read_line<'a>(
     text: &'a [u8],
     events: usize,

@@ -117,7 +117,7 @@ fn read_any(line: &[u8]) -> Result<Option<LineEvent<'_>>, TraceFaultKind>
     }
 }
 
-/// Returns the event that a word and the fields after it say.
+/// Returns the event that a word and the fields after it specify.
 fn read_fields<'a>(word: &[u8], rest: Option<&'a [u8]>) -> Result<LineEvent<'a>, TraceFaultKind>
     ensures said { fields_said (word.now ∷ fields_after rest.entry) ≡ event_of result }
     ensures last { IfOk result (IsLastIn rest.entry) }
