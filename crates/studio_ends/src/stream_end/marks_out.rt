@@ -99,7 +99,7 @@ pub(crate) fn push_marks(
 {
     let mut count = 0;
     while count < BATCH {
-        // Tested before the merge is asked: a mark is passed only once a place is free for it, so none is lost.
+        // Tested before the merge is called: a mark is passed only once a place is free for it, so none is lost.
         if marks.is_full() {
             return (count, StopReason::NoRoom);
         }
