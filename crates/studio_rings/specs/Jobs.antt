@@ -1,4 +1,4 @@
--- How the ends, the feeds and the clocks of a studio are divided among its workers.
+-- The division of the ends, the feeds and the clocks of a studio among its workers.
 use Rattle.std.specs.Prelude.{◌≡◌, ◌≤◌, List, [], ◌∷◌, ◌++◌, length, map, vec_len, vec_capacity}
 use Rattle.studio_ends.specs.declared.path_end.PathEnd.{PathEnd}
 use Rattle.studio_ends.specs.declared.stream_end.StreamEnd.{StreamEnd}

@@ -16,8 +16,8 @@ use studio_io::{GainAnswer, GainRequest, GainSource, MAX_REQUESTS, copy_gains};
 /// a time is about the start of the next block.
 ///
 /// For `GainAction::SetAll`, `gains` has the gains that are asked for, row by row. Afterwards it has those in force
-/// from the time of the answer on. If the request was refused it has those at the next block's start, unless it has not
-/// a place for each gain.
+/// from the time of the answer on. If the request was refused it has those at the next block's start, unless it does
+/// not have a place for each gain.
 pub fn answer_request(end: &mut MixEnd, request: GainRequest, gains: &mut [i32]) -> GainAnswer
     ensures answer { result ≡ answer_of request end.old.mixer.schedule (next_start end.old) gains.old }
     ensures shown { AreShown result request end.old.mixer.schedule (next_start end.old) gains.old gains.new }
@@ -29,7 +29,7 @@ pub fn answer_request(end: &mut MixEnd, request: GainRequest, gains: &mut [i32])
     match try_request(end, request, next, gains) {
         Ok(answer) => answer,
         Err(fault) => {
-            // The gains of the request are not in force, and the source is shown what is.
+            // The gains of the request are not in force, so the source is shown those that are.
             let _ = copy_gains(end.gains(next), gains);
             GainAnswer::Refused(fault)
         }
