@@ -1,4 +1,4 @@
-//! The frames of one stream, laid into the frames of all.
+//! Copies the frames of one stream into the frames of all.
 ghost use Rattle.std.specs.Prelude.{◌≡◌, ℕ, ◌+◌, ◌*◌, ◌<◌, ◌≤◌, ◌++◌, length, take, drop, All};
 ghost use Rattle.gain_mix.specs.Mix.{Is24Bits};
 

@@ -1,4 +1,4 @@
-//! The lanes of a studio's streams: the test that a block of all of them is final, and its values side by side.
+//! The lanes of a studio's streams: the test that a block of all of them is final, and the values of the block.
 ghost use Rattle.std.specs.Prelude.{◌≡◌, ◌+◌, ◌*◌, ◌^◌, ◌≤◌, ◌≤ℤ◌, pos, true, length, map, All, IfOk};
 ghost use Rattle.std.specs.List.{list_all, list_any};
 ghost use Rattle.rtp_wire.specs.PacketTime.{is_packet_time};
@@ -52,7 +52,7 @@ pub(crate) fn are_covered(lanes: &[Lane], end: i64) -> bool
     lanes.iter().all(|lane| lane.cover().covers(end))
 }
 
-/// Returns true if one of the lanes hasn't ended, or ends past `time`.
+/// Returns true if one of the lanes has not ended, or ends after `time`.
 pub(crate) fn reach_past(lanes: &[Lane], time: i64, end: i64) -> bool
     requires covered { list_all (λ (lane : LaneState). covers (cover_at lane) end) lanes.now ≡ true }
     requires later { time ≤ℤ end }
@@ -72,7 +72,7 @@ pub(crate) fn reach_past(lanes: &[Lane], time: i64, end: i64) -> bool
     false
 }
 
-/// Reads a block of every lane, and lays the streams' values side by side, frame by frame.
+/// Reads a block of every lane. Each frame has the values of all streams, one stream after the other.
 pub(crate) fn read_lanes(
     lanes: &mut [Lane],
     one: &mut [i32],
@@ -89,7 +89,7 @@ pub(crate) fn read_lanes(
     requires in_24_bits { All Is24Bits ins.old }
     ensures { AreRead lanes.old lanes.new ins.new frames width }
 {
-    // The values of one stream alone are already laid out as the frames of all, so they need no copy through `one`.
+    // If there is only one stream, its values are already the frames of all streams, and need no copy through `one`.
     if lanes.len() == 1 {
         lanes[0].read_block(ins);
     } else {

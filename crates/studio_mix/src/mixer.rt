@@ -71,7 +71,7 @@ pub struct Mixer {
     packer: Packer,
     /// The media time of the next block, in sampling instants.
     time: i64,
-    /// Room for one stream's block, for those of all streams side by side, and for the output's.
+    /// Room for one stream's block, for the frames of all streams, and for the output's block.
     one: Vec<i32>,
     ins: Vec<i32>,
     outs: Vec<i32>,
