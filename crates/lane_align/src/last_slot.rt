@@ -64,7 +64,7 @@ pub(crate) fn may_follow_slot(
     epoch == slot.epoch + 1 && end <= media
 }
 
-/// Returns the number of frames from one time to another, or 0 if the other isn't later.
+/// Returns the number of frames from one time to another, or 0 if the other is not later.
 pub(crate) fn frames_between(from: i64, to: i64) -> u64
     ensures { result ≡ state.frames_between from to }
 {

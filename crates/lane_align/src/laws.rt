@@ -7,8 +7,8 @@ ghost use Rattle.lane_align.specs.Value.{value_at};
 ghost use Rattle.lane_align.specs.Cover.{cover_of, covers};
 ghost use Rattle.lane_align.specs.AcceptedMarks.{accepted_marks, accepted_with};
 
-/// States that no value before the cover changes when accepted marks are added; what is covered stays so, and nothing
-/// is added after an end.
+/// States that no value before the cover changes when accepted marks are added. A time that is covered stays covered,
+/// and no mark is added after an end.
 pub fn values_before_the_cover_stay()
     ensures values { (format : PacketFormat) (came more : List MarkView) (t : ℤ) (k : ℕ)
         → covers (cover_of format (accepted_marks format came)) (t +ℤ pos 1) ≡ true
@@ -24,8 +24,8 @@ pub fn values_before_the_cover_stay()
         → is_mark_list format (marks ++ more) ≡ true → has_end marks ≡ true → more ≡ [] }
 {}
 
-/// States that accepted marks are a mark list, and of a mark list all marks are accepted. One mark more is accepted if
-/// the accepted marks stay a mark list with it.
+/// States that accepted marks are a mark list, and that all marks of a mark list are accepted. One more mark is
+/// accepted if the accepted marks stay a mark list with it.
 pub fn accepted_marks_are_a_mark_list()
     ensures listed { (format : PacketFormat) (came : List MarkView)
         → is_mark_list format (accepted_marks format came) ≡ true }
