@@ -1,4 +1,4 @@
-//! Four outputs side by side: their rows of gains and their sums.
+//! Four outputs at once: their rows of gains and their sums.
 
 /// The gains of four outputs, one for each input.
 #[derive(Clone, Copy)]

@@ -141,7 +141,7 @@ impl LiveSchedule {
             return Err(fault);
         }
         self.put(kept, at, gains);
-        // A change for now is in force at once, and takes no place.
+        // A change for the current time is in force at once, and takes no place.
         self.pass(from);
         Ok(())
     }

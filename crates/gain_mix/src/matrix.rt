@@ -9,10 +9,10 @@ use std::alloc::{AllocError, Global};
 use std::marker::Model;
 use thiserror::Error;
 
-/// The reason why gains are no matrix: the first of these that holds, in this order.
+/// The reason why gains are not a matrix: the first of these that holds, in this order.
 #[derive(Clone, Copy, Debug, PartialEq, Eq, Error)]
 pub enum MatrixFault {
-    /// The outputs are not 1 to 8, the inputs not 1 to 1,024, or the gains not their product.
+    /// There are not 1 to 8 outputs and 1 to 1,024 inputs, or not a gain for each pair of them.
     #[error("the matrix has another shape")]
     Shape,
     /// A gain is below -1,048,576 or above 1,048,576.
@@ -170,7 +170,7 @@ fn fault_of(outs: usize, ins: usize, gains: &[i32]) -> Option<MatrixFault>
     }
 }
 
-/// Returns true if the outputs are 1 to 8, the inputs 1 to 1,024, and the gains their product.
+/// Returns true if there are 1 to 8 outputs and 1 to 1,024 inputs, and a gain for each pair of them.
 fn has_shape(outs: usize, ins: usize, gains: &[i32]) -> bool
     ensures { result ≡ has_shape outs ins gains.now }
 {

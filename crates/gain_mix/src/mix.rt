@@ -8,7 +8,7 @@ ghost use Rattle.gain_mix.specs.Mix.{Is24Bits, IsWeighted, HasMixed, rounded_sum
 use crate::four_rows::{FourRows, FourSums};
 use crate::matrix::Matrix;
 
-/// Returns the sum with one input more.
+/// Returns the sum with one more input.
 #[inline(always)]
 fn add_input(sum: i64, gain: i64, value: i32) -> i64
     requires bounded { unsigned_abs sum ≤ 2 ^ 53 }
@@ -16,12 +16,12 @@ fn add_input(sum: i64, gain: i64, value: i32) -> i64
     requires in_24_bits { Is24Bits value }
     ensures { result ≡ sum +ℤ (gain *ℤ value) }
 {
-    // The cast says that both factors have 32 bits. Processors make many such products side by side, but not of
+    // The cast says that both factors have 32 bits. Processors compute many such products at once, but not products of
     // factors of 64 bits.
     sum + i64::from(gain as i32) * i64::from(value)
 }
 
-/// Returns the sum over the inputs so far, with one input more.
+/// Returns the sum over the inputs so far, with one more input.
 // A function of its own, since the four sums of `add_to_four` then cost a quarter of the proof.
 #[inline(always)]
 fn add_next(sum: i64, gains: &[i64], input: usize, values: &[i32]) -> i64
@@ -82,7 +82,7 @@ fn weigh_eight(low: &FourRows<'_>, high: &FourRows<'_>, values: &[i32]) -> (Four
     (low_sums, high_sums)
 }
 
-/// Returns the sums of four outputs with one input more.
+/// Returns the sums of four outputs with one more input.
 #[inline(always)]
 fn add_to_four(sums: FourSums, rows: &FourRows<'_>, input: usize, values: &[i32]) -> FourSums
     requires rows { AreRows (length values.now) rows.now }

@@ -35,7 +35,7 @@ pub(crate) const CHANGES: usize = 64;
 /// The greatest time of a change, 2^60 sampling instants, which is also the greatest reading of a merge's clock.
 pub(crate) const MAX_TIME: i64 = 1 << 60;
 
-/// The reason why changes are no schedule: the first of these that holds, in this order.
+/// The reason why changes are not a schedule: the first of these that holds, in this order.
 #[derive(Clone, Copy, Debug, PartialEq, Eq, Error)]
 pub enum ScheduleFault {
     /// There are more than 64 changes.
@@ -72,7 +72,7 @@ impl Model for Schedule {
 
 impl Schedule {
     /// Returns the schedule of these changes, whose times are sampling instants of the media clock, or the first
-    /// fault in them. Takes no memory.
+    /// fault in them. Does not allocate.
     pub fn new(first: Matrix, later: Vec<(i64, Matrix)>) -> Result<Schedule, ScheduleFault>
         ensures refused { IfSome (schedule_fault_of first later.items) (λ f. result ≡ Err f) }
         ensures made { IfNone (schedule_fault_of first later.items)
