@@ -8,8 +8,8 @@ ghost use Rattle.mix_packets.specs.OutSpec.{IsOutput};
 ghost use Rattle.mix_packets.specs.Block.{block_datagram, block_head};
 ghost use Rattle.mix_packets.specs.Laws.{CountsUp};
 
-/// States that datagrams are read back as their headers and blocks. Of two in a row the second goes on in sequence
-/// number and timestamp.
+/// States that datagrams are read back as their headers and blocks. Of two consecutive datagrams the second continues
+/// the sequence number and the timestamp of the first.
 pub fn datagrams_count_up()
     ensures read { (out : Output) (number : ℕ) (block : List ℤ) → IsOutput out →
         IsDatagram (block_datagram out number block) (block_head out number)

@@ -9,9 +9,9 @@ use crate::out_spec::OutSpec;
 use rtp_wire::{RtpHead, write_head, write_samples};
 use std::marker::Model;
 
-/// A writer of an output's datagrams in a row, each from one block of samples.
+/// A writer of an output's datagrams, one after another, each from one block of samples.
 ///
-/// `next` takes a block; `number` returns the number of blocks taken. No call takes memory.
+/// `next` takes a block; `number` returns the number of blocks taken. No call allocates.
 #[derive(Debug, Drop)]
 pub struct Packer {
     spec: OutSpec,
