@@ -3,7 +3,7 @@ use Rattle.std.specs.Vec.Iter.{into_iter_items, into_iter_len}
 use Rattle.studio_config.specs.Shift.{shifted_changes}
 use Rattle.studio_config.proofs.studio.shift.shifted_changes.Given as goal
 
--- the moved changes so far, and those that are left
+-- the changes that were moved so far, and those that are left once they are moved, are all moved changes
 abbrev pub invariant-loop-at : goal.invariant-loop-at
 invariant-loop-at l = shifted_changes l.by l.fn.changes.items ≡ l.later.items ++ shifted_changes l.by (into_iter_items l.rest)
 
