@@ -20,7 +20,7 @@ pub fn both_packets(alloc: Global) -> Result<Vec<Vec<u8>>, AllocError> {
     Ok(packets)
 }
 
-/// Returns a header, and after it each of these samples so many times.
+/// Returns a header, and after it each of these samples, repeated as often as the number before it says.
 pub fn datagram(
     alloc: Global,
     head: [u8; 12],

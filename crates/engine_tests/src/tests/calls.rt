@@ -23,7 +23,7 @@ const BLOCK_BY_BLOCK: [Step; 6] = [
     Step::Turn(18, Ok(None)),
 ];
 
-/// Two packets of 6 sampling instants are due at 12 and 18. Turns to 18 give both blocks, one by one, and then none.
+/// Two packets of 6 sampling instants are due at 12 and 18. Turns to 18 return both blocks, one by one, and then none.
 #[test]
 fn each_turn_gives_one_block(rt: HostRuntime) {
     play(&rt, rt.alloc(), &BLOCK_BY_BLOCK);
@@ -97,7 +97,8 @@ const REPLACED: [Step; 9] = [
     Step::Turn(18, Ok(None)),
 ];
 
-/// A change for now replaces the one that was planned, and one within a turn is in the next datagram of the same turn.
+/// A change for the current time replaces the one that was planned, and a change within a turn is in the next datagram
+/// of the same turn.
 #[test]
 fn a_gain_for_now_replaces_what_was_planned(rt: HostRuntime) {
     play(&rt, rt.alloc(), &REPLACED);
@@ -108,13 +109,14 @@ fn path(rt: &impl Abort, number: u8) -> Path {
     Path::new(number).expect(rt, "a path")
 }
 
-/// A number without a stream and a path that a stream does not have are each refused by a fault of their own.
+/// A datagram for a stream that does not exist, and one on a path that its stream does not have, are each refused by a
+/// fault of their own.
 #[test]
 fn a_wrong_place_has_a_name(rt: HostRuntime) {
     refuses_places(&rt, &mut six(&rt, rt.alloc()));
 }
 
-/// Tests that on an engine of one stream on two paths.
+/// Tests the faults of a wrong stream and a wrong path, on an engine of one stream on two paths.
 fn refuses_places(rt: &impl Abort, engine: &mut Engine) {
     let first = path(rt, 0);
     assert!(rt; engine.arrive(1, first, &[]) == Err(ArriveFault::Stream));
@@ -135,7 +137,7 @@ fn what_is_no_packet_has_a_name(rt: HostRuntime) {
     names_others(&rt, &mut six(&rt, rt.alloc()));
 }
 
-/// Tests that on an engine.
+/// Tests the outcomes and the counts of such datagrams on an engine.
 fn names_others(rt: &impl Abort, engine: &mut Engine) {
     let path = path(rt, 1);
     assert!(rt; engine.arrive(0, path, &[]) == Ok(ArriveOutcome::Bad(WireFault::Short)));
@@ -180,8 +182,8 @@ const LEFT: [Step; 10] = [
     Step::Settled(true),
 ];
 
-/// Before a close a drain gives nothing. After it the packet that is held is given, and then all is settled. A second
-/// close changes nothing.
+/// Before a close a drain returns nothing. After it the packet that is held is in the next datagram, and then the
+/// engine is settled. A second close changes nothing.
 #[test]
 fn what_is_left_comes_after_a_close(rt: HostRuntime) {
     play(&rt, rt.alloc(), &LEFT);
@@ -219,7 +221,7 @@ fn marks_are_kept_until_the_slower_stream_has_come(rt: HostRuntime) {
     keeps_marks(&rt, &mut six_and_forty_eight(&rt, rt.alloc()));
 }
 
-/// Tests that on an engine of both streams.
+/// Tests that marks are kept, on an engine of both streams.
 fn keeps_marks(rt: &impl Abort, engine: &mut Engine) {
     let path = path(rt, 0);
     assert!(rt; engine.arrive(1, path, &packet_of_48(1, 48, 4)) == TAKEN);

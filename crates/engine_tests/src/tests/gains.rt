@@ -139,7 +139,7 @@ fn one_frame_is_mixed_by_row(rt: HostRuntime) {
     );
 }
 
-/// Tests that with a matrix of two outputs and two inputs.
+/// Tests a frame of two inputs, with a matrix of two outputs and two inputs.
 fn mixes_a_frame(rt: &impl Abort, matrix: &Matrix) {
     let mut outs = [0; 2];
     // `mix_frame` requires this shape.
@@ -221,7 +221,7 @@ fn sums_of_1024_inputs_are_exact(rt: HostRuntime) {
     }
 }
 
-/// Appends a change at a time, to a matrix of so many outputs and inputs whose gains are all the same.
+/// Appends a change at a time, to a matrix of this shape, outputs and inputs, whose gains are all the same.
 fn push_change(
     rt: &impl Abort,
     later: &mut Vec<(i64, Matrix)>,
@@ -233,7 +233,7 @@ fn push_change(
     assert!(rt; later.push((time, matrix)).is_ok(), "there is memory");
 }
 
-/// Returns a matrix of so many outputs and inputs, whose gains are all the same.
+/// Returns a matrix of this shape, outputs and inputs, whose gains are all the same.
 fn even_matrix(rt: &impl Abort, alloc: Global, shape: (usize, usize), gain: i32) -> Matrix {
     let (outs, ins) = shape;
     assert!(rt; outs <= 2 && ins <= 3);
@@ -347,7 +347,7 @@ fn gains_are_in_force_from_their_time_on(rt: HostRuntime) {
     has_gains(&rt, &two_changes(&rt, rt.alloc()));
 }
 
-/// Tests the gains of that schedule.
+/// Tests the gains of a schedule with two changes, by the times of `IN_FORCE`.
 fn has_gains(rt: &impl Abort, schedule: &Schedule) {
     assert!(rt; schedule.later().len() == 2);
     for (t, gain) in &IN_FORCE {
@@ -369,7 +369,7 @@ pub(super) fn live_of(rt: &impl Abort, alloc: Global, schedule: &Schedule) -> Li
     LiveSchedule::new(alloc, schedule, 0).expect(rt, "a schedule in use")
 }
 
-/// Tests that with that schedule.
+/// Tests the samples of a span within which the gains change.
 fn changes_gains(rt: &impl Abort, schedule: &LiveSchedule) {
     let ins = [1, 2, 3, 4, 5, 6];
     let mut outs = [0; 6];
@@ -393,7 +393,7 @@ fn saturated_samples_are_counted(rt: HostRuntime) {
     counts_saturated(&rt, &live_of(&rt, rt.alloc(), &schedule));
 }
 
-/// Tests that with a schedule of gains 2 and -2.
+/// Tests the counts of saturated samples, with a schedule of gains 2 and -2.
 fn counts_saturated(rt: &impl Abort, schedule: &LiveSchedule) {
     let mut outs = [0; 8];
     // The second count begins at 5, to see that the call adds to it.

@@ -63,7 +63,7 @@ fn packets_of_6_and_48_are_added(rt: HostRuntime) {
     adds_both(&rt, &report_of(&rt, rt.alloc(), &events));
 }
 
-/// Tests that report.
+/// Tests that a report has both datagrams of the sum, and its counts.
 fn adds_both(rt: &impl Abort, report: &Report) {
     let alloc = *report.datagrams.allocator();
     assert!(rt; report.datagrams.len() == 2);
@@ -82,7 +82,7 @@ fn a_silent_stream_holds_up_no_block(rt: HostRuntime) {
     has_one_block(&rt, &report_of(&rt, rt.alloc(), &events));
 }
 
-/// Tests that report.
+/// Tests that a report has the one block that is ready, and its counts.
 fn has_one_block(rt: &impl Abort, report: &Report) {
     let alloc = *report.datagrams.allocator();
     assert!(rt; report.datagrams.len() == 1);
@@ -103,7 +103,7 @@ fn each_refused_allocation_of_a_list_is_answered(rt: HostRuntime) {
     assert!(rt; first || second, "with memory again");
 }
 
-/// Returns true if a run gave two datagrams. Returns false if an allocation failed.
+/// Returns true if a run returned two datagrams. Returns false if an allocation failed.
 fn is_run(rt: &impl Abort, alloc: Global, spec: &StudioSpec) -> bool {
     match run_studio(alloc, spec, &[StudioEvent::Tick(96), StudioEvent::Close]) {
         Ok(report) => {

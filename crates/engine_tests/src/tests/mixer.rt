@@ -71,8 +71,8 @@ const ORDERS: [[usize; 9]; 3] = [
     [0, 1, 0, 0, 0, 0, 0, 0, 0],
 ];
 
-/// A stream brings eight packets of 1000, and the other one is silent up to 48. Fed stream by stream or in turn, their
-/// marks give the same block with the last of them, and no block before it or after it.
+/// A stream brings eight packets of 1000, and the other one is silent up to 48. Whether their marks are fed stream by
+/// stream or in turn, the same block is ready with the last of them, and no block before it or after it.
 #[test]
 fn the_order_of_feeding_changes_no_block(rt: HostRuntime) {
     let spec = six_and_forty_eight(rt.alloc(), 2).expect(&rt, "there is memory");
@@ -88,7 +88,7 @@ fn the_order_of_feeding_changes_no_block(rt: HostRuntime) {
     }
 }
 
-/// Tests that with a mixer of both streams, and this order.
+/// Tests the blocks of a mixer that is fed the marks of both streams in this order.
 fn mixes_in(
     rt: &impl Abort,
     mixer: &mut Mixer,
@@ -123,7 +123,7 @@ fn without_room(rt: &impl Abort, alloc: Global, spec: &StudioSpec) -> Mixer {
     Mixer::new(alloc, spec).expect(rt, "there is memory")
 }
 
-/// Tests that a mixer with room keeps a stream's slot that is within the room, and has none for one that is beyond it.
+/// Tests that a mixer with room keeps a stream's slot that is within the room, and has no room for a slot beyond it.
 fn keeps(rt: &impl Abort, mixer: &mut Mixer, number: usize, within: &Mark, beyond: &Mark) {
     // The calls of a mixer require a number of one of its streams.
     assert!(rt; number < mixer.streams());

@@ -105,7 +105,7 @@ fn gains_move_while_a_schedule_is_in_use(rt: HostRuntime) {
     }
 }
 
-/// Tests one row of that table.
+/// Tests one row of `MOVES`.
 fn moves(rt: &impl Abort, row: &Move, live: &mut LiveSchedule) {
     assert!(rt;
         live.change(row.from, row.at, &[row.gain]) == row.result,
@@ -121,8 +121,8 @@ fn moves(rt: &impl Abort, row: &Move, live: &mut LiveSchedule) {
     }
 }
 
-/// The 65th change is refused while 64 before it are to come. One that replaces them is taken, and so is one after a
-/// change has come.
+/// The 65th change is refused while 64 changes before it are still to come. A change that replaces them is taken, and
+/// so is a change after one of them has come.
 #[test]
 fn sixty_four_changes_may_be_planned(rt: HostRuntime) {
     let mut live = live_of(&rt, rt.alloc(), &two_changes(&rt, rt.alloc()));

@@ -13,7 +13,7 @@ const TRACE: &str = "tick 0\n\
     a 0 80600002000000060000000100000700000800000900000a00000b00000c\n\
     tick 12\ntick 18\nclose\n";
 
-/// The report of that trace.
+/// The report of `TRACE`.
 const REPORT: &str = "out 806100000000000000000002000001000002000003000004000005000006\n\
     out 80610001000000060000000200000700000800000900000a00000b00000c\n\
     path 0 a offered 2 sent 2 bad 0 type 0 length 0 full 0\n\
@@ -21,7 +21,7 @@ const REPORT: &str = "out 806100000000000000000002000001000002000003000004000005
     merge 0 arrived 2 taken 2 from_a 2 from_b 0 double 0 unlike 0 off_grid 0 late 0 ahead 0 source 0 \
     got 2 lost 0 restarts 0\n";
 
-/// The listing of its marks.
+/// The listing of the marks of `TRACE`.
 const LISTING: &str = "0 slot 65537 0 got 000001000002000003000004000005000006\n\
     0 slot 65538 6 got 00000700000800000900000a00000b00000c\n\
     0 end\n";
@@ -59,7 +59,7 @@ impl Read for OctetReader<'_> {
     }
 }
 
-/// A writer that takes so many octets, and then fails. It compares what it takes with the text that it expects.
+/// A writer that takes a number of octets, and then fails. It compares what it takes with the text that it expects.
 #[derive(Drop)]
 struct ShortWriter<'a> {
     expected: &'a [u8],
@@ -140,7 +140,7 @@ fn one_stream(alloc: Global) -> Option<StudioSpec> {
     sum_from(alloc, &[spec], 6, 0)
 }
 
-/// A reader that returns one octet per call gives both texts whole.
+/// Both texts are whole if the reader returns one octet per call.
 #[test]
 fn a_trace_is_read_octet_by_octet(rt: HostRuntime) {
     let studio = one_stream(rt.alloc()).expect(&rt, "there is memory");
@@ -175,8 +175,8 @@ fn a_failed_read_writes_nothing(rt: HostRuntime) {
     }
 }
 
-/// A writer that fails after so many octets has exactly the first octets of the text, for each number of them: after
-/// ten a report is `out 806100`.
+/// A writer that fails after a number of octets has exactly the first octets of the text, for each number of them:
+/// after ten a report is `out 806100`.
 #[test]
 fn a_failed_write_leaves_the_first_octets(rt: HostRuntime) {
     let studio = one_stream(rt.alloc()).expect(&rt, "there is memory");

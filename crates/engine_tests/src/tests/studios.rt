@@ -23,7 +23,7 @@ pub fn six_and_forty_eight(rt: &impl Abort, alloc: Global) -> Engine {
     engine_of(rt, alloc, &[six, forty_eight], 48)
 }
 
-/// Returns an engine of streams that are added into packets of so many sampling instants.
+/// Returns an engine of streams that are added into packets of `block` sampling instants.
 fn engine_of(rt: &impl Abort, alloc: Global, streams: &[StreamSpec], block: u16) -> Engine {
     let spec = sum_of(alloc, streams, block).expect(rt, "there is memory");
     Engine::new(alloc, &spec).expect(rt, "there is memory")
@@ -97,15 +97,15 @@ pub fn block_of_48(block: u8, sample: u8) -> [u8; 156] {
 pub enum Step {
     /// Packet 1 or 2, at 0 or 6, arrives on a path. Its samples are all its number.
     Hand(u8, u8, Result<ArriveOutcome, ArriveFault>),
-    /// A turn to a clock reading gives this block with this sample.
+    /// A turn to a clock reading returns this block with this sample.
     Give(i64, u8, u8),
-    /// A turn to a clock reading gives no block, or is refused.
+    /// A turn to a clock reading returns no block, or is refused.
     Turn(i64, Result<Option<usize>, ClockFault>),
     /// A close, with its result.
     Close(Result<(), Unfinished>),
-    /// A drain gives this block with this sample.
+    /// A drain returns this block with this sample.
     DrainOne(u8, u8),
-    /// A drain gives nothing.
+    /// A drain returns nothing.
     DrainNone,
     /// `settled`, with its result.
     Settled(bool),
@@ -129,7 +129,7 @@ pub fn play(rt: &impl Abort, alloc: Global, steps: &[Step]) {
     }
 }
 
-/// Takes a step, and returns true if it gave the step's result.
+/// Takes a step, and returns true if its result is the expected one.
 fn gives_result(engine: &mut Engine, step: Step) -> bool {
     match step {
         Step::Hand(on, number, want) => hand(engine, on, number) == Some(want),
@@ -156,7 +156,7 @@ fn hand(engine: &mut Engine, on: u8, number: u8) -> Option<Result<ArriveOutcome,
     Some(engine.arrive(0, Path::new(on)?, &packet_of_six(number, ts, number)))
 }
 
-/// Returns true if a turn gives this datagram.
+/// Returns true if a turn returns this datagram.
 pub fn gives(engine: &mut Engine, now: i64, want: &[u8]) -> bool {
     let mut out = [0u8; MAX_OCTETS];
     // Called for its clause: a datagram has at most `MAX_OCTETS` octets, so `out` has room.
@@ -172,7 +172,7 @@ pub fn answers(engine: &mut Engine, now: i64, want: Result<Option<usize>, ClockF
     engine.turn(now, &mut out) == want
 }
 
-/// Returns true if a drain gives a datagram of this length and these octets, or none if there is no length.
+/// Returns true if a drain returns a datagram of this length and these octets, or none if there is no length.
 fn drains(engine: &mut Engine, len: Option<usize>, want: &[u8]) -> bool {
     let mut out = [0u8; MAX_OCTETS];
     // Called for its clause, as in `gives`.
