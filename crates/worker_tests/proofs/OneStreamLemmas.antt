@@ -1,4 +1,4 @@
--- The ends of a stream on two paths, where it is the only one.
+-- The ends of a stream on two paths, if it is the only stream.
 use Rattle.std.proofs.Common.{◌≡◌, ℕ, zero, suc, ◌⊎◌, Vec, length-append, List, [], ◌∷◌, ◌++◌, length, get_or, ℤ, Some, unwrap_or, slice_get, refl, sym, ap, subst, ◌∙◌, arith, append-nil}
 use Rattle.rtrb.specs.Ring.{IsFinishedOf, IsPair, SameConsumer, SameProducer}
 use Rattle.rtrb.specs.Ends.{SameRing}
@@ -25,12 +25,12 @@ use Rattle.studio_ends.specs.declared.stream_end.StreamEnd.{StreamEnd}
 use Rattle.studio_ends.specs.declared.monitor_end.MonitorEnd.{MonitorEnd}
 use Rattle.studio_ends.specs.declared.mix_end.MixEnd.{MixEnd}
 
--- the other end of a ring stays that, whatever both ends do
+-- the two ends of a ring stay the ends of one ring, whatever they do
 pub pair_of : {T A P : Type 0} (p q : Producer T A P) (c d : Consumer T A P) → IsPair p c → SameProducer p q → SameConsumer c d → IsPair q d
 pair_of p q c d pair same other =
     (other.0.0 ∙ (pair.0 ∙ sym same.0.0), other.0.1 ∙ (pair.1 ∙ sym same.0.1), other.0.2 ∙ (pair.2 ∙ sym same.0.2), other.0.3 ∙ (pair.3 ∙ sym same.0.3))
 
--- the token of a ring's end, of which the other end is this one
+-- the token of a ring's producer is one for its consumer
 pub token_of : {T A P : Type 0} (p : Producer T A P) (done : Finished T A P) (c : Consumer T A P) → IsPair p c → SameRing p.end done.end → IsFinishedOf done c
 token_of p done c pair f = (pair.0 ∙ sym f.0, pair.1 ∙ sym f.1, pair.2 ∙ sym f.2, pair.3 ∙ sym f.3)
 
@@ -40,7 +40,7 @@ self_producer p = ((refl, refl, refl, refl), refl)
 pub self_consumer : {T A P : Type 0} (c : Consumer T A P) → SameConsumer c c
 self_consumer c = ((refl, refl, refl, refl), refl)
 
--- the ring's end at a place is the other end of this one, and stays it where the rings are the same
+-- if a path's end is the producer of the ring at a place, it stays so while the rings are the same
 pub path_paired : (p : PathEnd) (olds news : List (TokenConsumer Packet)) (place : ℕ) → AreSameRings olds news
     → ((side : TokenConsumer Packet) → slice_get olds place ≡ Some side → IsPair p.ring side.ring)
     → (side : TokenConsumer Packet) → slice_get news place ≡ Some side → IsPair p.ring side.ring
@@ -58,7 +58,7 @@ same_count [] (n ∷ ns) same = absurd same
 same_count (o ∷ os) [] same = absurd same
 same_count (o ∷ os) (n ∷ ns) same = ap suc (same_count os ns same.1)
 
--- rings of which marks were taken are the same
+-- rings from which marks were taken are the same rings
 pub some_same : (olds news : List (TokenConsumer MarkView)) → AllTakeSome olds news → AreSameRings olds news
 some_same [] [] h = tt
 some_same [] (n ∷ ns) h = absurd h
@@ -82,7 +82,7 @@ marks_count [] (n ∷ ns) same = absurd same
 marks_count (o ∷ os) [] same = absurd same
 marks_count (o ∷ os) (n ∷ ns) same = ap suc (marks_count os ns same.1)
 
--- the ends of one stream are that after each call of one of them
+-- the ends of one stream stay the ends of one stream after each call of one of them
 pub offered : (first then second : PathEnd) (stream : StreamEnd) (mix : MixEnd) → AreOfOneStream first second stream mix → SameProducer first.ring then.ring → AreOfOneStream then second stream mix
 offered first then second stream mix h same = record {
   two = h.two;
@@ -113,7 +113,7 @@ mix_same first second stream mix then h same = record {
 pub mixed_more : (first second : PathEnd) (stream : StreamEnd) (mix then : MixEnd) → AreOfOneStream first second stream mix → AllTakeSome mix.sides.items then.sides.items → AreOfOneStream first second stream then
 mixed_more first second stream mix then h some = mix_same first second stream mix then h (some_same mix.sides.items then.sides.items some)
 
--- a token that was handed in leaves the rings the same
+-- rings whose consumer got a token are the same rings
 pub handed_same : (olds news : List (TokenConsumer Packet)) (place : ℕ) (all : List Packet) → HandsIn olds place all news → AreSameRings olds news
 handed_same [] news place all h = absurd h
 handed_same (o ∷ os) [] zero all h = absurd h
@@ -121,7 +121,7 @@ handed_same (o ∷ os) [] (suc place) all h = absurd h
 handed_same (o ∷ os) (n ∷ ns) zero all h = (subst (λ (c : Consumer Packet _ _). SameConsumer o.ring c) (sym h.0.ring) (self_consumer o.ring), subst (AreSameRings os) (sym h.1) (rings-self os))
 handed_same (o ∷ os) (n ∷ ns) (suc place) all h = (subst (λ (x : TokenConsumer Packet). SameConsumer o.ring x.ring) (sym h.0) (self_consumer o.ring), handed_same os ns place all h.1)
 
--- so do packets that were taken
+-- rings from which packets were taken are the same rings
 pub taken_same : (olds news : List (TokenConsumer Packet)) (taken : List (List Packet)) → AllTakePackets olds news taken → AreSameRings olds news
 taken_same [] [] [] h = tt
 taken_same [] [] (packets ∷ more) h = absurd h
@@ -130,7 +130,7 @@ taken_same (o ∷ os) [] taken h = absurd h
 taken_same (o ∷ os) (n ∷ ns) [] h = absurd h
 taken_same (o ∷ os) (n ∷ ns) (packets ∷ more) h = (h.0.ring, taken_same os ns more h.1)
 
--- an end that is as it was
+-- an end that did not change has the same rings
 pub same_end : (old new : StreamEnd) → new ≡ old → HasSameRings old new
 same_end old new e = subst (HasSameRings old) (sym e) (record { marks = self_producer old.marks; sides = rings-self old.sides.items })
 
@@ -210,7 +210,7 @@ only_stream open_at places (st ∷ []) paths (x ∷ []) monitors first second s 
     let two : AreTwo first second s.sides.items = two_paths st places h.0 s.sides.items first second own (subst (λ (z : StreamEnd). AllFreshPaths st places h.0 z.sides.items) is h.3.paths) in
     record { two = two.two; first_is = two.first_is; second_is = two.second_is; one = ring.one; marks = ring.marks }
 
--- what two pops, and one, take of a list of just so many
+-- what two pops take from a list of two elements, and one pop from a list of one
 module _ {A : Type 0} where
   pub two_popped : (xs ys zs : List A) (a b : A) → xs ≡ ys ++ b ∷ [] → ys ≡ zs ++ a ∷ [] → length xs ≡ 2 → xs ≡ a ∷ b ∷ []
   two_popped xs ys [] a b e f l = e ∙ ap (λ k. k ++ b ∷ []) f

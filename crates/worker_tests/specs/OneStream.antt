@@ -9,7 +9,8 @@ use Rattle.studio_ends.specs.declared.stream_end.StreamEnd.{StreamEnd}
 use Rattle.studio_ends.specs.declared.mix_end.MixEnd.{MixEnd}
 use Rattle.studio_rings.specs.Turns.{AreSameRings}
 
--- the paths' ends are those of the stream's rings, in order, and the stream's end is that of the mixer's first ring
+-- the two paths' ends are the producers of the stream's two rings, in order, and the stream's end is the producer of
+-- the mixer's only ring
 pub record AreOfOneStream (first second : PathEnd) (stream : StreamEnd) (mix : MixEnd) : Type 0 where
   pub two : length stream.sides.items ≡ 2
   pub first_is : (side : TokenConsumer Packet) → slice_get stream.sides.items 0 ≡ Some side → IsPair first.ring side.ring
@@ -17,7 +18,7 @@ pub record AreOfOneStream (first second : PathEnd) (stream : StreamEnd) (mix : M
   pub one : length mix.sides.items ≡ 1
   pub marks : (side : TokenConsumer MarkView) → slice_get mix.sides.items 0 ≡ Some side → IsPair stream.marks side.ring
 
--- a stream's end has the rings that it had, of its paths and of its marks
+-- a stream's end has the same rings as before, of its paths and of its marks
 pub record HasSameRings (old new : StreamEnd) : Type 0 where
   pub marks : SameProducer old.marks new.marks
   pub sides : AreSameRings old.sides.items new.sides.items

@@ -33,7 +33,7 @@ fn run_one<R: Wait + Abort, F: Feed, C: Clock, K: Sink, P: IdleWait>(
     (report, sink)
 }
 
-/// An address that refuses a datagram counts a fault, and the other address gets all.
+/// A datagram that one address refuses is counted as a fault of that address, and the other address gets all.
 #[test]
 fn one_thread_and_an_address_that_fails(rt: HostRuntime) {
     let alloc = rt.alloc();
@@ -62,7 +62,7 @@ fn run_failing<R: Wait + Abort>(
     report
 }
 
-/// A feed that fails is asked again, and ends, as in a run by workers.
+/// A feed that fails is called again, and ends, as in a run by workers.
 #[test]
 fn one_thread_ends_a_feed_after_1000_faults(rt: HostRuntime) {
     for failure in &FAILURES {
@@ -80,7 +80,8 @@ const A_CLOCK_BACK: Failure = Failure {
     faults: [4, 4],
 };
 
-/// It goes by the greatest answer so far, and from the opening time on: after each fault the clock is read again.
+/// The run uses the greatest clock reading so far, and at least the opening time. After each fault the clock is read
+/// again.
 #[test]
 fn one_thread_by_a_clock_that_goes_back(rt: HostRuntime) {
     let readings = [-5, 11, 5, i64::MIN, 11, 0];
@@ -109,7 +110,7 @@ fn times_until<R: Wait + Abort>(rt: &R, alloc: Global, until: i64) -> Vec<i64> {
     sink.times
 }
 
-/// Packets of 0 and 6 are due a latency of 12 later, and so is the silence behind them: no rest goes past one.
+/// Packets of 0 and 6 are due a latency of 12 later, and so is the silence after them: no rest goes past a deadline.
 #[test]
 fn one_thread_rests_to_each_deadline(rt: HostRuntime) {
     let times = times_until(&rt, rt.alloc(), 24);

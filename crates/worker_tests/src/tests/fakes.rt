@@ -8,7 +8,7 @@ use studio_engine::Engine;
 use studio_io::MemoryFeed;
 use studio_rings::{Feed, FeedAnswer, SendAnswer, Sink};
 
-/// A feed that fails so often before its first result, and so often before each later one.
+/// A feed that fails a number of times before its first result, and a number of times before each later result.
 #[derive(Drop)]
 pub(super) struct FaultyFeed<'a> {
     feed: MemoryFeed<'a>,
@@ -39,7 +39,8 @@ impl<'a> Feed for FaultyFeed<'a> {
     }
 }
 
-/// A sink that keeps its datagrams, which contracts know. Address B takes so many datagrams, and then fails.
+/// A sink that keeps its datagrams, and whose contents contracts can name. Address B takes a number of datagrams, and
+/// then fails.
 #[derive(Drop)]
 pub(super) struct FailingSink<'a, R: Abort> {
     rt: &'a R,

@@ -20,7 +20,7 @@ use studio_io::{
 use studio_rings::{run_mixer, run_workers_with_gains};
 use studio_session::ArriveOutcome;
 
-/// A request, the round in which it is made, and what comes of it. Gains are 65,536 for 1.
+/// A request, the round in which it is made, and its outcome. A gain of 65,536 leaves samples unchanged.
 struct Move {
     /// The round of the run, from 0 on.
     round: u32,
@@ -432,7 +432,8 @@ fn run_in_workers<R: Threads + Wait + Abort + Sync, G: GainSource>(
     done
 }
 
-/// Requests before the first block: a change for now, one for a time within the second block, and refused ones.
+/// Requests before the first block: a change for the current time, one for a time within the second block, and refused
+/// ones.
 #[test]
 fn one_thread_takes_changes_before_the_first_block(rt: HostRuntime) {
     let packets = two_packets(&rt, rt.alloc());
@@ -522,7 +523,7 @@ impl<'a, R: Abort> GainSource for EndlessRequests<'a, R> {
     }
 }
 
-/// A source that always has another request is asked 64 times in each of the two rounds, and the run ends.
+/// A source that always has another request is called 64 times in each of the two rounds, and the run ends.
 #[test]
 fn endless_requests_do_not_hold_up_a_run(rt: HostRuntime) {
     let packets = two_packets(&rt, rt.alloc());

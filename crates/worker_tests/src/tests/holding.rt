@@ -15,7 +15,7 @@ use studio_rings::{Clock, Feed, FeedAnswer, SendAnswer, Sink, WorkReport};
 /// The number of waits for something, a millisecond each.
 const WAITS: u32 = 20_000;
 
-/// Begins once the other feed was asked too; where it isn't, it ends at once.
+/// A feed that begins once the other feed was called too; if that does not happen, it ends at once.
 #[derive(Drop)]
 struct MeetingFeed<'a, R: Wait> {
     rt: &'a R,
@@ -63,7 +63,7 @@ fn got_two(rt: &impl Abort, report: &WorkReport) {
     assert!(rt; counts.arrived == 4 && counts.got == 2);
 }
 
-/// Feeds that each wait until the other was asked come to their end.
+/// Two feeds that each wait until the other was called come to their end.
 #[test]
 fn paths_are_read_at_the_same_time(rt: HostRuntime) {
     let alloc = rt.alloc();
@@ -82,7 +82,7 @@ fn paths_are_read_at_the_same_time(rt: HostRuntime) {
     gave_both(&rt, sink.kept());
 }
 
-/// Ends only after the first datagram was sent, or after many questions.
+/// A feed that ends only after the first datagram was sent, or after many calls.
 #[derive(Drop)]
 struct LastingFeed<'a> {
     feed: MemoryFeed<'a>,
@@ -119,7 +119,7 @@ impl<'a> Feed for LastingFeed<'a> {
     }
 }
 
-/// Counts the questions. Both packets are due once both feeds gave all.
+/// A clock that counts its calls. Both packets are due once both feeds have returned all their datagrams.
 #[derive(Drop)]
 struct CountingClock<'a> {
     asked: &'a AtomicU64,
@@ -154,7 +154,7 @@ impl<'a> Clock for CountingClock<'a> {
     }
 }
 
-/// Holds the first datagram until the clock is asked again.
+/// A sink that holds the first datagram until the clock is read again.
 #[derive(Drop)]
 struct HoldingSink<'a, R: Wait> {
     rt: &'a R,
@@ -200,7 +200,7 @@ impl<'a, R: Wait> Sink for HoldingSink<'a, R> {
     }
 }
 
-/// Feeds that end only after a datagram was sent, and a sink that holds one until a clock is asked again.
+/// Feeds that end only after a datagram was sent, and a sink that holds a datagram until a clock is read again.
 #[test]
 fn mixing_goes_on_during_reception(rt: HostRuntime) {
     let alloc = rt.alloc();
@@ -225,7 +225,7 @@ fn mixing_goes_on_during_reception(rt: HostRuntime) {
     gave_both(&rt, sink.sink.kept());
 }
 
-/// Answers only once both feeds have returned their end.
+/// A clock that returns only once both feeds have returned their end.
 #[derive(Drop)]
 struct LateClock<'a, R: Wait> {
     rt: &'a R,
@@ -248,7 +248,7 @@ impl<'a, R: Wait> Clock for LateClock<'a, R> {
     }
 }
 
-/// Runs one stream over rings of one place, whose clock answers only once both feeds have returned these packets and
+/// Runs one stream over rings of one place, whose clock returns only once both feeds have returned these packets and
 /// their end.
 fn run_late<R: Threads + Wait + Abort + Sync>(
     rt: &R,
@@ -292,7 +292,7 @@ fn three_packets(rt: &impl Abort, alloc: Global) -> [Vec<u8>; 3] {
     [FIRST, SECOND, SECOND].map(|packet| list_of(rt, alloc, packet))
 }
 
-/// Behind rings of one place that nobody empties, each packet of both feeds but the first is refused 1,001 times.
+/// If nobody empties rings of one place, each packet of both feeds but the first is refused 1,001 times.
 #[test]
 fn packets_are_refused_at_full_rings(rt: HostRuntime) {
     let packets = three_packets(&rt, rt.alloc());

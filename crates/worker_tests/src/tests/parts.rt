@@ -144,7 +144,7 @@ fn each_file_has_the_blocks_of_its_place(rt: HostRuntime) {
     has_blocks(&rt, &file, &[120], 175_728_036);
 }
 
-/// A mix whose third file cannot be created ends behind the second.
+/// A mix whose third file cannot be created ends after the second.
 #[test]
 fn a_file_that_cannot_be_created_ends_the_audio(rt: HostRuntime) {
     let (result, files, file) = written(&rt, rt.alloc(), 2);

@@ -19,8 +19,8 @@ use studio_ends::*;
 
 pub(super) const MEDIA: StreamClock = StreamClock::Media { offset: 0 };
 
-/// Returns a studio of one stream of L24 on two paths, in packets of six sampling instants, twelve later, by a clock,
-/// over a window of so many numbers. Its output is alike.
+/// Returns a studio of one stream of L24 on two paths, in packets of six sampling instants, with a latency of twelve,
+/// by a clock, with a window of `width` packets. Its output has the same format.
 pub(super) fn studio_of(
     rt: &impl Abort,
     alloc: Global,
@@ -41,7 +41,7 @@ fn studio_in(alloc: Global, clock: StreamClock, width: u16) -> Option<StudioSpec
     sum_of(alloc, &[spec], 6)
 }
 
-/// Returns the ends of a studio, over rings of so many places.
+/// Returns the ends of a studio, over rings of `ring_len` places.
 pub(super) fn open_ends(
     rt: &impl Abort,
     alloc: Global,
@@ -118,7 +118,7 @@ fn mixed(mix: &mut MixEnd, out: &mut [u8; 1452]) -> MixNote
     mix.turn(out)
 }
 
-/// Tests a turn of the mixer, which takes this many marks and gives a datagram with these samples.
+/// Tests a turn of the mixer, which takes this many marks and returns a datagram with these samples.
 fn mixes(rt: &impl Abort, mix: &mut MixEnd, taken: u32, samples: &[u8])
     ensures { AllTakeSome mix.old.sides.items mix.new.sides.items }
 {
@@ -134,13 +134,14 @@ fn mixes(rt: &impl Abort, mix: &mut MixEnd, taken: u32, samples: &[u8])
 enum Step {
     /// A packet is offered on the first path.
     Send(&'static [u8; 30], Offer),
-    /// A turn at a reading: what it took of both paths, handed on and reached, and why it stopped.
+    /// A turn at a clock reading: what it took of both paths, the marks that it sent, the time that it reached, and why
+    /// it stopped.
     Turn(i64, (u32, u32, u32, i64, StopReason)),
     /// A turn at a reading that went back.
     Refuse(i64),
     /// A turn of the mixer: how many marks it takes, and the packet whose samples its datagram has.
     Mix(u32, &'static [u8; 30]),
-    /// A drain before the close, which gives nothing.
+    /// A drain before the close, which returns nothing.
     DrainNone,
     /// A close, which finds paths open.
     Close([bool; 4]),
@@ -198,7 +199,7 @@ fn reads(stream: &mut StreamEnd, now: i64) -> Option<StopReason>
     }
 }
 
-/// Returns true if a drain has given all marks that are left.
+/// Returns true if a drain has sent all marks that are left.
 #[tactic(auto, using(crate::proofs::OneStreamLemmas::drained_same))]
 fn drains(stream: &mut StreamEnd) -> bool
     ensures { HasSameRings stream.old stream.new }
@@ -269,7 +270,7 @@ fn counts_reach_the_monitor(rt: HostRuntime) {
     play(&rt, &mut ends, &SHOWN);
 }
 
-/// Tests a turn of the mixer that gives this datagram.
+/// Tests a turn of the mixer that returns this datagram.
 fn gives(rt: &impl Abort, mix: &mut MixEnd, datagram: &[u8]) {
     let mut out = [0u8; 1452];
     let note = mixed(mix, &mut out);
@@ -277,7 +278,7 @@ fn gives(rt: &impl Abort, mix: &mut MixEnd, datagram: &[u8]) {
     assert!(rt; out.starts_with(datagram), "the datagram of the block");
 }
 
-/// Tests a turn of the mixer that takes this many marks and gives none.
+/// Tests a turn of the mixer that takes this many marks and returns no datagram.
 fn gives_none(rt: &impl Abort, mix: &mut MixEnd, taken: u32)
     ensures { AllTakeSome mix.old.sides.items mix.new.sides.items }
 {
@@ -324,7 +325,8 @@ fn gives_marks(rt: &impl Abort, stream: &mut StreamEnd) {
     assert!(rt; stream.turn(0).is_ok() && stream.turn(96).is_ok());
 }
 
-/// Lets one stream give its marks, of which the mixer takes so many and gives no datagram, and then the other stream.
+/// Lets one stream send its marks, of which the mixer takes a number and returns no datagram, and then the other
+/// stream.
 fn give_in_turn(
     rt: &impl Abort,
     early: &mut StreamEnd,
@@ -337,7 +339,7 @@ fn give_in_turn(
     gives_marks(rt, late);
 }
 
-/// Tests two streams that give their marks in this order: the first one has eight packets, the second one none. Up to
+/// Tests two streams that send their marks in this order: the first one has eight packets, the second one none. Up to
 /// 96 the first one has fifteen slots, of which the first block wants eight, and the second one is silent up to 48.
 fn mixes_in_order(rt: &impl Abort, alloc: Global, last_first: bool) {
     let TwoStreams {
@@ -361,7 +363,7 @@ fn mixes_in_order(rt: &impl Abort, alloc: Global, last_first: bool) {
     gives_none(rt, &mut mix, 7);
 }
 
-/// A stream of eight packets and a silent one, whose marks come in both orders, give the same datagram.
+/// A stream of eight packets and a silent one lead to the same datagram in whichever order their marks come.
 #[test]
 fn the_order_of_the_streams_changes_no_datagram(rt: HostRuntime) {
     mixes_in_order(&rt, rt.alloc(), false);

@@ -16,7 +16,7 @@ enum Step {
     Turn(i64),
     /// The stream's receiver has the first copies and the doubles of both paths, or nothing.
     Stream(Option<[(u64, u64); 2]>),
-    /// The mixer gives a datagram.
+    /// The mixer returns a datagram.
     Mix,
     /// A change of the gain from a time on, which is taken or not.
     Move(i64, i32, bool),
@@ -145,7 +145,7 @@ fn receivers_get_what_becomes_of_each_paths_packets(rt: HostRuntime) {
     take_all(&rt, &mut ends, &mut stats, &STEPS);
 }
 
-/// A change of gains at the mixer's end is heard from its time on.
+/// A change of gains at the mixer's end is in force from its time on.
 #[test]
 fn gains_move_at_the_mixers_end(rt: HostRuntime) {
     let (mut ends, mut stats) = open_both(&rt, rt.alloc());

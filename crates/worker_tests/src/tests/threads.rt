@@ -49,7 +49,7 @@ fn send_all(rt: &impl Wait, mut path: PathEnd) -> PathCounts {
     counts
 }
 
-/// Takes turns, up to the packets that came by both paths, until all came and all marks are handed on.
+/// Takes turns, up to the packets that came on both paths, until all came and all marks were sent.
 fn merge_all(rt: &impl Wait, mut stream: StreamEnd) -> Counts {
     let parker = Parker::new();
     let last = i64::from(PACKETS) * 6;
@@ -70,7 +70,7 @@ fn merge_all(rt: &impl Wait, mut stream: StreamEnd) -> Counts {
     counts
 }
 
-/// Takes turns until so many datagrams came, each with its packet's samples.
+/// Takes turns until `blocks` datagrams came, each with its packet's samples.
 fn mix_all(rt: &(impl Wait + Abort), mut mix: MixEnd, blocks: u8) {
     let parker = Parker::new();
     for number in 0..blocks {
@@ -92,7 +92,7 @@ fn mix_all(rt: &(impl Wait + Abort), mut mix: MixEnd, blocks: u8) {
     }
 }
 
-/// Runs the four threads, over rings of so many places. The last packet's deadline is not reached.
+/// Runs the four threads, over rings of `places` places. The last packet's deadline is not reached.
 fn by_threads(rt: &(impl Threads + Wait + Abort + Sync), alloc: Global, places: usize) {
     let studio = studio_of(rt, alloc, MEDIA, 128);
     let mut ends = open_ends(rt, alloc, &studio, places);

@@ -21,7 +21,7 @@ impl Clock for TimedClock<'_> {
     }
 }
 
-/// Rests as long as it may, after which the last reading is old.
+/// Rests as long as it may, after which the last clock reading is too old.
 #[derive(Drop)]
 pub(super) struct WholeRest<'a> {
     pub(super) time: &'a AtomicI64,
@@ -35,7 +35,7 @@ impl IdleWait for WholeRest<'_> {
     }
 }
 
-/// Gives its datagrams at once, and ends at a time.
+/// A feed that returns its datagrams at once, and ends at a time.
 #[derive(Drop)]
 pub(super) struct TimedFeed<'t, 'd> {
     pub(super) time: &'t AtomicI64,

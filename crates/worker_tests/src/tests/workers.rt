@@ -40,8 +40,8 @@ pub(super) fn try_open(
     }
 }
 
-/// Runs the workers of a studio over rings of so many places. Rings that could not be allocated are a fault of memory
-/// too.
+/// Runs the workers of a studio over rings of `places` places. Rings that could not be allocated are an allocation
+/// failure too.
 pub(super) fn try_run<R: Threads + Wait + Abort + Sync, F: Feed + Send, C: Clock + Send, K: Sink>(
     rt: &R,
     alloc: Global,
@@ -79,7 +79,7 @@ pub(super) fn run<R: Threads + Wait + Abort + Sync, F: Feed + Send, C: Clock + S
     done
 }
 
-/// Runs the workers of one stream on two paths, over rings of so many places.
+/// Runs the workers of one stream on two paths, over rings of `places` places.
 pub(super) fn run_one<R: Threads + Wait + Abort + Sync, F: Feed + Send, C: Clock + Send, K: Sink>(
     rt: &R,
     alloc: Global,
@@ -118,7 +118,7 @@ pub(super) fn sends(report: &WorkReport) -> (u64, [u64; 2], [u64; 2]) {
     (report.blocks, sent, faults)
 }
 
-/// The datagrams of the two packets: the same samples behind headers of the output.
+/// The datagrams of the two packets: the same samples after headers of the output.
 const OUTPUT: [[u8; 30]; 2] = [
     [
         0x80, 0x61, 0xff, 0xff, 0, 0, 0, 0, 0, 0, 0, 2, 0, 0, 1, 0, 0, 2, 0, 0, 3, 0, 0, 4, 0, 0,
@@ -143,7 +143,7 @@ pub(super) fn two_packets(rt: &impl Abort, alloc: Global) -> [Vec<u8>; 2] {
     [list_of(rt, alloc, FIRST), list_of(rt, alloc, SECOND)]
 }
 
-/// Runs both packets on both paths, by a clock with these readings, over rings of so many places.
+/// Runs both packets on both paths, by a clock with these readings, over rings of `places` places.
 fn run_alike<R: Threads + Wait + Abort + Sync, K: Sink>(
     rt: &R,
     alloc: Global,
@@ -294,7 +294,7 @@ fn two_streams_by_workers(rt: HostRuntime) {
     are_the_sums(&rt, alloc, sink.kept());
 }
 
-/// An address that always fails counts a fault for each datagram, and the other address gets all.
+/// Each datagram that one address refuses is counted as a fault of that address, and the other address gets all.
 #[test]
 fn an_address_that_always_fails(rt: HostRuntime) {
     for places in PLACES {
@@ -306,10 +306,10 @@ fn an_address_that_always_fails(rt: HostRuntime) {
     }
 }
 
-/// The numbers of faults of a feed: before its first answer, and before each later one.
+/// The numbers of faults of a feed: before its first result, and before each later one.
 pub(super) type Failing = (u32, u32);
 
-/// Runs one stream whose feeds fail: each so often before its first answer, and so often before each later one.
+/// Runs one stream whose feeds fail, each a number of times before its first result and before each later one.
 fn run_failing<R: Threads + Wait + Abort + Sync>(
     rt: &R,
     alloc: Global,
@@ -385,7 +385,7 @@ pub(super) fn has_failed(rt: &impl Abort, report: &WorkReport, failure: &Failure
     );
 }
 
-/// A feed that fails is asked again, up to 999 times in a row; after 1,000 its path has ended.
+/// A feed that fails is called again, up to 999 times in a row; after 1,000 faults in a row its path has ended.
 #[test]
 fn a_feed_ends_after_1000_faults(rt: HostRuntime) {
     for failure in &FAILURES {
