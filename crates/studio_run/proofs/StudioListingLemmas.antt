@@ -37,7 +37,7 @@ lines_more number k marks mark is =
 lines_all : (number k : ℕ) (marks : List MarkView) → marks_text number marks ≡ marks_text number (take k marks) ++ marks_text number (drop k marks)
 lines_all number k marks = ap (marks_text number) (sym (take-append-drop k marks)) ∙ marks_text-append number (take k marks) (drop k marks)
 
--- one mark more was written
+-- one more mark was written
 listed_more : (stream : Stream) (number : ℕ) (open_at : ℤ) (events : List TraceEvent) (a b c : Option (List ℕ)) (h i j : List ℕ) (old new : CursorState) (mark : MarkView) (named : ℕ)
     → (l : HasListed stream number open_at events a h old b i) → mark ∷ [] ≡ take 1 (drop l.given (stream_marks stream number open_at events))
     → HasPulled stream number open_at events new (l.given + 1) → named ≡ number → PassesOn b i c j (mark_line named mark.kind)

@@ -14,7 +14,7 @@ event_at text (Arrive stream path start end) = Arrival stream path (octets_by (s
 event_at text (Tick time) = Reading time
 event_at text Close = Closing
 
--- the place is one of the text, and its digits spell a datagram, of no more than a line
+-- the place is within the text, and its digits, at most 4,096, spell a datagram
 abbrev pub IsPlace : List ℕ → TextEvent → Type 0
 IsPlace text (Arrive stream path start end) = (start ≤ end) × (end ≤ length text) × (end ≤ start + 4096) × IsSome (octets_of (slice_range text start end))
 IsPlace text (Tick time) = Unit {0}

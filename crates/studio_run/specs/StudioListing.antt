@@ -7,8 +7,8 @@ use Rattle.studio_session.specs.Play.{stream_marks}
 use Rattle.studio_run.specs.Buffer.{PassesOn}
 use Rattle.studio_run.specs.Text.{marks_text}
 
--- a stream's cursor returned the first marks of the stream, and their lines were written after the octets that the
--- buffer held
+-- a stream's cursor returned the first marks of the stream, and their lines were added after the octets that the buffer
+-- held
 pub record HasListed (stream : Stream) (number : ℕ) (open_at : ℤ) (events : List TraceEvent) (written : Option (List ℕ)) (held : List ℕ) (cursor : CursorState) (written_then : Option (List ℕ)) (held_then : List ℕ) : Type 0 where
   pub given : ℕ
   pub pulled : HasPulled stream number open_at events cursor given

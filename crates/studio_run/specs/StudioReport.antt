@@ -28,20 +28,20 @@ pub record IsReport (studio : Studio) (events : List TraceEvent) (text : List �
   pub ready : AreDatagrams studio events datagrams
   pub whole : text ≡ datagrams_text datagrams ++ counts_text_of studio events
 
--- the lines of the datagrams of the blocks so far were written after the octets that the buffer held
+-- the lines of the datagrams of the blocks so far were added after the octets that the buffer held
 pub record IsReporting (studio : Studio) (events : List TraceEvent) (written : Option (List ℕ)) (held : List ℕ) (session : SessionState) (written_then : Option (List ℕ)) (held_then : List ℕ) : Type 0 where
   pub datagrams : List (List ℕ)
   pub given : HasGivenBlocks studio events session datagrams
   pub wrote : PassesOn written held written_then held_then (datagrams_text datagrams)
 
--- the lines of the datagrams of all ready blocks were written after the octets that the buffer held
+-- the lines of the datagrams of all ready blocks were added after the octets that the buffer held
 pub record HasReported (studio : Studio) (events : List TraceEvent) (written : Option (List ℕ)) (held : List ℕ) (session : SessionState) (written_then : Option (List ℕ)) (held_then : List ℕ) : Type 0 where
   pub datagrams : List (List ℕ)
   pub ready : AreDatagrams studio events datagrams
   pub played : HasPlayed studio events session (length datagrams)
   pub wrote : PassesOn written held written_then held_then (datagrams_text datagrams)
 
--- a report was written after the octets that the buffer held
+-- a report was added after the octets that the buffer held
 pub record WritesReport (studio : Studio) (events : List TraceEvent) (written : Option (List ℕ)) (held : List ℕ) (written_then : Option (List ℕ)) (held_then : List ℕ) : Type 0 where
   pub report : List ℕ
   pub is : IsReport studio events report

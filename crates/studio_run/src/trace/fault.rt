@@ -27,7 +27,7 @@ pub enum TraceFaultKind {
     /// A time or a stream is no decimal number, or is out of range.
     #[error("number")]
     Number,
-    /// A datagram is no hexadecimal text of one octet or more.
+    /// A datagram is not a hexadecimal text of at least one octet.
     #[error("hex")]
     Hex,
     /// The line has event 1,000,001; or, at line 0, the whole text has more than 67,108,864 octets.
