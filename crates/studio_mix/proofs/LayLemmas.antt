@@ -53,7 +53,7 @@ laid_more n w at c i values old wide ys h within len len_v e before =
 pub All-put_mid : (P : ℤ → Type 0) (a k : ℕ) (xs ys : List ℤ) → All P xs → All P ys → All P (put_mid a k xs ys)
 All-put_mid P a k xs ys h g = All-append P (take a xs) _ (All-take P a xs h) (All-append P ys _ g (All-drop P k (drop a xs) (All-drop P a xs h)))
 
--- one more part was put in place, whose length is an equal number
+-- one more part was put in place, by a length `k` that equals `c`
 pub laid_part : (n w at c i k : ℕ) (values old wide ys : List ℤ) → k ≡ c → i < n → at + c ≤ w → length wide ≡ n * w → length values ≡ n * c
     → ys ≡ take c (drop (i * c) values) → IsLaid w at c values old wide i
     → IsLaid w at c values old (put_mid (i * w + at) k wide ys) (i + 1)
