@@ -58,7 +58,7 @@ AllTakeSome (old ∷ olds) (new ∷ news) = TakesSome old new × AllTakeSome old
 AllTakeSome [] (new ∷ news) = ⊥
 AllTakeSome (old ∷ olds) [] = ⊥
 
--- of each stream 64 marks were taken, or none is known to be left, or its accepted marks cover this time
+-- of each stream 64 marks were taken, or none is known to be left, or its accepted marks cover all times before `end`
 abbrev pub AllStopTaking : List Stream → ℤ → List (TokenConsumer MarkView) → List (TokenConsumer MarkView) → Type 0
 AllStopTaking [] end olds news = Unit {0}
 AllStopTaking (stream ∷ streams) end [] news = Unit {0}

@@ -26,7 +26,7 @@ arrivals_from stream path (packets ∷ more) = arrivals_by path (fitting stream 
 abbrev pub turn_events : Stream → List (List Packet) → ℤ → List Event
 turn_events stream taken reached = arrivals_from stream 0 taken ++ Tick reached ∷ []
 
--- these packets were taken from a ring: 64, or fewer and all that were known to be in it
+-- these packets were taken from a ring: at most 64, and, if fewer, all that were known to be in it
 pub record TakesPackets (old new : TokenConsumer Packet) (packets : List Packet) : Type 0 where
   pub ring : SameConsumer old.ring new.ring
   pub done : new.done ≡ old.done
