@@ -19,10 +19,10 @@ use Rattle.studio_rings.specs.ClockTurns.{GoByClock, events_in}
 use Rattle.studio_io.specs.Sinks.{Hands}
 use Rattle.studio_io.specs.declared.report.WorkReport.{WorkReport}
 
--- the arrivals on a path were all sent by its worker. If the results of its feed are known to the end, they are packets
--- of the feed's datagrams, in order, each at most once. All of them arrived if at most 1,000 offers found the ring
--- full. For each packet that is missing, 1,001 offers found the ring full. Each datagram that is not a packet of the
--- stream was counted once. There were at most 1,001 offers for each datagram
+-- a path has as many arrivals as packets that were counted as sent. If the results of its feed are known to the end,
+-- these are packets of the feed's datagrams, in order, each at most once. All of them arrived if at most 1,000 offers
+-- found the ring full. For each packet that is missing, 1,001 offers found the ring full. Each datagram that is not a
+-- packet of the stream was counted once. There were at most 1,001 offers for each datagram
 pub record HasPathHistory (stream : Stream) (path : ℕ) (told : List Answer) (counts : PathCounts) (events : List Event) : Type 0 where
   pub sent : counts.sent ≡ length (packets_by path events)
   pub some : reaches_end 0 told ≡ true → IsPartOf (packets_by path events) (told_packets stream 0 told)

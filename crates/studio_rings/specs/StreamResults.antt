@@ -22,6 +22,6 @@ dones_in results = map (λ (result : StreamResult). result.done) results
 abbrev pub counts_in : List StreamResult → List StreamCounts
 counts_in results = map (λ (result : StreamResult). result.counts) results
 
--- how many feeds have their number of faults in the results
+-- the number of feeds whose faults are counted in the results
 abbrev pub fault_numbers : List StreamResult → ℕ
 fault_numbers results = sum_by (λ (result : StreamResult). vec_len result.faults) results
