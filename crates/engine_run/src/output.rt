@@ -34,7 +34,7 @@ pub(crate) fn send_due<K: Sink>(
         → engine.new.time ≡ now) }
 {
     let mut out = [0u8; MAX_OUTPUT_OCTETS];
-    // Called for its contract: a datagram has at most so many octets, so it fits `out`.
+    // Called for its contract: a datagram has at most `MAX_OUTPUT_OCTETS` octets, so it fits `out`.
     let _short = engine.output().datagram_len();
     while let Some(len) = engine.turn(now, &mut out)? {
         let answer = sink.send(&out[..len]);
@@ -52,7 +52,7 @@ pub(crate) fn send_rest<K: Sink>(engine: &mut Engine, sink: &mut K, counts: &mut
     ensures settled { engine.new.settled ≡ engine.old.closed }
 {
     let mut out = [0u8; MAX_OUTPUT_OCTETS];
-    // Called for its contract: a datagram has at most so many octets, so it fits `out`.
+    // Called for its contract: a datagram has at most `MAX_OUTPUT_OCTETS` octets, so it fits `out`.
     let _short = engine.output().datagram_len();
     while let Some(len) = engine.drain(&mut out) {
         let answer = sink.send(&out[..len]);
