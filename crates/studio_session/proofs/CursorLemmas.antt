@@ -109,7 +109,7 @@ due_on_way stream number open_at events k x new u mark reading pulled after went
   stands = subst (λ r. IsOnWay stream open_at new r (stream_history stream number (take x.place events)) (k + length (option_to_list mark))) (sym after) went.stands;
 }
 
--- a mark that is left after a close is the next mark of the events that were taken
+-- a mark that a drain of the merge returned is the next mark of the events that were taken
 pub due_left : (stream : Stream) (number : ℕ) (open_at : ℤ) (events : List TraceEvent) (k : ℕ) (x : CursorState) (new : MergeState) (mark : Option MarkView) (reading : Option ℤ)
     → HasPulled stream number open_at events x k → x.reading ≡ None → reading ≡ None
     → ((h : List Event) → HasHistory stream open_at x.merge h k → Drains stream open_at new h k mark)

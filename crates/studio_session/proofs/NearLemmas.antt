@@ -81,7 +81,7 @@ module _ (stream : Stream) (open_at : ℤ) where
         && (is_astray (standing_after stream anchor (next_number stream anchor time) before path packet)
         && are_many is_astray (standings_on path after)))
 
-    -- the standings after the arrival
+    -- the standing of the arrival, if it is counted
     abbrev stands : Bool → ℤ → Anchor → List Standing → List Standing
     stands counting time anchor before =
         if is_following stream.clock && (counting && is_source_wanted stream.ssrc packet.ssrc)
