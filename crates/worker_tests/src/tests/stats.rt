@@ -138,7 +138,7 @@ fn open_both(rt: &impl Abort, alloc: Global) -> (Ends, StatsReceivers) {
     }
 }
 
-/// Two packets on the first path, of which the second path brings the later one too, and the first path once more.
+/// Two packets arrive on the first path. The second path brings the later one too, and the first path brings it again.
 #[test]
 fn receivers_get_what_becomes_of_each_paths_packets(rt: HostRuntime) {
     let (mut ends, mut stats) = open_both(&rt, rt.alloc());
