@@ -56,7 +56,7 @@ pub fails-cut : (text : List ℕ) (number : ℕ) (state : Changes × ℤ) → po
     → lines_said number (Ok state) (lines_of text) ≡ Err (fault_in number Cut)
 fails-cut text number state none some = ap (lines_said number (Ok state)) (split-None 10 text none) ∙ end_cut text number state some
 
--- nothing is left
+-- a text with nothing left changes nothing
 pub said-end : (text : List ℕ) (number : ℕ) (state : Changes × ℤ) → length text ≡ 0 → lines_said number (Ok state) (lines_of text) ≡ Ok state
 said-end [] number state none = refl
 said-end (octet ∷ octets) number state none = absurd (omega arith)
