@@ -120,7 +120,7 @@ tallies_alike format fates others long short same alike =
     ∙ ap (λ n. record (tally_of_fates others long) { got = n; lost = count_by (λ mark. is_lost mark.kind) long }) alike.got
     ∙ ap (λ n. record (tally_of_fates others long) { got = count_by (λ mark. is_got mark.kind) short; lost = n }) alike.lost
 
--- one stream
+-- the marks and counts of one stream, with a reading and without it
 module _ (studio : Studio) (first rest : List TraceEvent) (a b : ℤ) (none : session_fault_of studio (first ++ Reading a ∷ Reading b ∷ rest) ≡ None) where
   none_without : session_fault_of studio (first ++ Reading b ∷ rest) ≡ None
   none_without = fault_without studio.streams 0 studio.open_at false first rest a b none
