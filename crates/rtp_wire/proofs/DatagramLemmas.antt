@@ -51,7 +51,7 @@ pub type-octet : (marker : Bool) (pt n : ℕ) → pt < 128 → n ≡ 128 * bit m
 type-octet true pt n h e = omega arith
 type-octet false pt n h e = omega arith
 
--- the fields at their places are those of the header that stands there
+-- octets that begin with a header have its fields at their places
 pub head_at-octets_after : (first : ℕ) (head : Head) (rest : List ℕ) → FitsHeader head → head_at (octets_after first head ++ rest) ≡ head
 head_at-octets_after first head rest fits =
     let marker = marker-octet head.marker head.pt (128 * bit head.marker + head.pt) fits.pt refl in
@@ -81,7 +81,7 @@ FitsHeader-head_at d octets h = record {
   ssrc = big_endian-fits_four d 8 12 octets refl (omega arith);
 }
 
--- the octets of a header are those of its fields at their places
+-- the first twelve octets are those of the header that is read from them
 pub octets_after-head_at : (d : List ℕ) → AreOctets d → 12 ≤ length d → octets_after (slice_index d 0) (head_at d) ≡ take 12 d
 octets_after-head_at d octets h =
     let seq : List ℕ = octets_of 2 (big_endian (slice_range d 2 4)) in
@@ -150,7 +150,7 @@ none_from_IsWhole d w =
     let x = not_less (length d) (payload_start d) w.extension in
     rw (a, w.version, c, x, w.padding) refl
 
--- the extension that stands where the first octet announces it
+-- the octets between the sources and the payload are a header extension if it is announced, and none otherwise
 extension_part : (d : List ℕ) (extended : Bool) (place begin : ℕ) → AreOctets d → begin ≡ cond extended (place + 4 + 4 * word_count d place) place → begin ≤ length d
     → MatchBool extended (IsExtension (slice_range d place begin)) (slice_range d place begin ≡ [])
 extension_part d true place begin octets e h =
@@ -176,7 +176,7 @@ begins_after : (extended : Bool) (place count : ℕ) → place ≤ cond extended
 begins_after true place count = omega arith
 begins_after false place count = omega arith
 
--- the padding that stands where the first octet announces it
+-- the last octets are padding if it is announced, and none otherwise
 record PaddingPart (d : List ℕ) (padded : Bool) (begin count : ℕ) : Type 0 where
   pub room : begin + count ≤ length d
   pub part : MatchBool padded (IsPadding (drop (length d - count) d)) (drop (length d - count) d ≡ [])
@@ -211,7 +211,7 @@ padding_part d false begin count octets h e good =
 sources_before : (d : List ℕ) → sources_end d ≤ payload_start d
 sources_before d = begins_after (is_extended d) (sources_end d) (word_count d (sources_end d))
 
--- octets with no fault are the datagram of what stands at their places
+-- octets with no fault are a datagram with the header and the payload that are read from them
 pub IsDatagram-from_whole : (d : List ℕ) → AreOctets d → IsWhole d → IsDatagram d (head_at d) (payload_at d)
 IsDatagram-from_whole d octets w =
     let first : ℕ = slice_index d 0 in
@@ -246,7 +246,7 @@ IsDatagram-from_whole d octets w =
 pub IsDatagram-same : (d : List ℕ) (h h' : Head) (p p' : List ℕ) → h' ≡ h → p' ≡ p → IsDatagram d h p → IsDatagram d h' p'
 IsDatagram-same d h h' p p' e f at = subst (λ x. IsDatagram d x p') (sym e) (subst (λ x. IsDatagram d h x) (sym f) at)
 
--- the number of words in an extension, read where it stands
+-- the number of words in an extension, read at its place
 regroup : (a p o w r : List ℕ) → (a ++ ((p ++ o) ++ w)) ++ r ≡ ((a ++ p) ++ o) ++ (w ++ r)
 regroup a p o w r = simp append_assoc
 
@@ -273,7 +273,7 @@ begin_after d front extension rest false place e at part =
     let none : length extension ≡ 0 = ap length part in
     omega arith
 
--- the number of octets of padding, read where it stands
+-- the number of octets of padding, read from the last of them
 count_before : (d front padding : List ℕ) (padded : Bool) → d ≡ front ++ padding → MatchBool padded (IsPadding padding) (padding ≡ [])
     → cond padded (slice_index d (length d - 1)) 0 ≡ length padding
 count_before d front padding true e part =

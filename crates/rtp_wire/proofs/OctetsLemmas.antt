@@ -68,11 +68,11 @@ octets_of-first_four ys octets h =
     octets_of-four (get_or ys 0 0) (get_or ys 1 0) (get_or ys 2 0) (get_or ys 3 0) (big_number 4 ys) (octets 0) (octets 1) (octets 2) (octets 3) (omega arith)
     ∙ sym (ap (take 4) cells)
 
--- what stands behind a place are octets too
+-- what is left of octets behind a place is octets too
 pub AreOctets-drop : (xs : List ℕ) (i : ℕ) → AreOctets xs → AreOctets (drop i xs)
 AreOctets-drop xs i octets k = rw (get_or-drop i xs k 0) (octets (i + k))
 
--- the octets of the number that stands at a place are those at that place
+-- two octets of a list, read as a number and written again, are the same octets
 pub octets_of-range_two : (xs : List ℕ) (i j : ℕ) → AreOctets xs → j ≡ i + 2 → j ≤ length xs
     → octets_of 2 (big_endian (slice_range xs i j)) ≡ slice_range xs i j
 octets_of-range_two xs i j octets e h =
@@ -96,7 +96,7 @@ take-range xs i j h =
     ∙ ap (λ r. r ++ drop i (take j xs)) (sym (take-take i j xs h))
     ∙ take-append-drop i (take j xs)
 
--- the part between two places, where the list is written as what stands before, there and after
+-- the part between two places, if the list is what is before it, the part and the rest
 pub range_at : (before part rest : List ℕ) (i j : ℕ) → i ≡ length before → j ≡ i + length part → slice_range ((before ++ part) ++ rest) i j ≡ part
 range_at before part rest i j at_i at_j =
     let count : j - i ≡ length part = omega arith in

@@ -163,7 +163,7 @@ upper_24 n m d e low fits = elim (cases_lt m 8388608) [
       rw (sign, part, test) (omega (arith, ints))
 ]
 
--- a sample that is read as the upper bits of a word is the sample that stands there
+-- the upper 24 bits of a word of four octets are the sample in the first three of them
 pub word_sample : (ys : List ℕ) (r : ℤ) → AreOctets ys → 4 ≤ length ys → r ≡ to_z w32 (big_number 4 ys)
     → shr_z r 256 ≡ twos_complement 24 (big_endian (take 3 ys))
 word_sample ys r octets h e =

@@ -1,4 +1,4 @@
--- An RTP packet as it stands in a datagram (RFC 3550, 5.1 and 5.3.1).
+-- The RTP packet in a datagram (RFC 3550, 5.1 and 5.3.1).
 use Rattle.std.specs.Prelude.{◌≡◌, ◌<◌, ◌+◌, ◌-◌, ◌*◌, ◌/◌, ◌%◌, ◌^◌, ℕ, Bool, List, [], ◌∷◌, ◌++◌, length, slice_index, slice_range, MatchBool, Option, Some, None, nat_lt, nat_le, ◌==◌, not, ◌&&◌, ◌||◌, if◌then◌else◌}
 use Rattle.rtp_wire.specs.declared.datagram.RtpView.{RtpView}
 use Rattle.rtp_wire.specs.declared.fault.WireFault.{WireFault}
@@ -39,7 +39,7 @@ pub record IsDatagram (octets : List ℕ) (head : Head) (payload : List ℕ) : T
       octets_after (128 + 32 * bit padded + 16 * bit extended + source_count) head
       ++ sources ++ extension ++ payload ++ padding
 
--- what the first octet announces
+-- the version, the padding flag and the extension flag in the first octet
 abbrev pub version_of : List ℕ → ℕ
 version_of octets = slice_index octets 0 / 64
 
@@ -53,7 +53,7 @@ is_extended octets = slice_index octets 0 / 16 % 2 == 1
 abbrev pub sources_end : List ℕ → ℕ
 sources_end octets = 12 + 4 * (slice_index octets 0 % 16)
 
--- the number of words in the extension that stands at a place
+-- the number of words in the extension that begins at a place
 abbrev pub word_count : List ℕ → ℕ → ℕ
 word_count octets place = big_endian (slice_range octets (place + 2) (place + 4))
 
@@ -68,7 +68,7 @@ payload_start octets =
 abbrev pub padding_count : List ℕ → ℕ
 padding_count octets = if is_padded octets then slice_index octets (length octets - 1) else 0
 
--- the padding is announced, and its number is not there, 0, or more than what is left
+-- the padding flag is set, and nothing is left after the extension, or the last octet is 0 or more than what is left
 abbrev pub has_bad_padding : List ℕ → Bool
 has_bad_padding octets =
     is_padded octets
@@ -99,6 +99,6 @@ head_at octets = record {
 abbrev pub payload_at : List ℕ → List ℕ
 payload_at octets = slice_range octets (payload_start octets) (length octets - padding_count octets)
 
--- the header that a value of the code shows
+-- the header in a view of the code
 abbrev pub view_head : RtpView → Head
 view_head v = record { marker = v.marker; pt = v.pt; seq = v.seq; ts = v.ts; ssrc = v.ssrc }

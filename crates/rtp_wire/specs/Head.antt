@@ -22,16 +22,16 @@ pub record FitsHeader (head : Head) : Type 0 where
 abbrev pub bit : Bool → ℕ
 bit flag = if flag then 1 else 0
 
--- the twelve octets of a header, of which the first is given
+-- the twelve octets of a header that begins with this octet
 abbrev pub octets_after : ℕ → Head → List ℕ
 octets_after first head =
     (first ∷ (128 * bit head.marker + head.pt) ∷ [])
     ++ octets_of 2 head.seq ++ octets_of 4 head.ts ++ octets_of 4 head.ssrc
 
--- those of a header with no padding, no extension and no contributing source
+-- the twelve octets of a header with no padding, no extension and no contributing source
 abbrev pub head_octets : Head → List ℕ
 head_octets head = octets_after 128 head
 
--- the header that a value of the code stands for
+-- the header that a value of the code represents
 abbrev pub head_of : RtpHead → Head
 head_of h = record { marker = h.marker; pt = h.pt; seq = h.seq; ts = h.ts; ssrc = h.ssrc }

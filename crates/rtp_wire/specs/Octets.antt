@@ -11,7 +11,7 @@ abbrev pub octets_of : ℕ → ℕ → List ℕ
 octets_of zero n = []
 octets_of (suc count) n = (n / 256 ^ count % 256) ∷ octets_of count n
 
--- each number of a list is an octet's
+-- each number of a list is less than 256
 abbrev pub AreOctets : List ℕ → Type 0
 AreOctets octets = (i : ℕ) → slice_index octets i < 256
 

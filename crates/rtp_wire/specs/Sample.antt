@@ -30,7 +30,7 @@ abbrev pub Is24Bits : ℤ → Type 0
 Is24Bits (pos n) = n < 2 ^ 23
 Is24Bits (negsuc n) = n < 2 ^ 23
 
--- what a sample's octets are worth, on the scale of 24 bits
+-- the value of a sample's octets, on the scale of 24 bits
 abbrev pub sample_value : Enc → List ℕ → ℤ
 sample_value L16 octets = twos_complement 16 (big_endian octets) *ℤ pos 256
 sample_value L24 octets = twos_complement 24 (big_endian octets)
@@ -40,19 +40,19 @@ abbrev pub sample_octets : Enc → ℤ → List ℕ
 sample_octets L16 v = octets_of 2 (twos_complement_of 16 v)
 sample_octets L24 v = octets_of 3 (twos_complement_of 24 v)
 
--- the sample at an index of a payload, in which samples stand side by side
+-- the sample at an index of a payload, in which samples follow each other without gaps
 abbrev pub sample_at : Enc → List ℕ → ℕ → ℤ
 sample_at enc octets index =
     sample_value enc (take (octets_per_sample enc) (drop (octets_per_sample enc * index) octets))
 
--- how many whole samples stand in a payload
+-- the number of whole samples in a payload
 abbrev pub sample_count : Enc → List ℕ → ℕ
 sample_count enc octets = length octets / octets_per_sample enc
 
--- all of them, in order
+-- all whole samples of a payload, in order
 abbrev pub samples_of : Enc → List ℕ → List ℤ
 samples_of enc octets = map (sample_at enc octets) (range_with_len 0 (sample_count enc octets))
 
--- the octets of samples, side by side
+-- the octets of samples, one sample after the other
 abbrev pub block_octets : Enc → List ℤ → List ℕ
 block_octets enc samples = flat_map (sample_octets enc) samples

@@ -92,7 +92,7 @@ fn sample_in_word(octets: &[u8], index: usize) -> i32
     requires { 3 * (index + 1) < length octets.now }
     ensures { result ≡ sample_at L24 octets.now index }
 {
-    // The sample is the upper 24 bits of four octets: one load, where three single octets take three.
+    // The sample is the upper 24 bits of four octets, so that one load is enough instead of three.
     BigEndian::read_i32(&octets[3 * index..]) >> 8
 }
 
