@@ -9,7 +9,7 @@ use Rattle.rtp_stream.specs.History.{time_of, is_counting, at_places}
 use Rattle.rtp_stream.specs.Grid.{copies_under, first_with, in_room}
 use Rattle.rtp_stream.specs.Epochs.{anchor_of, anchors_of, last_of, room_in_force}
 
--- copies with their epoch, the anchor's
+-- these copies, each with the epoch of this anchor
 abbrev pub with_epoch : Option Anchor → List (ℕ × Packet) → List (ℕ × (ℕ × Packet))
 with_epoch None copies = []
 with_epoch (Some anchor) [] = []
@@ -29,20 +29,20 @@ copies_at stream open_at before Close = []
 unfoldable pub copies_of_all : Stream → ℤ → List Event → List (ℕ × (ℕ × Packet))
 copies_of_all stream open_at events = at_places (copies_at stream open_at) [] events
 
--- those of an epoch
+-- the copies of this epoch
 abbrev pub copies_in : ℕ → List (ℕ × (ℕ × Packet)) → List (ℕ × Packet)
 copies_in epoch [] = []
 copies_in epoch ((e, copy) ∷ copies) = if nat_eq e epoch then copy ∷ copies_in epoch copies else copies_in epoch copies
 
--- those of an anchor's epoch
+-- the copies of this anchor's epoch
 abbrev pub copies_with : Option Anchor → List (ℕ × (ℕ × Packet)) → List (ℕ × Packet)
 copies_with None copies = []
 copies_with (Some anchor) copies = copies_in anchor.epoch copies
 
--- those of the epoch in force
+-- the copies of the epoch in force
 unfoldable pub copies_of : Stream → ℤ → List Event → List (ℕ × Packet)
 copies_of stream open_at events = copies_with (anchor_of stream open_at events) (copies_of_all stream open_at events)
 
--- the first copy that came in time of a number of the epoch in force
+-- the first copy that came in time, for a number of the epoch in force
 abbrev pub first_copy : Stream → ℤ → List Event → ℕ → Option Packet
 first_copy stream open_at events number = first_with number (copies_of stream open_at events)

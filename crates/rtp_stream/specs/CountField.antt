@@ -4,7 +4,7 @@ use Rattle.rtp_stream.specs.CountsFacts.{Tally}
 use Rattle.rtp_stream.specs.declared.count_field.CountField.{CountField}
 use Rattle.rtp_stream.specs.declared.count_field.CountField.TheVariants.{Arrived, Taken, Double, Unlike, OffGrid, Late, Ahead, WrongSource, Got, Lost, Restarts}
 
--- how a number is called on the page
+-- the name of a number on the page
 abbrev pub count_key : CountField → List ℕ
 count_key Arrived = codes "arrived"
 count_key Taken = codes "taken"
@@ -18,12 +18,12 @@ count_key Got = codes "got"
 count_key Lost = codes "lost"
 count_key Restarts = codes "restarts"
 
--- how it is called in a report
+-- the name of a number in a report
 abbrev pub count_word : CountField → List ℕ
 count_word WrongSource = codes "source"
 count_word field = count_key field
 
--- what it counts
+-- the description of a number
 abbrev pub count_help : CountField → List ℕ
 count_help Arrived = codes "Packets that came to the merge."
 count_help Taken = codes "Packets that were the first copy of their number."
@@ -37,7 +37,7 @@ count_help Got = codes "Slots that were handed on with a payload."
 count_help Lost = codes "Slots that were handed on as lost."
 count_help Restarts = codes "Packets that opened a new epoch."
 
--- the number
+-- the value of a number
 abbrev pub count_value : CountField → Tally → ℕ
 count_value Arrived counts = counts.arrived
 count_value Taken counts = counts.taken

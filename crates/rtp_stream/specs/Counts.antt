@@ -15,7 +15,7 @@ use Rattle.rtp_stream.specs.declared.event.Event.TheVariants.{Arrive, Tick, Clos
 use Rattle.rtp_stream.specs.History.{is_counting, at_places}
 use Rattle.rtp_stream.specs.Fate.{fate_of}
 
--- the numbers in a Counts
+-- the numbers in a value of the code
 abbrev pub tally_of : Counts → Tally
 tally_of c = record {
   arrived = c.arrived;
@@ -32,7 +32,7 @@ tally_of c = record {
   restarts = c.restarts;
 }
 
--- after a close nothing counts, nor after 2^62 arrivals
+-- arrivals after a close are not counted, and neither are those after 2^62 arrivals
 abbrev pub is_counted_fate : Fate → Bool
 is_counted_fate Closed = false
 is_counted_fate CountersFull = false
@@ -54,7 +54,7 @@ abbrev pub is_ahead : Fate → Bool
 is_ahead Ahead = true
 is_ahead _ = false
 
--- the packet is held: it is the first copy of its number, also where it opens an epoch
+-- the packet is kept: it is the first copy of its number, or it opens an epoch
 abbrev pub is_taken_fate : Fate → Bool
 is_taken_fate Taken = true
 is_taken_fate Restarted = true
@@ -72,7 +72,7 @@ abbrev pub is_unlike : Fate → Bool
 is_unlike Unlike = true
 is_unlike _ = false
 
--- the path and the fate of an arrival that counts
+-- the path and the fate of an arrival, if it counts
 abbrev pub fates_at : Stream → ℤ → List Event → Event → List (ℕ × Fate)
 fates_at stream open_at before (Arrive path packet) = if is_counting before then (path, fate_of stream open_at before path packet) ∷ [] else []
 fates_at stream open_at before (Tick u) = []
@@ -99,11 +99,11 @@ is_lost (Slot epoch number media body) = is_lost_body body
 is_lost (Quiet until) = false
 is_lost End = false
 
--- how many arrivals have a fate that passes the test
+-- the number of arrivals whose fate passes the test
 abbrev pub fate_count : (Fate → Bool) → List (ℕ × Fate) → ℕ
 fate_count test fates = count_by (λ f. test f.1) fates
 
--- how many arrivals of a path were taken
+-- the number of arrivals on a path that were taken
 abbrev pub taken_on : List (ℕ × Fate) → ℕ → ℕ
 taken_on fates path = count_by (λ f. nat_eq f.0 path && is_taken_fate f.1) fates
 
@@ -124,6 +124,6 @@ tally_of_fates fates given = record {
   restarts = fate_count is_restarted fates;
 }
 
--- the counts of a history of which these marks were given
+-- the counts of a history that has produced these marks so far
 abbrev pub counts_of : Stream → ℤ → List Event → List MarkView → Tally
 counts_of stream open_at events given = tally_of_fates (fates_of stream open_at events) given

@@ -22,13 +22,13 @@ pub record Tally : Type 0 where
 abbrev pub empty_tally : Tally
 empty_tally = record { arrived = 0; taken = 0; taken_by = 0 ∷ 0 ∷ 0 ∷ 0 ∷ []; double = 0; unlike = 0; off_grid = 0; late = 0; ahead = 0; wrong_source = 0; got = 0; lost = 0; restarts = 0 }
 
--- one more at this place
+-- the list with one added to the number at this place
 abbrev pub increased_at : ℕ → List ℕ → List ℕ
 increased_at place [] = []
 increased_at zero (x ∷ xs) = (x + 1) ∷ xs
 increased_at (suc place) (x ∷ xs) = x ∷ increased_at place xs
 
--- with one more arrival; what comes after a close, or beyond the greatest count, isn't counted
+-- the counts after one more arrival; an arrival after a close, or beyond the greatest count, changes nothing
 abbrev pub with_fate : Tally → ℕ → Fate → Tally
 with_fate t path Closed = t
 with_fate t path CountersFull = t
@@ -41,7 +41,7 @@ with_fate t path Double = record t { arrived = t.arrived + 1; double = t.double 
 with_fate t path Unlike = record t { arrived = t.arrived + 1; unlike = t.unlike + 1 }
 with_fate t path Restarted = record t { arrived = t.arrived + 1; taken = t.taken + 1; taken_by = increased_at path t.taken_by; restarts = t.restarts + 1 }
 
--- with one more slot
+-- the counts after one more slot
 abbrev pub with_body : Tally → Body → Tally
 with_body t (Got payload) = record t { got = t.got + 1 }
 with_body t Lost = record t { lost = t.lost + 1 }

@@ -16,7 +16,8 @@ use Rattle.rtp_stream.specs.Epochs.{anchors_of}
 use Rattle.rtp_stream.specs.Marks.{body_of, marks_of, span_end}
 use Rattle.rtp_stream.specs.Laws.{names_from, numbers_from, slot_names}
 
--- the spans of these epochs: each up to the number that was due next when the following one opened, the last up to the history's end
+-- the spans of these epochs: each up to the number that was due next when the following one opened,
+-- the last one up to `span_end` of the history
 abbrev pub spans_of : Stream → ℤ → List Event → List (ℕ × Anchor) → List (ℕ × ℕ)
 spans_of stream open_at events [] = []
 spans_of stream open_at events ((place, a) ∷ []) = names_from a.epoch a.number (span_end stream open_at events a - a.number)
@@ -33,7 +34,7 @@ abbrev pub anchor_with : ℕ → List (ℕ × Anchor) → Option Anchor
 anchor_with epoch [] = None
 anchor_with epoch ((place, a) ∷ anchors) = if nat_eq a.epoch epoch then Some a else anchor_with epoch anchors
 
--- under its epoch's anchor a slot has the media time of its number, and the payload of the first copy in that epoch, or none
+-- a slot of this anchor's epoch: it has the media time of its number, and the payload of its first copy, or none
 abbrev pub IsSlotUnder : Stream → Option Anchor → List (ℕ × Packet) → ℕ → ℤ → Body → Type 0
 IsSlotUnder stream None copies number media body = ⊥
 IsSlotUnder stream (Some a) copies number media body = (media ≡ media_time_of stream a number) × (body ≡ body_of (first_with number copies))
@@ -47,7 +48,8 @@ abbrev pub AllSlotsAmong : Stream → List (ℕ × Anchor) → List (ℕ × (ℕ
 AllSlotsAmong stream anchors copies [] = Unit {0}
 AllSlotsAmong stream anchors copies (mark ∷ marks) = IsSlotAmong stream anchors copies mark.kind × AllSlotsAmong stream anchors copies marks
 
--- the epochs count up from 0; the slots are those of their spans, each once, epoch by epoch, rising, each with the first copy of its number in its epoch
+-- epochs count up from 0; the slots are those of the epochs' spans, each once, epoch by epoch, with rising numbers;
+-- each slot has the first copy of its number in its epoch
 pub record HasSpans (stream : Stream) (open_at : ℤ) (events : List Event) : Type 0 where
   pub epochs : epochs_in (anchors_of stream open_at events) ≡ numbers_from 0 (length (anchors_of stream open_at events))
   pub names : slot_names (marks_of stream open_at events) ≡ spans_of stream open_at events (anchors_of stream open_at events)

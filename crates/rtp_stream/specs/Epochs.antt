@@ -28,16 +28,17 @@ copies_under_at stream place anchor open_at before Close = []
 abbrev pub copies_since : Stream → ℤ → ℕ → Anchor → List Event → List (ℕ × Packet)
 copies_since stream open_at place anchor events = from_place (copies_under_at stream place anchor open_at) place events
 
--- no number from the one due next on has a copy: all that was held was handed on
+-- nothing is held: no number from the one due next on has a copy, so every copy was passed on
 abbrev pub is_all_given : Stream → ℤ → ℕ → Anchor → List Event → Bool
 is_all_given stream open_at place anchor events = nat_le (end_of_copies (copies_since stream open_at place anchor events)) (next_number stream anchor (time_of open_at events))
 
--- media time goes on with this packet, where the anchor is in force
+-- media time doesn't go back with this packet, if this anchor is in force
 abbrev pub continues_media_time : Stream → ℤ → Anchor → Packet → Bool
 continues_media_time stream time anchor packet =
     is_restart_in_reach stream time (media_time_of stream anchor (next_number stream anchor time)) (restart_media_time stream.clock packet.ts time (media_time_of stream anchor (next_number stream anchor time)))
 
--- the packet opens the next epoch: nothing is held, media time goes on, and it is itself the last of those that complete a probation on its path, or show that the sender is astray
+-- the packet opens the next epoch: nothing is held, media time doesn't go back, its source is wanted, and with it
+-- a probation is complete on its path or its sender is astray
 abbrev pub can_restart : Stream → ℤ → ℕ → Anchor → List Event → ℕ → Packet → Bool
 can_restart stream open_at place anchor before path packet =
     continues_media_time stream (time_of open_at before) anchor packet
@@ -45,7 +46,7 @@ can_restart stream open_at place anchor before path packet =
     && (is_source_wanted stream.ssrc packet.ssrc
     && (completes_probation stream (heard_since stream open_at place anchor (before ++ Arrive path packet ∷ []) path) || is_slip stream open_at place anchor before path packet)))
 
--- the anchor that an arrival makes, where this one is in force since its place
+-- the anchor that an arrival makes, if this anchor is in force since its place
 abbrev pub anchors_after : Stream → ℤ → Option (ℕ × Anchor) → List Event → ℕ → Packet → List Anchor
 anchors_after stream open_at None before path packet =
     if can_anchor stream (time_of open_at before) packet then anchor_from stream (time_of open_at before) packet ∷ [] else []
@@ -53,7 +54,7 @@ anchors_after stream open_at (Some (place, anchor)) before path packet =
     if can_restart stream open_at place anchor before path packet
     then restart_from stream (time_of open_at before) anchor (next_number stream anchor (time_of open_at before)) packet ∷ [] else []
 
--- each with its place
+-- the anchors, each with this place
 abbrev pub placed : ℕ → List Anchor → List (ℕ × Anchor)
 placed place [] = []
 placed place (anchor ∷ anchors) = (place, anchor) ∷ placed place anchors
@@ -69,7 +70,7 @@ anchors_from stream open_at given before [] = given
 anchors_from stream open_at given before (event ∷ events) =
     anchors_from stream open_at (given ++ anchors_at stream open_at given before event) (before ++ event ∷ []) events
 
--- the anchors of a history, each with the place of its arrival: that of epoch 0 first
+-- the anchors of a history, each with the place of its arrival; the anchor of epoch 0 is the first
 unfoldable pub anchors_of : Stream → ℤ → List Event → List (ℕ × Anchor)
 anchors_of stream open_at events = anchors_from stream open_at [] [] events
 
@@ -77,7 +78,7 @@ abbrev pub anchor_in : Option (ℕ × Anchor) → Option Anchor
 anchor_in None = None
 anchor_in (Some (place, anchor)) = Some anchor
 
--- the room after a history, where this anchor is in force since its place
+-- the room after a history, if this anchor is in force since its place
 abbrev pub room_in_force : Stream → ℤ → Option (ℕ × Anchor) → List Event → ℕ
 room_in_force stream open_at None events = stream.window
 room_in_force stream open_at (Some (place, anchor)) events = room_since stream open_at place anchor events

@@ -20,7 +20,7 @@ fate_of_put PutTaken = Taken
 fate_of_put PutDouble = Double
 fate_of_put PutUnlike = Unlike
 
--- why a packet of this media time may be no first one of an epoch: its deadline has come, or it is beyond the window
+-- the reason why a packet with this media time may not be the first of an epoch: it is late, or beyond the window
 abbrev pub reach_fault_of : Stream → ℤ → ℤ → Option Fate
 reach_fault_of stream time media =
     if int_le media (time -ℤ pos stream.latency) then Some Late
@@ -31,13 +31,13 @@ abbrev pub fault_or : Option Fate → Fate → Fate
 fault_or (Some fault) other = fault
 fault_or None other = other
 
--- of a packet that would be the first, at this time
+-- the fate of a packet that would be the first of the stream, if it arrives at this time
 abbrev pub first_fate : Stream → ℤ → Packet → Fate
 first_fate stream time packet =
     if not (is_source_wanted stream.ssrc packet.ssrc) then WrongSource
     else fault_or (reach_fault_of stream time (first_media_time stream.clock packet.ts time)) Taken
 
--- the number of which a packet is a copy in time, where this one is due next, or why it is none
+-- the number that a packet is a copy of in time, if `next` is due next, or the reason why there is none
 abbrev pub place_of : Stream → Anchor → ℕ → Packet → Result ℕ Fate
 place_of stream anchor next packet =
     if not (nat_eq packet.ssrc anchor.source) then Err WrongSource
@@ -46,21 +46,21 @@ place_of stream anchor next packet =
     else if not (nat_lt (extended_number packet next) (next + stream.window)) then Err Ahead
     else Ok (extended_number packet next)
 
--- of a packet with this place, where these are the first copies of each number
+-- the fate of a packet with this number or fault, if `first` returns the first copy of each number
 abbrev pub fate_at : Result ℕ Fate → (ℕ → Option Packet) → Packet → Fate
 fate_at (Err fault) first packet = fault
 fate_at (Ok number) first packet = fate_of_put (put_answer (first number) packet)
 
--- of a later one, where this number is due next and these copies came before
+-- the fate of a packet after the anchor's, if `next` is due next and these copies came before
 abbrev pub next_fate : Stream → Anchor → ℕ → List (ℕ × Packet) → Packet → Fate
 next_fate stream anchor next copies packet = fate_at (place_of stream anchor next packet) (λ number. first_with number copies) packet
 
--- with this room
+-- the fate of a packet that restarts nothing, with this room
 abbrev pub counted_fate : Stream → ℕ → ℤ → Option Anchor → List (ℕ × Packet) → Packet → Fate
 counted_fate stream room time None copies packet = first_fate stream time packet
 counted_fate stream room time (Some anchor) copies packet = next_fate (in_room stream room) anchor (next_number stream anchor time) copies packet
 
--- the arrival opens the next epoch, where this anchor is in force since its place
+-- the arrival opens the next epoch, if this anchor is in force since its place
 abbrev pub is_restart : Stream → ℤ → Option (ℕ × Anchor) → List Event → ℕ → Packet → Bool
 is_restart stream open_at None events path packet = false
 is_restart stream open_at (Some (place, anchor)) events path packet = can_restart stream open_at place anchor events path packet

@@ -10,7 +10,7 @@ use Rattle.rtp_stream.specs.declared.event.Event.TheVariants.{Arrive, Tick, Clos
 use Rattle.rtp_stream.specs.History.{time_of, is_counting}
 use Rattle.rtp_stream.specs.Anchor.{next_number}
 
--- the extended sequence number of a packet, where this one is due next
+-- the extended sequence number of a packet, if `next` is the number due next
 abbrev pub extended_number : Packet → ℕ → ℕ
 extended_number packet next = unsigned_abs (nearest_number 32768 packet.seq (pos next))
 
@@ -28,7 +28,7 @@ is_in_time stream anchor next packet =
     && (is_on_grid stream anchor (extended_number packet next) packet.ts
     && (nat_le next (extended_number packet next) && nat_lt (extended_number packet next) (next + stream.window)))
 
--- the stream, with room for so many numbers
+-- the stream with a window of this many numbers
 abbrev pub in_room : Stream → ℕ → Stream
 in_room stream room = record stream { window = room }
 
@@ -37,7 +37,7 @@ copies_under stream time counting None packet = []
 copies_under stream time counting (Some anchor) packet =
     if counting && is_in_time stream anchor (next_number stream anchor time) packet then (extended_number packet (next_number stream anchor time), packet) ∷ [] else []
 
--- the earliest with a number
+-- the earliest copy with this number
 abbrev pub first_with : ℕ → List (ℕ × Packet) → Option Packet
 first_with number [] = None
 first_with number ((n, packet) ∷ copies) = if nat_eq n number then Some packet else first_with number copies

@@ -4,7 +4,7 @@ use Rattle.std.specs.Option.{option_map}
 use Rattle.rtp_stream.specs.declared.event.Event.{Event}
 use Rattle.rtp_stream.specs.declared.event.Event.TheVariants.{Arrive, Tick, Close}
 
--- the value of the last reading, or the opening time
+-- the value of the last clock reading, or the opening time
 abbrev pub time_of : ℤ → List Event → ℤ
 time_of open_at [] = open_at
 time_of open_at (Arrive path packet ∷ events) = time_of open_at events
@@ -27,16 +27,16 @@ arrival_count (Close ∷ events) = arrival_count events
 abbrev pub is_counting : List Event → Bool
 is_counting before = not (is_closed before) && nat_lt (arrival_count before) (2 ^ 62)
 
--- what f gives at each place, from the events before it and the event there
+-- what `f` returns for each event and the events before it, put together in order
 unfoldable pub at_places : {A : Type 0} → (List Event → Event → List A) → List Event → List Event → List A
 at_places f before [] = []
 at_places f before (event ∷ events) = f before event ++ at_places f (before ++ event ∷ []) events
 
--- a reading may follow where nothing is closed, and it neither goes back nor past 2^60
+-- a clock reading is in order if the stream is not closed, the time doesn't go back, and it is at most 2^60
 abbrev pub is_tick_in_order : ℤ → Bool → ℤ → Bool
 is_tick_in_order time closed u = not closed && int_le time u && int_le u (pos (2 ^ 60))
 
--- each reading is in order
+-- each clock reading is in order
 abbrev pub is_well_timed_from : ℤ → Bool → List Event → Bool
 is_well_timed_from time closed [] = true
 is_well_timed_from time closed (Arrive path packet ∷ events) = is_well_timed_from time closed events
@@ -46,13 +46,13 @@ is_well_timed_from time closed (Close ∷ events) = is_well_timed_from time true
 abbrev pub is_well_timed : ℤ → List Event → Bool
 is_well_timed open_at events = is_well_timed_from open_at false events
 
--- the time and whether there is a close after an event, unless it is a reading out of order
+-- the time after an event, and whether the stream is closed then; none for a clock reading that is out of order
 abbrev pub clock_after : ℤ → Bool → Event → Option (ℤ × Bool)
 clock_after time closed (Arrive path packet) = Some (time, closed)
 clock_after time closed (Tick u) = if is_tick_in_order time closed u then Some (u, closed) else None
 clock_after time closed Close = Some (time, true)
 
--- the place of the first reading that is out of order
+-- the place of the first clock reading that is out of order
 abbrev pub first_clock_fault_from : ℤ → Bool → List Event → Option ℕ
 first_clock_fault_from time closed [] = None
 first_clock_fault_from time closed (Arrive path packet ∷ events) = option_map suc (first_clock_fault_from time closed events)

@@ -12,13 +12,13 @@ use Rattle.rtp_stream.specs.Anchor.{deadline_of, next_number}
 use Rattle.rtp_stream.specs.Epochs.{anchor_of}
 use Rattle.rtp_stream.specs.Grid.{end_of_copies}
 
--- the number due next is the least from the anchor's on whose deadline is still to come
+-- the number due next is the least number, from the anchor's on, whose deadline is still to come
 pub record IsLeastDue (stream : Stream) (anchor : Anchor) (time : ℤ) : Type 0 where
   pub from_anchor : anchor.number ≤ next_number stream anchor time
   pub to_come : time <ℤ deadline_of stream anchor (next_number stream anchor time)
   pub before : (n : ℕ) → anchor.number ≤ n → n < next_number stream anchor time → deadline_of stream anchor n ≤ℤ time
 
--- a deadline that comes after this history and not after u
+-- the deadline of number `n` is after the time of this history, and at most `u`
 pub record IsDeadlineOnTheWay (stream : Stream) (open_at : ℤ) (events : List Event) (anchor : Anchor) (n : ℕ) (u : ℤ) : Type 0 where
   pub anchored : anchor_of stream open_at events ≡ Some anchor
   pub from_anchor : anchor.number ≤ n
@@ -26,12 +26,12 @@ pub record IsDeadlineOnTheWay (stream : Stream) (open_at : ℤ) (events : List E
   pub not_after : deadline_of stream anchor n ≤ℤ u
   pub in_range : u ≤ℤ pos (2 ^ 60)
 
--- a history whose readings are in order, and that is open
+-- a history that is not closed, and whose clock readings are in order
 pub record IsOpen (open_at : ℤ) (events : List Event) : Type 0 where
   pub well_timed : is_well_timed open_at events ≡ true
   pub open_yet : is_closed events ≡ false
 
--- the slots, each by its epoch and number, in their order
+-- the epochs and numbers of the slots, in their order
 abbrev pub names_in : MarkKind → List (ℕ × ℕ)
 names_in (Slot epoch number media body) = (epoch, number) ∷ []
 names_in (Quiet until) = []
@@ -56,27 +56,27 @@ abbrev pub AllTimesFrom : ℤ → List ℤ → Type 0
 AllTimesFrom limit [] = Unit {0}
 AllTimesFrom limit (time ∷ times) = (limit ≤ℤ time) × AllTimesFrom limit times
 
--- media time never goes back: each slot, so many sampling instants long, has ended where any later one begins
+-- media time never goes back: a slot of this many sampling instants has ended when any later slot begins
 abbrev pub AreInOrder : ℕ → List ℤ → Type 0
 AreInOrder frames [] = Unit {0}
 AreInOrder frames (time ∷ times) = AllTimesFrom (time +ℤ pos frames) times × AreInOrder frames times
 
--- `count` numbers from one on, rising, each once
+-- `count` numbers from `n` on, rising, each once
 abbrev pub numbers_from : ℕ → ℕ → List ℕ
 numbers_from n zero = []
 numbers_from n (suc count) = n ∷ numbers_from (suc n) count
 
--- and those of an epoch
+-- `count` numbers of an epoch from `n` on, each with the epoch
 abbrev pub names_from : ℕ → ℕ → ℕ → List (ℕ × ℕ)
 names_from epoch n zero = []
 names_from epoch n (suc count) = (epoch, n) ∷ names_from epoch (suc n) count
 
--- a reading gives the slots of the epoch in force whose deadlines it reaches: those after the time and not after the reading, rising
+-- the slots that a clock reading produces: of the epoch in force, with deadlines after `time` and at most `u`
 abbrev pub slots_reached : Stream → Option Anchor → ℤ → ℤ → List (ℕ × ℕ)
 slots_reached stream None time u = []
 slots_reached stream (Some anchor) time u = names_from anchor.epoch (next_number stream anchor time) (next_number stream anchor u - next_number stream anchor time)
 
--- a close gives the slots that are left: those from the number due next to the last with a copy
+-- the slots that a close produces: from the number due next to the greatest number with a copy
 abbrev pub slots_left : Stream → Option Anchor → ℤ → List (ℕ × Packet) → List (ℕ × ℕ)
 slots_left stream None time copies = []
 slots_left stream (Some anchor) time copies = names_from anchor.epoch (next_number stream anchor time) (end_of_copies copies - next_number stream anchor time)

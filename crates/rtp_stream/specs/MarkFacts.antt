@@ -16,7 +16,7 @@ pub record MarkView : Type 0 where
 abbrev pub payload_length : PacketFormat → ℕ
 payload_length format = format.frames * format.channels * octets_per_sample format.enc
 
--- a time that no sum of a few such leaves 64 bits by
+-- a time so small that the sum of a few of them fits 64 bits
 abbrev pub IsTime : ℤ → Type 0
 IsTime t = (neg_ℤ (pos (2 ^ 61)) ≤ℤ t) × (t ≤ℤ pos (2 ^ 61))
 
@@ -24,7 +24,7 @@ abbrev pub HasLength : ℕ → Body → Type 0
 HasLength len (Got payload) = length payload.items ≡ len
 HasLength len Lost = Unit {0}
 
--- a payload of the format's length, and small times and numbers
+-- a mark whose payload has the format's length, and whose times and numbers are small
 abbrev pub IsMark : PacketFormat → MarkKind → Type 0
 IsMark format (Slot epoch number media body) = (epoch < 2 ^ 62) × (number ≤ 2 ^ 61) × IsTime media × HasLength (payload_length format) body
 IsMark format (Quiet until) = IsTime until

@@ -1,4 +1,4 @@
--- The lists of marks that a stream can give.
+-- The lists of marks that a stream can produce.
 use Rattle.std.specs.Prelude.{ℕ, ◌+◌, Bool, true, false, ◌&&◌, ◌||◌, nat_eq, List, [], ◌∷◌, ℤ, pos, ◌+ℤ◌, int_lt, int_le, Option, Some, None}
 use Rattle.rtp_wire.specs.declared.encoding.Enc.{Enc}
 use Rattle.rtp_wire.specs.declared.encoding.Enc.TheVariants.{L16, L24}

@@ -1,4 +1,4 @@
--- A mark that is lent.
+-- A mark whose payload is borrowed.
 use Rattle.std.specs.Prelude.{ℕ, ◌≤◌, List, length, Option, Some, None, option_copied}
 use Rattle.rtp_stream.specs.MarkFacts.{IsMark}
 use Rattle.rtp_stream.specs.declared.mark.PacketFormat.{PacketFormat}
@@ -14,7 +14,7 @@ abbrev pub body_from : Option (List ℕ) → Body
 body_from (Some octets) = Got (record { items = octets })
 body_from None = Lost
 
--- what the mark says, with the octets where they are lent
+-- the mark with a copy of the borrowed octets
 abbrev pub kind_of : MarkKindRef → MarkKind
 kind_of (LentSlot epoch number media payload) = Slot epoch number media (body_from (option_copied payload))
 kind_of (LentQuiet until) = Quiet until
@@ -30,7 +30,7 @@ HasShortBody (Slot epoch number media body) = IsShort body
 HasShortBody (Quiet until) = Unit {0}
 HasShortBody End = Unit {0}
 
--- what is true of every mark that is lent
+-- what is true of every borrowed mark
 pub record IsMarkRef (format : PacketFormat) (kind : MarkKind) : Type 0 where
   pub sound : IsMark format kind
   pub short : HasShortBody kind

@@ -1,4 +1,4 @@
--- The marks that a history hands on.
+-- The marks that a history produces.
 use Rattle.std.specs.Prelude.{ℕ, zero, suc, ◌-◌, max, Bool, true, false, not, ◌&&◌, ◌||◌, List, [], ◌∷◌, ◌++◌, ℤ, pos, ◌-ℤ◌, int_lt, Option, Some, None, if◌then◌else◌}
 use Rattle.rtp_stream.specs.declared.stream_spec.Stream.{Stream}
 use Rattle.rtp_stream.specs.StreamSpecFacts.{format_of}
@@ -56,29 +56,30 @@ abbrev pub is_past_quiets : ℤ → List MarkView → Bool
 is_past_quiets time [] = true
 is_past_quiets time (mark ∷ marks) = is_past_quiet time mark.kind && is_past_quiets time marks
 
--- the slots that come due when time moves from one to another
+-- the slots whose deadlines come when the time moves from `from` to `to`
 abbrev pub slots_between : Stream → List (ℕ × Packet) → Option Anchor → ℤ → ℤ → List MarkView
 slots_between stream copies None from to = []
 slots_between stream copies (Some anchor) from to =
     slots_from stream anchor copies (next_number stream anchor from) (next_number stream anchor to - next_number stream anchor from)
 
--- at a close, the slots from the next number to the last with a copy
+-- the slots that a close produces: from the number due next to the greatest number with a copy
 abbrev pub slots_at_close : Stream → List (ℕ × Packet) → Option Anchor → ℤ → List MarkView
 slots_at_close stream copies None time = []
 slots_at_close stream copies (Some anchor) time =
     slots_from stream anchor copies (next_number stream anchor time) (end_of_copies copies - next_number stream anchor time)
 
--- before every slot, a reading may tell silence: past the start, and past every earlier Quiet
+-- a Quiet with this time is produced only before the first slot, after the start, and after every earlier Quiet
 abbrev pub is_quiet_new : Stream → ℤ → List MarkView → ℤ → Bool
 is_quiet_new stream open_at given until = not (has_slot given) && (int_lt (open_at -ℤ pos stream.latency) until && is_past_quiets until given)
 
--- a reading gives its slots, or a Quiet where it has none
+-- a clock reading produces its slots; if it has none, it produces a Quiet that is new, or nothing
 abbrev pub slots_or_quiet : Stream → ℤ → List MarkView → ℤ → List MarkView → List MarkView
 slots_or_quiet stream open_at given to (mark ∷ marks) = mark ∷ marks
 slots_or_quiet stream open_at given to [] =
     if is_quiet_new stream open_at given (to -ℤ pos stream.latency) then quiet_mark stream (to -ℤ pos stream.latency) ∷ [] else []
 
--- the marks that an event gives, after the events before it and the marks that they gave, where this anchor is in force and its epoch has these copies
+-- the marks that an event produces after the events and marks before it, with this anchor in force
+-- and these copies in the anchor's epoch
 abbrev pub marks_under : Stream → ℤ → Option Anchor → List (ℕ × Packet) → List MarkView → List Event → Event → List MarkView
 marks_under stream open_at anchor copies given before (Arrive path packet) = []
 marks_under stream open_at anchor copies given before (Tick u) =
@@ -86,7 +87,7 @@ marks_under stream open_at anchor copies given before (Tick u) =
 marks_under stream open_at anchor copies given before Close =
     if is_closed before then [] else slots_at_close stream copies anchor (time_of open_at before) ++ end_mark stream ∷ []
 
--- those under the anchor in force after the events before it; `copies` are those of the whole history
+-- the marks that an event produces, with the anchor in force before it; `copies` are those of the whole history
 abbrev pub marks_at : Stream → ℤ → List (ℕ × (ℕ × Packet)) → List MarkView → List Event → Event → List MarkView
 marks_at stream open_at copies given before event = marks_under stream open_at (anchor_of stream open_at before) (copies_with (anchor_of stream open_at before) copies) given before event
 
@@ -99,7 +100,7 @@ marks_from stream open_at copies given before (event ∷ events) =
 unfoldable pub marks_of : Stream → ℤ → List Event → List MarkView
 marks_of stream open_at events = marks_from stream open_at (copies_of_all stream open_at events) [] [] events
 
--- the span of numbers that a history owes in the epoch in force: from the anchor's to before this end
+-- the end of the span that a history must have slots for in the epoch in force: the span begins at the anchor's number
 abbrev pub span_end : Stream → ℤ → List Event → Anchor → ℕ
 span_end stream open_at events anchor =
     if is_closed events then max (next_number stream anchor (time_of open_at events)) (end_of_copies (copies_of stream open_at events))

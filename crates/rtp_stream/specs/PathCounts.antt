@@ -12,7 +12,7 @@ pub record PathTally : Type 0 where
   pub wrong_length : ℕ
   pub full : ℕ
 
--- the numbers in a PathCounts
+-- the numbers in a value of the code
 abbrev pub path_tally_of : PathCounts → PathTally
 path_tally_of c = record { offered = c.offered; sent = c.sent; bad = c.bad; wrong_type = c.wrong_type; wrong_length = c.wrong_length; full = c.full }
 
@@ -22,13 +22,13 @@ tallies_of counts = map path_tally_of counts
 abbrev pub empty_path_tally : PathTally
 empty_path_tally = record { offered = 0; sent = 0; bad = 0; wrong_type = 0; wrong_length = 0; full = 0 }
 
--- with one more datagram
+-- the counts after one more datagram
 abbrev pub with_reception : PathTally → Reception → PathTally
 with_reception t (Sent packet) = record t { offered = t.offered + 1; sent = t.sent + 1 }
 with_reception t (Bad fault) = record t { offered = t.offered + 1; bad = t.bad + 1 }
 with_reception t WrongType = record t { offered = t.offered + 1; wrong_type = t.wrong_type + 1 }
 with_reception t WrongLength = record t { offered = t.offered + 1; wrong_length = t.wrong_length + 1 }
 
--- with one more packet that found no room
+-- the counts after one more packet that found the ring full
 abbrev pub with_full : PathTally → PathTally
 with_full t = record t { offered = t.offered + 1; full = t.full + 1 }

@@ -1,4 +1,5 @@
--- The record that a merge keeps of a path's probation: the number of packets that were in sequence last, up to eight, and the one that comes next.
+-- The record that a merge keeps of a path's probation: how many packets were last in sequence, up to eight, and what
+-- the next packet has to be.
 use Rattle.std.specs.Prelude.{ℕ, zero, suc, ◌+◌, ◌%◌, ◌^◌, Bool, true, false, ◌&&◌, nat_eq, nat_le, nat_lt, List, [], ◌∷◌, if◌then◌else◌}
 use Rattle.rtp_stream.specs.declared.stream_spec.Stream.{Stream}
 use Rattle.rtp_stream.specs.Anchor.{is_source_wanted}
@@ -8,11 +9,11 @@ use Rattle.rtp_stream.specs.declared.packet.Packet.{Packet}
 abbrev pub no_probation : Probation
 no_probation = record { count = 0; source = 0; seq = 0; ts = 0 }
 
--- the packet is what comes next
+-- the packet continues the sequence
 abbrev pub is_expected : Probation → Packet → Bool
 is_expected p packet = nat_lt 0 p.count && (nat_eq packet.ssrc p.source && (nat_eq packet.seq p.seq && nat_eq packet.ts p.ts))
 
--- after one more packet, and whether it is off
+-- the record after one more packet, with whether the packet is off
 abbrev pub probation_after : Stream → Probation → Bool × Packet → Probation
 probation_after stream p (false, packet) = no_probation
 probation_after stream p (true, packet) = record {
@@ -26,15 +27,16 @@ abbrev pub probation_from : Stream → Probation → List (Bool × Packet) → P
 probation_from stream p [] = p
 probation_from stream p (one ∷ heard) = probation_from stream (probation_after stream p one) heard
 
--- after all that was heard on a path
+-- the record after all packets that count on a path
 abbrev pub probation_of : Stream → List (Bool × Packet) → Probation
 probation_of stream heard = probation_from stream no_probation heard
 
--- after an arrival on its path, and whether it is off: packets of a source that the stream doesn't ask for are left out
+-- the record of a path after an arrival, with whether the packet is off; packets of a source that the stream
+-- doesn't ask for change nothing
 abbrev pub probation_heard : Stream → Probation → Bool → Packet → Probation
 probation_heard stream p off packet = if is_source_wanted stream.ssrc packet.ssrc then probation_after stream p (off, packet) else p
 
--- that of a path, by its place
+-- the record of a path, by its number
 abbrev pub probation_at : List Probation → ℕ → Probation
 probation_at [] path = no_probation
 probation_at (p ∷ probations) zero = p

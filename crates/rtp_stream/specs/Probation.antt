@@ -9,7 +9,7 @@ use Rattle.rtp_stream.specs.History.{time_of, is_counting, at_places}
 use Rattle.rtp_stream.specs.Anchor.{is_source_wanted, next_number}
 use Rattle.rtp_stream.specs.Grid.{extended_number, is_on_grid}
 
--- so many packets in sequence complete a probation
+-- the number of packets in sequence that completes a probation
 abbrev pub min_sequential : ℕ
 min_sequential = 8
 
@@ -22,31 +22,32 @@ abbrev pub is_next_of : Stream → Packet → Packet → Bool
 is_next_of stream last packet =
     nat_eq packet.ssrc last.ssrc && (nat_eq packet.seq ((last.seq + 1) % 2 ^ 16) && nat_eq packet.ts ((last.ts + stream.frames) % 2 ^ 32))
 
--- each of these is off, and follows the one before it
+-- each of these packets is off, and follows the packet before it
 abbrev pub is_sequence : Stream → List (Bool × Packet) → Bool
 is_sequence stream [] = true
 is_sequence stream ((off, packet) ∷ []) = off
 is_sequence stream ((off, packet) ∷ (off', packet') ∷ rest) = off && (is_next_of stream packet packet' && is_sequence stream ((off', packet') ∷ rest))
 
--- the last so many of a list
+-- the last `count` elements of a list
 abbrev pub last_few : {A : Type 0} → ℕ → List A → List A
 last_few count xs = drop (length xs - count) xs
 
--- the last eight are in sequence
+-- at least eight packets count, and the last eight are in sequence
 abbrev pub completes_probation : Stream → List (Bool × Packet) → Bool
 completes_probation stream heard = nat_le min_sequential (length heard) && is_sequence stream (last_few min_sequential heard)
 
--- an arrival on this path counts for a probation, unless the stream asks for another source; with it, whether it is off
+-- an arrival that counts for the probation of path `on`, with whether it is off: packets of other paths and of a
+-- source that the stream doesn't ask for don't count
 abbrev pub heard_at : Stream → Anchor → ℕ → ℤ → List Event → Event → List (Bool × Packet)
 heard_at stream anchor on open_at before (Arrive path packet) =
     if is_counting before && (nat_eq path on && is_source_wanted stream.ssrc packet.ssrc) then (is_off stream anchor (next_number stream anchor (time_of open_at before)) packet, packet) ∷ [] else []
 heard_at stream anchor on open_at before (Tick u) = []
 heard_at stream anchor on open_at before Close = []
 
--- what f gives at the places from this one on
+-- what `f` returns for the events from this place on, put together in order
 abbrev pub from_place : {A : Type 0} → (List Event → Event → List A) → ℕ → List Event → List A
 from_place f place events = at_places f (take place events) (drop place events)
 
--- all that was heard on a path after the anchor's arrival
+-- the packets that count for a path's probation, after the anchor's arrival
 abbrev pub heard_since : Stream → ℤ → ℕ → Anchor → List Event → ℕ → List (Bool × Packet)
 heard_since stream open_at place anchor events path = from_place (heard_at stream anchor path open_at) (suc place) events

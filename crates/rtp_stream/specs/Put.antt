@@ -1,4 +1,4 @@
--- The answer of a put, by the packet that its number has.
+-- The result of putting a packet at its number, by the packet that this number has.
 use Rattle.std.specs.Prelude.{Bool, true, false, Option, Some, None, bytes_eq, if◌then◌else◌}
 use Rattle.rtp_stream.specs.declared.packet.Packet.{Packet}
 use Rattle.rtp_stream.specs.declared.fate.Put.{Put}

@@ -13,7 +13,7 @@ use Rattle.rtp_stream.specs.declared.stream_spec.Stream.{Stream}
 use Rattle.rtp_stream.specs.PacketRef.{packet_of}
 use Rattle.rtp_stream.specs.StreamSpec.{Fits, admit_fault_of}
 
--- the packet that octets are, by their places
+-- the packet that is read from octets, by the places of its fields
 abbrev pub packet_at : List ℕ → Packet
 packet_at octets = record { seq = (head_at octets).seq; ts = (head_at octets).ts; ssrc = (head_at octets).ssrc; payload = record { items = payload_at octets } }
 
@@ -23,32 +23,32 @@ reception_by octets None (Some TypeFault) = WrongType
 reception_by octets None (Some LengthFault) = WrongLength
 reception_by octets None None = Sent (packet_at octets)
 
--- what a stream makes of a datagram: the first thing that is wrong with it, else its packet
+-- the reception of a datagram by a stream: its first fault, or else its packet
 abbrev pub reception_of : Stream → List ℕ → Reception
 reception_of stream octets = reception_by octets (wire_fault_of octets) (admit_fault_of stream (head_at octets).pt (length (payload_at octets)))
 
--- what was received, with the packet where it is lent
+-- the reception with a copy of the borrowed packet
 abbrev pub reception_from : ReceptionRef → Reception
 reception_from (LentSent packet) = Sent (packet_of packet)
 reception_from (LentBad fault) = Bad fault
 reception_from LentType = WrongType
 reception_from LentLength = WrongLength
 
--- a payload has room for what is lent
+-- a payload has room for the borrowed octets
 abbrev pub IsShortReception : ReceptionRef → Type 0
 IsShortReception (LentSent packet) = length packet.payload.now ≤ 1440
 IsShortReception (LentBad fault) = Unit {0}
 IsShortReception LentType = Unit {0}
 IsShortReception LentLength = Unit {0}
 
--- a packet that was received has the stream's length
+-- a packet that was received has the length that the stream asks for
 abbrev pub FitsReception : Stream → Reception → Type 0
 FitsReception stream (Sent packet) = Fits stream packet
 FitsReception stream (Bad fault) = Unit {0}
 FitsReception stream WrongType = Unit {0}
 FitsReception stream WrongLength = Unit {0}
 
--- the ways in which a datagram may be received
+-- tests for each kind of reception
 abbrev pub is_any : Reception → Bool
 is_any reception = true
 

@@ -1,4 +1,5 @@
--- The packets that a sender sent, under its full sequence numbers, and what is received of them with 16 and 32 bits (RFC 3550, 5.1).
+-- The packets that a sender sent, by full sequence numbers, and what is received of them with 16 and 32 bits
+-- (RFC 3550, 5.1).
 use Rattle.std.specs.Prelude.{◌≡◌, ℕ, ◌+◌, ◌^◌, ◌≤◌, true, ◌&&◌, List, [], ◌∷◌, ◌++◌, length, ℤ, pos, ◌+ℤ◌, ◌-ℤ◌, ◌*ℤ◌, ◌≤ℤ◌, ◌<ℤ◌, int_le, int_lt, nat_eq, Option, Some, None, if◌then◌else◌, unsigned_abs}
 use Rattle.std.specs.Int.{int_rem_euclid}
 use Rattle.rtp_stream.specs.declared.stream_spec.Stream.{Stream}
@@ -12,7 +13,7 @@ use Rattle.rtp_stream.specs.Anchor.{anchor_from, can_anchor, next_number}
 use Rattle.rtp_stream.specs.Epochs.{anchors_of}
 use Rattle.rtp_stream.specs.Marks.{marks_under}
 
--- a packet as it was sent: its full number is a whole number, below 0 where it was sent long before the first that is received
+-- a packet as it was sent: its full number may be below 0, if it was sent long before the first that is received
 pub record SentPacket : Type 0 where
   pub number : ℤ
   pub payload : List ℕ
@@ -27,7 +28,7 @@ pub data SentEvent : Type 0 where
 abbrev pub timestamp_in_step : Stream → Anchor → ℤ → ℕ
 timestamp_in_step stream anchor number = unsigned_abs (int_rem_euclid (pos anchor.timestamp +ℤ (number -ℤ pos anchor.number) *ℤ pos stream.frames) (pos (2 ^ 32)))
 
--- as it is received, a packet has its number's low 16 bits, the timestamp in step with the number, and the anchor's source
+-- the packet as it is received: its number's low 16 bits, the timestamp in step with the number, the anchor's source
 abbrev pub wire_packet : Stream → Anchor → SentPacket → Packet
 wire_packet stream anchor packet = record {
   seq = unsigned_abs (int_rem_euclid packet.number (pos 65536));
@@ -41,12 +42,12 @@ wire_event stream anchor (Arrives path packet) = Arrive path (wire_packet stream
 wire_event stream anchor (Ticks u) = Tick u
 wire_event stream anchor Closes = Close
 
--- the history that is received
+-- the history that is received, if this was sent
 abbrev pub wire_history : Stream → Anchor → List SentEvent → List Event
 wire_history stream anchor [] = []
 wire_history stream anchor (event ∷ sent) = wire_event stream anchor event ∷ wire_history stream anchor sent
 
--- the first arrival before a close is the anchor's own packet, and the stream's first
+-- the first arrival, unless a close comes before it, is the anchor's packet, which may be the stream's first
 abbrev pub BeginsWith : Stream → Anchor → ℤ → List SentEvent → Type 0
 BeginsWith stream anchor time [] = Unit {0}
 BeginsWith stream anchor time (Arrives path packet ∷ sent) =
@@ -54,18 +55,18 @@ BeginsWith stream anchor time (Arrives path packet ∷ sent) =
 BeginsWith stream anchor time (Ticks u ∷ sent) = BeginsWith stream anchor u sent
 BeginsWith stream anchor time (Closes ∷ sent) = Unit {0}
 
--- a number lies from so many below another one to just below so many above it
+-- a number from `reach` below `next` to just below `reach` above it
 abbrev pub IsNear : ℕ → ℕ → ℤ → Type 0
 IsNear reach next number = ((pos next -ℤ pos reach) ≤ℤ number) × (number <ℤ (pos next +ℤ pos reach))
 
--- each arrival before a close is of a number that lies within this reach of the one next due
+-- each arrival before a close has a number within this reach of the number next due
 abbrev pub IsWithinReach : Stream → Anchor → ℕ → ℤ → List SentEvent → Type 0
 IsWithinReach stream anchor reach time [] = Unit {0}
 IsWithinReach stream anchor reach time (Arrives path packet ∷ sent) = IsNear reach (next_number stream anchor time) packet.number × IsWithinReach stream anchor reach time sent
 IsWithinReach stream anchor reach time (Ticks u ∷ sent) = IsWithinReach stream anchor reach u sent
 IsWithinReach stream anchor reach time (Closes ∷ sent) = Unit {0}
 
--- the received history has one epoch at most: what comes of it is never taken for a restart of the sender
+-- the received history has at most one epoch: nothing in it restarts the stream
 abbrev pub IsOneEpoch : Stream → ℤ → List Event → Type 0
 IsOneEpoch stream open_at events = length (anchors_of stream open_at events) ≤ 1
 
@@ -73,7 +74,8 @@ IsOneEpoch stream open_at events = length (anchors_of stream open_at events) ≤
 abbrev pub OpensNoEpoch : Stream → ℤ → List Event → List Event → Type 0
 OpensNoEpoch stream open_at before events = length (anchors_of stream open_at (before ++ events)) ≤ length (anchors_of stream open_at before)
 
--- an arrival is a copy of its own number, where that is from the one next due to the window's end: nothing is extended, and no timestamp is looked at
+-- an arrival is a copy of its own number if that is from the number due next to the window's end: neither 16-bit
+-- numbers nor timestamps are used
 abbrev pub sent_copies_at : Stream → Anchor → ℤ → List Event → SentEvent → List (ℕ × Packet)
 sent_copies_at stream anchor open_at before (Arrives path packet) =
     if is_counting before && (int_le (pos (next_number stream anchor (time_of open_at before))) packet.number && int_lt packet.number (pos (next_number stream anchor (time_of open_at before) + stream.window)))
@@ -81,7 +83,7 @@ sent_copies_at stream anchor open_at before (Arrives path packet) =
 sent_copies_at stream anchor open_at before (Ticks u) = []
 sent_copies_at stream anchor open_at before Closes = []
 
--- the copies of what was sent, after these events were received
+-- the copies in what was sent, after these events were received
 unfoldable pub sent_copies_after : Stream → Anchor → ℤ → List Event → List SentEvent → List (ℕ × Packet)
 sent_copies_after stream anchor open_at before [] = []
 sent_copies_after stream anchor open_at before (event ∷ sent) =
@@ -90,21 +92,22 @@ sent_copies_after stream anchor open_at before (event ∷ sent) =
 abbrev pub sent_copies : Stream → Anchor → ℤ → List SentEvent → List (ℕ × Packet)
 sent_copies stream anchor open_at sent = sent_copies_after stream anchor open_at [] sent
 
--- this anchor is in force from the first arrival on
+-- the anchor in force after these events: this one from the first arrival on
 abbrev pub anchor_after : Anchor → List Event → Option Anchor
 anchor_after anchor before = if nat_eq (arrival_count before) 0 then None else Some anchor
 
--- the marks of what was sent, after these events were received and gave these marks; `copies` are those of all that was sent
+-- the marks of what was sent, after these events were received and these marks produced; `copies` are those of all that
+-- was sent
 unfoldable pub sent_marks_after : Stream → Anchor → ℤ → List (ℕ × Packet) → List MarkView → List Event → List SentEvent → List MarkView
 sent_marks_after stream anchor open_at copies given before [] = given
 sent_marks_after stream anchor open_at copies given before (event ∷ sent) =
     sent_marks_after stream anchor open_at copies (given ++ marks_under stream open_at (anchor_after anchor before) copies given before (wire_event stream anchor event)) (before ++ wire_event stream anchor event ∷ []) sent
 
--- the marks of what was sent, by the full numbers under this anchor: no packet's 16 bits and no grid are looked at
+-- the marks of what was sent, by the full numbers under this anchor: neither 16-bit numbers nor timestamps are used
 abbrev pub marks_by_number : Stream → Anchor → ℤ → List SentEvent → List MarkView
 marks_by_number stream anchor open_at sent = sent_marks_after stream anchor open_at (sent_copies stream anchor open_at sent) [] [] sent
 
--- all packets of this number have one payload
+-- all packets of this number have this payload
 abbrev pub HasEqualCopies : ℕ → List ℕ → List SentEvent → Type 0
 HasEqualCopies number payload [] = Unit {0}
 HasEqualCopies number payload (Arrives path packet ∷ sent) = (packet.number ≡ pos number → packet.payload ≡ payload) × HasEqualCopies number payload sent

@@ -1,4 +1,4 @@
--- The standing of arrivals by the clock `Follow`: in time, behind or beyond; and the arrivals that show their sender to be astray.
+-- The standing of arrivals by the clock `Follow`: in time, behind or beyond; and the arrivals whose sender is astray.
 use Rattle.std.specs.Prelude.{ℕ, suc, ◌+◌, ◌^◌, Bool, true, false, not, ◌&&◌, ◌||◌, nat_eq, nat_le, nat_lt, max, List, [], ◌∷◌, ◌++◌, count_by, reverse, take, drop, ℤ, if◌then◌else◌}
 use Rattle.rtp_stream.specs.declared.stream_spec.Stream.{Stream}
 use Rattle.rtp_stream.specs.declared.stream_spec.StreamClock.{StreamClock}
@@ -25,7 +25,7 @@ is_astray s = s.behind || s.beyond
 abbrev pub is_beyond : Standing → Bool
 is_beyond s = s.beyond
 
--- those of a path
+-- the standings of the arrivals on a path
 abbrev pub standings_on : ℕ → List Standing → List Standing
 standings_on path [] = []
 standings_on path (s ∷ standings) = if nat_eq s.path path then s ∷ standings_on path standings else standings_on path standings
@@ -39,35 +39,36 @@ end_of_standings (s ∷ standings) = max s.end (end_of_standings standings)
 abbrev pub are_many : (Standing → Bool) → List Standing → Bool
 are_many test standings = nat_le 8 (count_by test (take 64 (reverse standings)))
 
--- one past the greatest number with a copy in time, the anchor's own included, where those of each path end here
+-- one past the greatest number with a copy in time, the anchor's own included; `end` has that of each path, or 0
 abbrev pub end_since : Anchor → (ℕ → ℕ) → ℕ
 end_since anchor end = max (suc anchor.number) (max (end 0) (max (end 1) (max (end 2) (end 3))))
 
--- a path brings packets beyond again and again, or nothing from it is held
+-- a path doesn't keep the stream from emptying: it often brings packets beyond, or nothing that it brought is held
 abbrev pub may_empty : ℕ → Bool → ℕ → Bool
 may_empty next early end = early || nat_le end next
 
--- on some path, and on each
+-- the test passes for some path; and for each path
 abbrev pub any_path : (ℕ → Bool) → Bool
 any_path test = test 0 || (test 1 || (test 2 || test 3))
 
 abbrev pub all_paths : (ℕ → Bool) → Bool
 all_paths test = test 0 && (test 1 && (test 2 && test 3))
 
--- the anchor was handed on, some path brings packets beyond again and again, and so does each path that brought something which is held
+-- the first packet of the epoch was passed on, some path often brings packets beyond, and so does each path that
+-- brought something that is held
 abbrev pub empties : Anchor → ℕ → (ℕ → Bool) → (ℕ → ℕ) → Bool
 empties anchor next early end = nat_lt anchor.number next && (any_path early && all_paths (λ path. may_empty next (early path) (end path)))
 
--- the stream is emptying: what is held is handed on, and nothing more is taken
+-- the stream is emptying: what is held is passed on, and nothing more is taken
 abbrev pub is_emptying : Anchor → ℕ → List Standing → Bool
 is_emptying anchor next standings = empties anchor next (λ path. are_many is_beyond (standings_on path standings)) (λ path. end_of_standings (standings_on path standings))
 
--- how many numbers, from the one due next on, a packet may have to be in time
+-- the number of packets, from the number due next on, that are in time: the window, or 0 while the stream is emptying
 abbrev pub room_after : Stream → Anchor → ℕ → List Standing → ℕ
 room_after stream anchor next standings = if is_following stream.clock && is_emptying anchor next standings then 0 else stream.window
 
--- how a packet stands, where this number is due next, with so much room, and copies in time end here:
--- it is behind if it is late, and neither its number nor a greater one has a copy in time; and beyond if it is past the room
+-- the standing of a packet, if `next` is due next, with this room, and copies in time end at `end`: it is behind if it
+-- is late and neither its number nor a greater one has a copy in time, and beyond if its number is past the room
 abbrev pub standing_of : Stream → Anchor → ℕ → ℕ → ℕ → ℕ → Packet → Standing
 standing_of stream anchor next room end path packet = record {
   path = path;
@@ -76,12 +77,12 @@ standing_of stream anchor next room end path packet = record {
   beyond = not (is_off stream anchor next packet) && (nat_le next (extended_number packet next) && nat_le (next + room) (extended_number packet next));
 }
 
--- after arrivals that stood so
+-- the standing of an arrival after these arrivals
 abbrev pub standing_after : Stream → Anchor → ℕ → List Standing → ℕ → Packet → Standing
 standing_after stream anchor next standings path packet =
     standing_of stream anchor next (room_after stream anchor next standings) (end_since anchor (λ on. end_of_standings (standings_on on standings))) path packet
 
--- an arrival counts unless the stream asks for another source; it is judged once, as it comes
+-- the standing of an arrival that counts, as it comes; an arrival doesn't count if the stream asks for another source
 abbrev pub standings_at : Stream → Anchor → ℤ → List Standing → List Event → Event → List Standing
 standings_at stream anchor open_at given before (Arrive path packet) =
     if is_following stream.clock && (is_counting before && is_source_wanted stream.ssrc packet.ssrc)
@@ -94,11 +95,11 @@ standings_from stream anchor open_at given before [] = given
 standings_from stream anchor open_at given before (event ∷ events) =
     standings_from stream anchor open_at (given ++ standings_at stream anchor open_at given before event) (before ++ event ∷ []) events
 
--- how all arrivals stand that came after the anchor's; by another clock none is judged
+-- the standings of all arrivals after the anchor's; by another clock than `Follow` there are none
 abbrev pub standings_since : Stream → ℤ → ℕ → Anchor → List Event → List Standing
 standings_since stream open_at place anchor events = standings_from stream anchor open_at [] (take (suc place) events) (drop (suc place) events)
 
--- the room after a history, where the anchor is in force since its place
+-- the room after a history, if this anchor is in force since its place
 abbrev pub room_since : Stream → ℤ → ℕ → Anchor → List Event → ℕ
 room_since stream open_at place anchor events = room_after stream anchor (next_number stream anchor (time_of open_at events)) (standings_since stream open_at place anchor events)
 
@@ -106,7 +107,8 @@ room_since stream open_at place anchor events = room_after stream anchor (next_n
 abbrev pub has_wire_size : Packet → Bool
 has_wire_size packet = nat_lt packet.seq (2 ^ 16) && nat_lt packet.ts (2 ^ 32)
 
--- the sender is astray with this arrival: it stands behind or beyond, and so do at least 8 of its path's last 64, itself included
+-- the sender is astray with this arrival: the arrival is behind or beyond, and so are at least 8 of its path's last 64,
+-- itself included
 abbrev pub is_slip : Stream → ℤ → ℕ → Anchor → List Event → ℕ → Packet → Bool
 is_slip stream open_at place anchor before path packet =
     is_following stream.clock

@@ -14,7 +14,7 @@ format_of stream = record { enc = stream.enc; channels = stream.channels; frames
 abbrev pub is_window : ℕ → Bool
 is_window size = nat_eq size 8 || (nat_eq size 16 || (nat_eq size 32 || (nat_eq size 64 || (nat_eq size 128 || (nat_eq size 256 || (nat_eq size 512 || (nat_eq size 1024 || (nat_eq size 2048 || (nat_eq size 4096 || (nat_eq size 8192 || nat_eq size 16384))))))))))
 
--- the first fault of a stream's packets
+-- the first fault of the format and payload type of a stream's packets
 abbrev pub packets_fault_of : PacketFormat → ℕ → Option SpecFault
 packets_fault_of format pt =
     if not (nat_le 1 format.channels && nat_le format.channels 64) then Some Channels
@@ -23,7 +23,7 @@ packets_fault_of format pt =
     else if nat_lt 1440 (payload_length format) then Some TooLong
     else None
 
--- the first fault of its window, latency and paths: the window has to span the latency and two packets
+-- the first fault of the window, latency and paths: the window has to span the latency and two packets
 abbrev pub times_fault_of : ℕ → ℕ → ℕ → ℕ → Option SpecFault
 times_fault_of frames latency window paths =
     if not (is_window window) then Some Window
@@ -39,7 +39,7 @@ first_fault None later = later
 abbrev pub spec_fault_of : Stream → Option SpecFault
 spec_fault_of s = first_fault (packets_fault_of (format_of s) s.pt) (times_fault_of s.frames s.latency s.window s.paths)
 
--- what follows of a specification with no fault
+-- the bounds that a specification with no fault keeps
 pub record IsStream (s : Stream) : Type 0 where
   pub some_channels : 0 < s.channels
   pub few_channels : s.channels ≤ 64
@@ -54,7 +54,7 @@ pub record IsStream (s : Stream) : Type 0 where
   pub narrow : s.window ≤ 16384
   pub few_paths : s.paths ≤ 4
 
--- what is true of every specification; bounds stand apart, since most of what is proved needs no more
+-- what is true of every specification; the bounds are a record of their own, because most proofs need nothing else
 pub record HasNoFault (s : Stream) : Type 0 where
   pub bounds : IsStream s
   pub none : spec_fault_of s ≡ None

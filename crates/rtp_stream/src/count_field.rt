@@ -6,7 +6,7 @@ ghost use Rattle.std.specs.Prelude.{◌≡◌, ◌≤◌, length};
 
 use crate::counts::Counts;
 
-/// A number of `Counts`; `taken_by`, which has one for each path, is none. `help` describes each.
+/// A number of `Counts`. `taken_by` is not among them, since it has a number for each path. `help` describes each.
 #[derive(Clone, Copy, Debug, PartialEq, Eq)]
 pub enum CountField {
     Arrived,

@@ -23,9 +23,9 @@ pub struct Counts {
     pub late: u64,
     pub ahead: u64,
     pub wrong_source: u64,
-    /// Slots handed on with a payload.
+    /// Slots produced with a payload.
     pub got: u64,
-    /// Slots handed on as lost.
+    /// Slots produced as lost.
     pub lost: u64,
     /// Arrivals that opened a new epoch; each is counted as taken too.
     pub restarts: u64,
@@ -48,7 +48,7 @@ impl Counts {
     ghost use Rattle.rtp_stream.specs.CountsFacts.{empty_tally, with_fate, with_body};
     ghost use Rattle.rtp_stream.specs.Counts.{tally_of, is_got_body};
 
-    /// Returns counts of 0: nothing has arrived, and no slot was handed on.
+    /// Returns counts of 0: nothing has arrived, and no slot was produced.
     pub fn new() -> Self
         ensures { tally_of result ≡ empty_tally }
     {

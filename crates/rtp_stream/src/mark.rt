@@ -1,4 +1,4 @@
-//! The marks that a merge hands on.
+//! The marks that a merge produces.
 ghost use Rattle.std.specs.Prelude.{◌≡◌, ◌<◌, ◌≤◌, ◌^◌};
 ghost use Rattle.rtp_stream.specs.MarkFacts.{payload_length};
 

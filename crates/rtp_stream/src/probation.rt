@@ -31,7 +31,7 @@ pub struct Probation {
 impl Probation {
     ghost use Rattle.rtp_stream.specs.PathProbation.{no_probation, probation_after, is_complete};
 
-    /// Returns a probation that has heard nothing since the anchor's arrival.
+    /// Returns the probation of a path that has received nothing since the anchor's arrival.
     pub fn new() -> Probation
         ensures { result ≡ no_probation }
     {
@@ -45,7 +45,7 @@ impl Probation {
 
     /// Adds a packet of the path: `off` if it is of another source or off the grid, `frames` sampling instants long.
     ///
-    /// One that isn't off breaks the probation. One that is off but doesn't follow begins another.
+    /// A packet that isn't off breaks the probation. A packet that is off but doesn't follow begins another.
     #[inline(always)]
     pub fn update(&mut self, frames: u32, off: bool, packet: &PacketRef<'_>)
         requires { frames ≤ 192 }

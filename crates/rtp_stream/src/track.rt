@@ -52,7 +52,7 @@ pub struct Track {
     pub end: u64,
 }
 
-/// Returns the bits with one more, the lowest; that of the 64th arrival before falls off.
+/// Returns the bits with one more as the lowest; the oldest of 64 bits falls off.
 fn shift_in(bits: u64, bit: bool) -> u64
     ensures { result ≡ shifted bits bit }
 {
@@ -119,9 +119,9 @@ fn may_all_empty(next: u64, tracks: &[Track; 4]) -> bool
         && may_empty(next, &tracks[3])
 }
 
-/// Returns true if the stream is emptying: what is held is handed on, and nothing more is taken.
-// On each path, since one that is early, or packets that are forged on it, must not empty a stream that another path
-// brings in time.
+/// Returns true if the stream is emptying: what is held is passed on, and nothing more is taken.
+// Each path counts, since a path that is early, or packets that are forged on it, must not empty a stream that
+// another path brings in time.
 fn is_emptying(anchor: &Anchor, next: u64, tracks: &[Track; 4]) -> bool
     ensures { result ≡ empties anchor.now next (λ path. spec.is_often (track_at tracks.now path).early)
         (λ path. (track_at tracks.now path).end) }
@@ -159,7 +159,7 @@ fn end_of(anchor: &Anchor, tracks: &[Track; 4]) -> u64
     (anchor.number + 1).max(first)
 }
 
-/// Returns the standing of a packet with this place, where `next` is due next and copies in time end at `end`.
+/// Returns the standing of a packet with this place, if `next` is due next and copies in time end at `end`.
 fn standing_at(
     place: &Result<u64, Fate>,
     next: u64,

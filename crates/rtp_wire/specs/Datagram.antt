@@ -22,7 +22,8 @@ pub record IsPadding (octets : List ℕ) : Type 0 where
   pub fits : length octets < 256
   pub layout : octets ≡ before ++ length octets ∷ []
 
--- the octets are an RTP packet with this header and payload: the version is 2, and each part that a bit or the count announces is there
+-- the octets are an RTP packet with this header and payload: the version is 2, and each part that a flag or the count
+-- announces is there
 pub record IsDatagram (octets : List ℕ) (head : Head) (payload : List ℕ) : Type 0 where
   pub padded : Bool
   pub extended : Bool
