@@ -1,4 +1,4 @@
--- The fates and marks that are by the clock `Follow` as they are by the clock `Arrival`.
+-- The fates and marks that are the same by the clock `Follow` and by the clock `Arrival`.
 use Rattle.std.specs.Prelude.{◌≡◌, ℕ, false, List, [], ◌∷◌, ◌++◌, ℤ, Option, Some, None}
 use Rattle.rtp_stream.specs.declared.stream_spec.Stream.{Stream}
 use Rattle.rtp_stream.specs.declared.stream_spec.StreamClock.{StreamClock}
@@ -17,7 +17,7 @@ abbrev pub NoneAstray : List Standing → Type 0
 NoneAstray [] = Unit {0}
 NoneAstray (s ∷ standings) = (is_astray s ≡ false) × NoneAstray standings
 
--- how an event stands under the anchor in force, if it is an arrival that is judged
+-- the standing of an event under the anchor in force, if the event is an arrival that is judged
 abbrev pub standings_under : Stream → ℤ → Option (ℕ × Anchor) → List Event → Event → List Standing
 standings_under stream open_at None before event = []
 standings_under stream open_at (Some (place, anchor)) before event = standings_at stream anchor open_at (standings_since stream open_at place anchor before) before event

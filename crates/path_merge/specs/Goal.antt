@@ -12,33 +12,33 @@ use Rattle.path_merge.specs.Clock.{clock_fault_of}
 use Rattle.path_merge.specs.NextMark.{next_left, next_mark}
 use Rattle.path_merge.specs.Steps.{Advances, Drains, Moves, marks_left}
 
--- the reading is in order; to the end there is always a way, on which nothing is given before a close
+-- the goal can be reached: its clock reading is in order; the end always can, but before a close no mark leads to it
 abbrev pub CanReach : MergeState → Goal → Type 0
 CanReach m (Reading now) = clock_fault_of m.time m.closed now ≡ None
 CanReach m End = Unit {0}
 
--- the next mark on the way
+-- the next mark on the way to a goal
 abbrev pub next_to : MergeState → Goal → Option MarkView
 next_to m (Reading now) = next_mark m now
 next_to m End = next_left m
 
--- what is given on the way is the next of the marks: of a reading's, or of those that are left
+-- the mark is the next one on the way to the goal: the next of a clock reading, or of those that are left after a close
 abbrev pub Gives : Stream → ℤ → MergeState → MergeState → List Event → ℕ → Goal → Option MarkView → Type 0
 Gives stream open_at old new events k (Reading now) mark = Advances stream open_at old new events k now mark
 Gives stream open_at old new events k End mark = Drains stream open_at new events k mark
 
--- with each mark fewer are left; with none nothing changes
+-- a mark leaves fewer marks to drain, and no mark leaves the merge as it was
 pub record DrainsOn (old new : MergeState) (mark : Option MarkView) : Type 0 where
   pub none : mark ≡ None → new ≡ old
   pub fewer : IfSome mark (λ given. marks_left new < marks_left old)
   pub time : new.time ≡ old.time
 
--- the way gets shorter
+-- the merge gets closer to its goal
 abbrev pub MovesTo : MergeState → MergeState → Goal → Option MarkView → Type 0
 MovesTo old new (Reading now) mark = Moves old new now mark
 MovesTo old new End mark = DrainsOn old new mark
 
--- all marks of its history were given
+-- the merge has produced all marks of its history
 abbrev pub HasGivenAll : MergeState → Type 0
 HasGivenAll m = (stream : Stream) (open_at : ℤ) (events : List Event) (k : ℕ) → 0 < stream.frames
     → HasHistory stream open_at m events k → k ≡ length (marks_of stream open_at events)

@@ -28,7 +28,8 @@ HasFewPaths (Close ∷ events) = HasFewPaths events
 abbrev pub due_at : Stream → ℤ → List Event → Anchor → ℕ → ℕ
 due_at stream open_at events a place = next_number stream a (time_of open_at (take place events))
 
--- the number of an epoch's first packet in the epoch before, where this one is due next there: the nearest one with its low 16 bits
+-- the number that an epoch's first packet had in the epoch before, if `next` was due next there: the nearest number
+-- with its low 16 bits
 abbrev pub number_before : Anchor → ℕ → ℕ
 number_before b next = unsigned_abs (nearest_number 32768 (b.number - 65536) (pos next))
 
@@ -36,17 +37,18 @@ number_before b next = unsigned_abs (nearest_number 32768 (b.number - 65536) (po
 abbrev pub goes_on : Stream → Anchor → ℕ → Anchor → Bool
 goes_on stream a next b = nat_eq b.source a.source && is_on_grid stream a (number_before b next) b.timestamp
 
--- they go on in all epochs after this one
+-- the sender's numbers go on in all epochs after this one
 abbrev pub AllGoOn : Stream → ℤ → List Event → Anchor → List (ℕ × Anchor) → Type 0
 AllGoOn stream open_at events a [] = Unit {0}
 AllGoOn stream open_at events a ((place, b) ∷ later) = (goes_on stream a (due_at stream open_at events a place) b ≡ true) × AllGoOn stream open_at events b later
 
--- no epoch was opened by a probation
+-- the sender's numbers go on in all epochs, so no epoch was opened by a probation
 abbrev pub GoOn : Stream → ℤ → List Event → List (ℕ × Anchor) → Type 0
 GoOn stream open_at events [] = Unit {0}
 GoOn stream open_at events ((place, a) ∷ later) = AllGoOn stream open_at events a later
 
--- how far the sender's numbers, which are those of epoch 0 counted on, are from the numbers of an epoch, where they are so far from those of this anchor's epoch
+-- the sender's numbers, counted on from epoch 0, minus the numbers of this epoch; `shift` is the same difference in the
+-- epoch of anchor `a`
 abbrev pub shift_from : Stream → ℤ → List Event → ℕ → ℤ → Anchor → List (ℕ × Anchor) → ℤ
 shift_from stream open_at events epoch shift a [] = shift
 shift_from stream open_at events epoch shift a ((place, b) ∷ later) =
@@ -56,7 +58,7 @@ abbrev pub shift_among : Stream → ℤ → List Event → List (ℕ × Anchor) 
 shift_among stream open_at events [] epoch = pos 0
 shift_among stream open_at events ((place, a) ∷ later) epoch = shift_from stream open_at events epoch (pos 0) a later
 
--- the sender's number of a slot with a payload, where it is so far from the slot's
+-- the sender's number of a slot with a payload; `shift` is the sender's number minus the slot's
 abbrev pub number_heard : ℕ → ℤ → Body → List ℤ
 number_heard number shift (Got payload) = (pos number +ℤ shift) ∷ []
 number_heard number shift Lost = []
@@ -74,21 +76,21 @@ heard_among shift (mark ∷ marks) = heard_in shift mark.kind ++ heard_among shi
 abbrev pub numbers_heard : Stream → ℤ → List Event → List ℤ
 numbers_heard stream open_at events = heard_among (shift_among stream open_at events (anchors_of stream open_at events)) (marks_of stream open_at events)
 
--- they rise from this one on, so none comes twice
+-- the numbers rise, and the first is at least this limit, so no number comes twice
 abbrev pub RisesFrom : ℤ → List ℤ → Type 0
 RisesFrom limit [] = Unit {0}
 RisesFrom limit (n ∷ numbers) = (limit ≤ℤ n) × RisesFrom (n +ℤ pos 1) numbers
 
--- how far the sender's numbers are from those of an anchor's epoch
+-- the sender's numbers minus the numbers of an anchor's epoch
 abbrev pub shift_of : Stream → ℤ → List Event → Anchor → ℤ
 shift_of stream open_at events a = shift_among stream open_at events (anchors_of stream open_at events) a.epoch
 
--- the sender's number lies within this reach of the one that is due next in the epoch in force
+-- the sender's number is within this reach of the number that is due next in the epoch in force
 abbrev pub IsNearInForce : Stream → ℤ → ℕ → List Event → Option Anchor → ℤ → Type 0
 IsNearInForce stream open_at reach events None number = Unit {0}
 IsNearInForce stream open_at reach events (Some a) number = IsNear reach (next_number stream a (time_of open_at events)) (number -ℤ shift_of stream open_at events a)
 
--- and so does the number of each arrival of these, after those events
+-- each of these arrivals, after the events before it, has a number within this reach
 abbrev pub AreNear : Stream → Anchor → ℤ → ℕ → List Event → List SentEvent → Type 0
 AreNear stream first open_at reach before [] = Unit {0}
 AreNear stream first open_at reach before (Arrives path packet ∷ sent) =

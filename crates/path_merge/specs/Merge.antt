@@ -1,4 +1,4 @@
--- The state of a merge after a history, with some of its marks handed on.
+-- The state of a merge after a history, with some of its marks returned.
 use Rattle.std.specs.Prelude.{◌≡◌, ℕ, ◌+◌, ◌≤◌, ◌<◌, nat_lt, Bool, true, false, nat_eq, List, [], ◌∷◌, take, length, ℤ, pos, ◌-ℤ◌, Option, Some, None, if◌then◌else◌}
 use Rattle.std.specs.FinMap.{get}
 use Rattle.rtp_stream.specs.declared.stream_spec.Stream.{Stream}
@@ -26,7 +26,7 @@ is_slot_in epoch (Slot e number media body) = nat_eq e epoch
 is_slot_in epoch (Quiet until) = false
 is_slot_in epoch End = false
 
--- how many slots of an epoch are among the marks
+-- the number of slots of this epoch among the marks
 abbrev pub slot_count : ℕ → List MarkView → ℕ
 slot_count epoch [] = 0
 slot_count epoch (mark ∷ marks) = (if is_slot_in epoch mark.kind then 1 else 0) + slot_count epoch marks
@@ -36,27 +36,28 @@ quiet_or before (Slot epoch number media body) = before
 quiet_or before (Quiet until) = until
 quiet_or before End = before
 
--- the time of the last Quiet, or the one before all
+-- the time of the last Quiet among the marks, or `before` if there is none
 abbrev pub last_quiet_or : ℤ → List MarkView → ℤ
 last_quiet_or before [] = before
 last_quiet_or before (mark ∷ marks) = last_quiet_or (quiet_or before mark.kind) marks
 
--- one past the numbers of the anchor's epoch that have a slot among the marks, where there is an anchor
+-- the base is one past the numbers of the anchor's epoch that have a slot among the marks; without an anchor it is any
 abbrev pub IsBaseOf : Option Anchor → ℕ → List MarkView → Type 0
 IsBaseOf None base marks = Unit {0}
 IsBaseOf (Some anchor) base marks = base ≡ anchor.number + slot_count anchor.epoch marks
 
--- all that was heard on a path since the anchor in force; without one, nothing counts
+-- the packets that count for a path's probation since the anchor in force; without an anchor there are none
 abbrev pub heard_of : Stream → ℤ → Option (ℕ × Anchor) → List Event → ℕ → List (Bool × Packet)
 heard_of stream open_at None events path = []
 heard_of stream open_at (Some (place, anchor)) events path = heard_since stream open_at place anchor events path
 
--- how all arrivals stand since the anchor in force; without one, none stands
+-- the standings of all arrivals since the anchor in force; without an anchor there are none
 abbrev pub standings_of : Stream → ℤ → Option (ℕ × Anchor) → List Event → List Standing
 standings_of stream open_at None events = []
 standings_of stream open_at (Some (place, anchor)) events = standings_since stream open_at place anchor events
 
--- the merge is where this history leaves it, with its first k marks handed on; before a close all were, and after it at least those up to the close
+-- this history leads to the merge, which has returned the first k of its marks: all of them before a close, and after
+-- it at least those up to the close
 pub record HasHistory (stream : Stream) (open_at : ℤ) (m : MergeState) (events : List Event) (k : ℕ) : Type 0 where
   pub spec : m.spec ≡ stream
   pub well_timed : is_well_timed open_at events ≡ true

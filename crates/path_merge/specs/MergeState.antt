@@ -1,4 +1,4 @@
--- The state of a merge that contracts see, and the facts of every one.
+-- The state of a merge that contracts see, and the facts that hold for every such state.
 use Rattle.std.specs.Prelude.{◌≡◌, ℕ, zero, suc, ◌+◌, ◌^◌, ◌<◌, ◌≤◌, Bool, false, List, ℤ, pos, ◌+ℤ◌, ◌≤ℤ◌, neg_ℤ, Option, Some, None, IsSome, is_some, nat_eq, if◌then◌else◌}
 use Rattle.std.specs.Ordering.{nat_cmp}
 use Rattle.std.specs.FinMap.{FinMap, get}
@@ -27,7 +27,7 @@ pub record MergeState : Type 0 where
   pub probations : List Probation
   pub tracks : List Track
 
--- how many of these `count` numbers, from one on, have a packet
+-- how many of the `count` numbers from `number` on have a packet
 abbrev pub held_count : FinMap nat_cmp Packet → ℕ → ℕ → ℕ
 held_count held number zero = 0
 held_count held number (suc count) = (if is_some (get held number) then 1 else 0) + held_count held (suc number) count
@@ -36,7 +36,7 @@ held_count held number (suc count) = (if is_some (get held number) then 1 else 0
 abbrev pub holds_nothing : MergeState → Bool
 holds_nothing m = nat_eq (held_count m.held m.base m.spec.window) 0
 
--- each anchor's numbers
+-- the bounds of an anchor's numbers and times
 pub record IsInBounds (anchor : Anchor) : Type 0 where
   pub first_low : 65536 ≤ anchor.number
   pub first_high : anchor.number < 131072
@@ -44,7 +44,7 @@ pub record IsInBounds (anchor : Anchor) : Type 0 where
   pub media_low : neg_ℤ (pos (2 ^ 33)) ≤ℤ anchor.media
   pub media_high : anchor.media ≤ℤ pos (2 ^ 60 + 2 ^ 33)
 
--- once anchored, the base is the number due next until the close, and all that is held lies within the window
+-- a merge with an anchor: until the close the base is the number due next, and all that is held is within the window
 pub record IsAnchored (m : MergeState) (media : ℤ) (anchor : Anchor) : Type 0 where
   pub epoch_is : anchor.epoch ≡ m.counts.restarts
   pub few_epochs : anchor.epoch < m.counts.arrived
@@ -59,7 +59,7 @@ pub record IsAnchored (m : MergeState) (media : ℤ) (anchor : Anchor) : Type 0 
   pub slots_given : pos (m.counts.got + m.counts.lost) ≤ℤ (media +ℤ pos (2 ^ 33))
   pub taken_are : m.counts.taken ≡ m.counts.got + held_count m.held m.base m.spec.window
 
--- before, nothing is held and nothing was taken
+-- a merge without an anchor: nothing is held, and nothing was taken
 pub record IsUnanchored (m : MergeState) : Type 0 where
   pub empty : IsEmpty m.held
   pub none_taken : m.counts.taken ≡ 0
@@ -71,7 +71,7 @@ abbrev pub IsAnchoredOrNot : MergeState → ℤ → Option Anchor → Type 0
 IsAnchoredOrNot m media None = IsUnanchored m
 IsAnchoredOrNot m media (Some anchor) = IsAnchored m media anchor
 
--- `media` is the media time of the base
+-- the facts of a merge; `media` is the media time of the base
 pub record IsSound (m : MergeState) (media : ℤ) : Type 0 where
   pub spec_ok : IsStream m.spec
   pub time_low : pos 0 ≤ℤ m.time

@@ -1,4 +1,4 @@
--- The mark that a merge gives next.
+-- The mark that a merge returns next.
 use Rattle.std.specs.Prelude.{◌+◌, nat_eq, ℤ, pos, ◌-ℤ◌, int_le, Option, Some, None, if◌then◌else◌}
 use Rattle.std.specs.FinMap.{get}
 use Rattle.rtp_stream.specs.MarkFacts.{MarkView}
@@ -12,12 +12,12 @@ use Rattle.path_merge.specs.Steps.{is_quiet_due}
 abbrev pub slot_next : MergeState → Anchor → MarkView
 slot_next m anchor = slot_mark m.spec anchor m.base (body_of (get m.held m.base))
 
--- a Quiet where a reading tells new silence
+-- the Quiet that a clock reading produces, if it is later than the last one and there was no slot
 abbrev pub quiet_next : MergeState → ℤ → Option MarkView
 quiet_next m now =
     if is_quiet_due (nat_eq (m.counts.got + m.counts.lost) 0) m.quiet (now -ℤ pos m.spec.latency) then Some (quiet_mark m.spec (now -ℤ pos m.spec.latency)) else None
 
--- the anchor, where the deadline of the base has come
+-- the anchor, if the deadline of the base has come
 abbrev pub anchor_if_due : MergeState → ℤ → Option Anchor → Option Anchor
 anchor_if_due m now None = None
 anchor_if_due m now (Some anchor) = if int_le (deadline_of m.spec anchor m.base) now then Some anchor else None
@@ -29,11 +29,11 @@ abbrev pub slot_or_quiet : MergeState → ℤ → Option Anchor → Option MarkV
 slot_or_quiet m now (Some anchor) = Some (slot_next m anchor)
 slot_or_quiet m now None = quiet_next m now
 
--- the mark that a reading of the clock gives next: the slot that is due, or a Quiet that is new
+-- the mark that a clock reading produces next: the slot that is due, or a Quiet that is new
 abbrev pub next_mark : MergeState → ℤ → Option MarkView
 next_mark m now = slot_or_quiet m now (anchor_due m now)
 
--- the anchor, where a packet is held
+-- the anchor, if a packet is held
 abbrev pub anchor_if_held : MergeState → Option Anchor → Option Anchor
 anchor_if_held m None = None
 anchor_if_held m (Some anchor) = if nat_eq (held_count m.held m.base m.spec.window) 0 then None else Some anchor

@@ -1,4 +1,4 @@
--- A merge on its way from a history to a reading.
+-- A merge on its way from a history to a clock reading.
 use Rattle.std.specs.Prelude.{◌≡◌, ℕ, ◌+◌, List, [], ◌∷◌, ◌++◌, length, ℤ, ◌≤ℤ◌}
 use Rattle.rtp_stream.specs.declared.stream_spec.Stream.{Stream}
 use Rattle.rtp_stream.specs.MarkFacts.{MarkView}
@@ -9,7 +9,8 @@ use Rattle.path_merge.specs.MergeState.{MergeState}
 use Rattle.path_merge.specs.Merge.{HasHistory}
 use Rattle.path_merge.specs.Steps.{IsAlike}
 
--- after these events it has gone some way to a reading of `now`, and gave so many marks more: it has some history so far, which any reading of a time still on the way makes alike to that reading after the events alone
+-- after these events the merge has gone part of the way to a reading of `now`, and returned `more` marks: its history
+-- so far, followed by a reading from its time to `now`, is like the events alone, followed by that reading
 pub record IsOnWay (stream : Stream) (open_at : ℤ) (m : MergeState) (events : List Event) (now : ℤ) (k : ℕ) (more : List MarkView) : Type 0 where
   pub so_far : List Event
   pub stands : HasHistory stream open_at m so_far (k + length more)

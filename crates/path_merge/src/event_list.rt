@@ -37,7 +37,7 @@ use rtp_stream::{Event, Mark, MarkKind, StreamSpec};
 use std::alloc::{AllocError, Global};
 use thiserror::Error;
 
-/// The reason why a list of events gives no marks.
+/// The reason why a list of events has no marks.
 #[derive(Debug, Drop, Error)]
 pub enum RunFault {
     /// A clock reading goes back, or past 2^60, or comes after a close: the first, by its place in the list.
@@ -180,7 +180,7 @@ fn advance_to<V: Window>(
                 }
             }
             Ok(None) => return Ok(()),
-            // The caller owes a reading that isn't refused, so this arm is never reached.
+            // The caller makes sure that no reading is refused, so this arm is never reached.
             Err(_) => return Ok(()),
         }
     }

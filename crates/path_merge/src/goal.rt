@@ -1,4 +1,4 @@
-//! The goal up to which a merge hands its marks on.
+//! The goal up to which a merge returns its marks.
 
 /// The goal up to which marks are taken.
 #[derive(Clone, Copy, Debug)]

@@ -82,8 +82,8 @@ ghost use Rattle.rtp_stream.specs.Laws.{
 
 /// States that the slots, by epoch and number, are exactly the spans of the epochs one after the other, rising, each
 /// once: each with the media time of its number under its epoch's anchor, and with the payload of the earliest copy
-/// that came in time in that epoch, on whichever path, or as lost. A slot is given by the first reading that reaches
-/// its deadline, or else by the close; and each one given is counted once, as got or as lost.
+/// that came in time in that epoch, on whichever path, or as lost. A slot is produced by the first reading that reaches
+/// its deadline, or else by the close; and each slot is counted once, as got or as lost.
 pub fn each_number_is_handed_on_once()
     ensures spans { (stream : Stream) (open_at : ℤ) (events : List Event) →
         0 < stream.frames → is_well_timed open_at events ≡ true → HasSpans stream open_at events }
@@ -122,7 +122,7 @@ pub fn ticks_may_be_split()
 {}
 
 /// States that an arrival adds no mark and changes none, also one that opens an epoch; and no later event changes a
-/// mark that was given.
+/// mark that was produced.
 pub fn arrivals_change_no_mark()
     ensures arrival { (stream : Stream) (open_at : ℤ) (events : List Event) (path : ℕ) (packet : Packet) →
         0 < stream.frames → is_well_timed open_at events ≡ true →
@@ -149,7 +149,7 @@ pub fn marks_are_a_mark_list()
 
 /// States that the marks of an open history keep up with the clock: every mark's deadline came after the opening time
 /// and not after the last reading; and once a reading is past the opening time, the last mark ends at most the latency
-/// and a window of packets before it. A mark that a merge returns for a reading in order is due by that.
+/// and a window of packets before it. A mark that a merge returns for a reading in order is due by that reading.
 pub fn marks_keep_up_with_the_clock()
     ensures history { (stream : Stream) (open_at : ℤ) (events : List Event) → 0 < stream.frames
         → IsOpen open_at events →

@@ -16,7 +16,7 @@ use std::marker::Model;
 mod marks_out;
 mod packets_in;
 
-/// The merge of a stream's paths: each number is handed on once, in order, at its deadline, with the first copy that
+/// The merge of a stream's paths: each number is passed on once, in order, at its deadline, with the first copy that
 /// came in time or as lost (SMPTE ST 2022-7).
 ///
 /// Inputs are `offer` or `offer_ref` for packets, `advance` or `pass_to` for readings of the clock, and `close`.
@@ -140,7 +140,7 @@ impl<V: Window> Merge<V> {
         self.closed
     }
 
-    /// Returns true if the end was handed on: nothing is left to drain.
+    /// Returns true if the end was returned: nothing is left to drain.
     pub fn ended(&self) -> bool
         ensures { result ≡ self.now.ended }
     {

@@ -1,4 +1,4 @@
--- The values that go into a ring of numbers, and the one that a look takes out of it.
+-- The values that go into a ring of numbers, and the value that a look takes out of it.
 use Rattle.std.specs.Prelude.{◌≡◌, ◌⊎◌, ℕ, List, [], ◌∷◌, ◌++◌, length, Option, None}
 use Rattle.std.specs.List.{last_or}
 use mathlib.Core.List.{IsPrefix}
@@ -7,24 +7,24 @@ use Rattle.rtrb.specs.declared.consumer.Consumer.{Consumer}
 use Rattle.rtrb.specs.declared.producer.Producer.{Producer}
 
 module _ {T A P : Type 0} where
-  -- this went through the ring
+  -- this value went through the ring
   abbrev pub GoesThrough : T → Producer T A P → Producer T A P → Type 0
   GoesThrough value old new = sent new ≡ sent old ++ value ∷ []
 
-  -- nothing did: no place was known to be free, and none was found
+  -- nothing went through: no place was known to be free, and none was found
   abbrev pub HasNoPlace : Producer T A P → Producer T A P → Type 0
   HasNoPlace old new = (sent new ≡ sent old) × (known_free old ≡ 0) × (known_free new ≡ 0)
 
-  -- one or the other
+  -- the value went through, or there was no place for it
   abbrev pub Gives : T → Producer T A P → Producer T A P → Type 0
   Gives value old new = GoesThrough value old new ⊎ HasNoPlace old new
 
-  -- these were taken out, first what was seen there before; then none was seen there, or so many were taken
+  -- these values were taken out, first those that were known to be there; then no more were found, or `most` were taken
   pub record Takes (most : ℕ) (taken : List T) (old new : Consumer T A P) : Type 0 where
     pub received_are : received new ≡ received old ++ taken
     pub seen : IsPrefix (known_items old) (taken ++ known_items new)
     pub all : (known_items new ≡ []) ⊎ (length taken ≡ most)
 
-  -- the newest of those that a look took out, so many at most; none where none was there
+  -- the newest of the values that a look took out, at most `most` of them; none if it took none
   abbrev pub IsNewest : ℕ → Option T → Consumer T A P → Consumer T A P → Type 0
   IsNewest most newest old new = (taken : List T) × Takes most taken old new × (newest ≡ last_or None taken)

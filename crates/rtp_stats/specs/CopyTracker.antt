@@ -1,4 +1,4 @@
--- The notes that a tracker makes of a packet that was offered.
+-- What a tracker notes of a packet that was offered.
 use Rattle.std.specs.Prelude.{ℕ, ℤ, List, ◌∷◌, Option}
 use Rattle.rtp_stream.specs.declared.fate.Fate.{Fate}
 use Rattle.rtp_stream.specs.declared.stream_spec.Stream.{Stream}
@@ -8,7 +8,8 @@ use Rattle.rtp_stats.specs.Repeats.{is_again}
 use Rattle.rtp_stats.specs.Tally.{HasTally}
 use Rattle.rtp_stats.specs.declared.copy_tracker.CopyTracker.{CopyTracker}
 
--- the packet's arrival margin is by what the tracker knew, its tally has one offer more, and it knows the deadline after the packet
+-- the packet's arrival margin is by the deadline that the tracker knew, the tally has one offer more, and the tracker
+-- knows the deadline after the packet
 pub record NotesOffer (path : ℕ) (fate : Fate) (seq ts : ℕ) (due : Option ℤ) (now : ℤ) (old new : CopyTracker) : Type 0 where
   pub spare : Option ℕ
   pub margin : IsMarginOf old.deadlines fate ts due now spare

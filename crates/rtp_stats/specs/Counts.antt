@@ -6,11 +6,11 @@ use Rattle.rtp_stats.specs.declared.tally.fate_counts.FateCounts.{FateCounts}
 use Rattle.rtp_stats.specs.Offer.{Offer}
 use Rattle.rtp_stats.specs.Offers.{ahead_of, count_in_64_bits, double_of, first_of, late_of, unlike_of}
 
--- one more at a path
+-- the counters with one more for a path
 abbrev pub one_more : ℕ → List ℕ → List ℕ
 one_more path numbers = slice_set numbers path (count_in_64_bits (slice_index numbers path + 1))
 
--- with one more offer
+-- the counters after one more offer
 abbrev pub with_fate : ℕ → Fate → FateCounts → FateCounts
 with_fate path Taken c = record c { first = one_more path c.first }
 with_fate path Restarted c = record c { first = one_more path c.first }
@@ -23,7 +23,7 @@ with_fate path WrongSource c = c
 with_fate path OffGrid c = c
 with_fate path Ahead c = record c { ahead = one_more path c.ahead }
 
--- a counter for each path, of what this says of it
+-- a counter of 64 bits for each path, of the number that `of` has for the path
 pub record AreCounts (of : ℕ → ℕ) (numbers : List ℕ) : Type 0 where
   pub four : length numbers ≡ 4
   pub each : (path : ℕ) → path < 4 → slice_index numbers path ≡ count_in_64_bits (of path)

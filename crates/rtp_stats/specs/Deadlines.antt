@@ -1,4 +1,4 @@
--- The deadlines of packets that are in step, from that of one.
+-- The deadlines of packets that are in step, from the deadline of one of them.
 use Rattle.std.specs.Prelude.{◌≡◌, ◌⊎◌, ℕ, ◌^◌, ◌<◌, Bool, true, false, ℤ, pos, ◌+ℤ◌, ◌-ℤ◌, ◌*ℤ◌, ◌≤ℤ◌, ◌<ℤ◌, neg_ℤ, Option, Some, None, IfSome, MatchOption}
 use Rattle.rtp_stream.specs.Anchor.{deadline_of}
 use Rattle.rtp_stream.specs.Grid.{expected_timestamp, is_on_grid}
@@ -12,18 +12,18 @@ pub record KnownDeadline : Type 0 where
   pub ts : ℕ
   pub at : ℤ
 
--- a time that no sum of a few such leaves 64 bits by
+-- a time so small that the sum of a few of them fits 64 bits
 pub record IsShortTime (time : ℤ) : Type 0 where
   pub low : neg_ℤ (pos (2 ^ 62)) ≤ℤ time
   pub high : time ≤ℤ pos (2 ^ 62)
 
--- they are those of a number under an anchor
+-- the timestamp and the deadline are those of this number under this anchor
 pub record IsDeadlineOf (stream : Stream) (anchor : Anchor) (number : ℕ) (known : KnownDeadline) : Type 0 where
   pub ts : known.ts ≡ expected_timestamp stream anchor number
   pub at : known.at ≡ deadline_of stream anchor number
   pub short : IsShortTime known.at
 
--- from one number to another it is less than 2^31 sampling instants (12 hours)
+-- two numbers whose media times are less than 2^31 sampling instants (12 hours) apart
 pub record IsNearby (stream : Stream) (before number : ℕ) : Type 0 where
   pub low : neg_ℤ (pos (2 ^ 31)) ≤ℤ ((pos number -ℤ pos before) *ℤ pos stream.frames)
   pub high : ((pos number -ℤ pos before) *ℤ pos stream.frames) <ℤ pos (2 ^ 31)
@@ -55,22 +55,23 @@ is_placed OffGrid = false
 is_placed Late = false
 is_placed Ahead = false
 
--- what is known from the next deadline, as it stands once an epoch's first packet was taken
+-- what is known once an epoch's first packet was taken, from the next deadline then
 abbrev pub known_from : ℕ → Option ℤ → Option KnownDeadline
 known_from ts None = None
 known_from ts (Some at) = Some (record { ts = ts; at = at })
 
--- a deadline is so many sampling instants after a time
+-- the deadline is `spare` sampling instants after this time
 pub record IsSpareBefore (deadline now : ℤ) (spare : ℕ) : Type 0 where
   pub some : 0 < spare
   pub until : (now +ℤ pos spare) ≡ deadline
 
--- the time from a clock reading to a deadline, none at and after it, nor where it does not fit 32 bits
+-- the arrival margin: the time from a clock reading to a deadline; none if the deadline has come, or if 32 bits are not
+-- enough
 abbrev pub HasMargin : ℤ → ℤ → Option ℕ → Type 0
 HasMargin deadline now spare = MatchOption spare ((deadline ≤ℤ now) ⊎ ((now +ℤ pos (2 ^ 32)) ≤ℤ deadline)) (IsSpareBefore deadline now)
 
--- the arrival margin of a packet, by its fate and timestamp: an epoch's first packet has the next deadline, a later one the
--- deadline of its number, and one that did not come in time or is not in step has none
+-- the arrival margin of a packet, by its fate and timestamp: for an epoch's first packet to the next deadline, for a
+-- later packet to the deadline of its number; a packet that did not come in time or is not in step has none
 pub record IsMarginOf (known : Option KnownDeadline) (fate : Fate) (ts : ℕ) (due : Option ℤ) (now : ℤ) (spare : Option ℕ) : Type 0 where
   pub opening : is_opening known fate ≡ true → MatchOption due (spare ≡ None) (λ deadline. HasMargin deadline now spare)
   pub in_step : (stream : Stream) (anchor : Anchor) (before number : ℕ) (last : KnownDeadline)
@@ -80,7 +81,7 @@ pub record IsMarginOf (known : Option KnownDeadline) (fate : Fate) (ts : ℕ) (d
   pub unplaced : is_placed fate ≡ false → spare ≡ None
   pub unknown : known ≡ None → is_opening known fate ≡ false → spare ≡ None
 
--- the deadline that is known after a packet: that of the last one that was taken
+-- the deadline that is known after a packet: that of the last packet that was taken
 pub record IsKnownAfter (known : Option KnownDeadline) (fate : Fate) (ts : ℕ) (due : Option ℤ) (next : Option KnownDeadline) : Type 0 where
   pub opening : is_opening known fate ≡ true → next ≡ known_from ts due
   pub taken : (stream : Stream) (anchor : Anchor) (before number : ℕ) (last : KnownDeadline)

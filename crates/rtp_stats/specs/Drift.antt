@@ -8,12 +8,12 @@ use Rattle.rtp_stats.specs.declared.spare.ArrivalMargin.{ArrivalMargin}
 abbrev pub place_in : ℕ → ℕ → Option ℕ
 place_in now second = if nat_lt second now then (if nat_lt 60 (now - second) then None else Some (60 - (now - second))) else None
 
--- what a least-squares slope is made of: the number of points, the sums of their places and of their margins, of the products
--- of both, and of the squares of the places
+-- what a least-squares slope is computed from: the number of points, the sums of their places and of their margins, of
+-- the products of both, and of the squares of the places
 abbrev pub no_sums : Sums
 no_sums = record { count = 0; places = 0; margins = 0; products = 0; squares = 0 }
 
--- with one more point
+-- the sums with one more point
 abbrev pub with_point : ℕ → ℕ → Sums → Sums
 with_point place margin s = record {
   count = s.count + 1;
@@ -23,7 +23,7 @@ with_point place margin s = record {
   squares = s.squares + place * place;
 }
 
--- with the least margin of a second, if it is of the minute
+-- the sums with the least margin of a second, if the second is in the minute
 abbrev pub with_place : Option ℕ → ℕ → Sums → Sums
 with_place None margin s = s
 with_place (Some place) margin s = with_point place margin s
@@ -45,15 +45,16 @@ down_of s = s.places * s.margins
 abbrev pub run_of : Sums → ℕ
 run_of s = s.count * s.squares - s.places * s.places
 
--- a slope in parts per million, rounded to the nearest whole number: a second has 48,000 sampling instants, and 1,000,000 / 48,000 is 125 / 6
+-- a slope in parts per million, rounded to the nearest whole number: a second has 48,000 sampling instants, and
+-- 1,000,000 / 48,000 is 125 / 6
 abbrev pub millionths : ℕ → ℕ → ℕ
 millionths rise run = (125 * rise + 3 * run) / (6 * run)
 
--- with its sign, positive if packets come earlier and earlier
+-- a slope in parts per million with its sign: positive if packets come earlier and earlier
 abbrev pub ppm_of : ℕ → ℕ → ℕ → ℤ
 ppm_of up down run = if nat_lt up down then neg_ℤ (pos (millionths (down - up) run)) else pos (millionths (up - down) run)
 
--- a year, in seconds: the most that is told of the time left
+-- a year, in seconds: the greatest time left that is reported
 abbrev pub year : ℕ
 year = 31536000
 
@@ -61,14 +62,14 @@ year = 31536000
 abbrev pub time_of : ℕ → ℕ → ℕ → ℕ
 time_of margin rise run = min (margin * run / rise) year
 
--- the time until packets will be late or too early at this rate: the least margin falls to 0, or the greatest rises to the room
--- of the window; a year if neither happens before
+-- the time until packets will be late or too early at this rate: the least margin falls to 0, or the greatest rises to
+-- the room of the window; a year if neither happens before
 abbrev pub left_of : ℕ → ℕ → ℕ → ℕ → ArrivalMargin → ℕ
 left_of up down run room newest =
     if nat_lt up down then time_of newest.least (down - up) run
     else (if nat_lt down up then time_of (room - newest.greatest) (up - down) run else year)
 
--- the drift by these sums, of which the newest second has these margins: fewer than ten seconds have none, nor has one second
+-- the drift by these sums, if the newest second has these margins; fewer than ten seconds have no drift
 abbrev pub drift_by : Sums → ℕ → ArrivalMargin → Option Drift
 drift_by s room newest =
     if nat_lt s.count 10 then None
@@ -83,7 +84,8 @@ abbrev pub drift_with : Sums → ℕ → Option ArrivalMargin → Option Drift
 drift_with s room None = None
 drift_with s room (Some newest) = drift_by s room newest
 
--- the drift in a second, by the margins of the seconds before it in their order, of a stream whose window holds so many sampling instants
+-- the drift in a second, by the margins of the seconds before it in their order; `room` is the window in sampling
+-- instants
 abbrev pub drift_of : ℕ → ℕ → List ArrivalMargin → Option Drift
 drift_of now room margins = drift_with (sums_of now margins) room (newest_of margins)
 
@@ -92,21 +94,21 @@ pub record MinuteState : Type 0 where
   pub next : ℕ
   pub margins : List ArrivalMargin
 
--- one more
+-- the last sixty margins, with one more
 abbrev pub with_last : ArrivalMargin → List ArrivalMargin → List ArrivalMargin
 with_last margin margins = drop (length margins + 1 - 60) margins ++ margin ∷ []
 
--- after a second's margins, unless they are known already or of a second before the epoch
+-- the state after a second's margins, unless they are known already or the second is before the epoch
 abbrev pub minute_after : ArrivalMargin → MinuteState → MinuteState
 minute_after margin m =
     if nat_lt margin.second m.next then m
     else record { next = min (margin.second + 1) (2 ^ 64 - 1); margins = with_last margin m.margins }
 
--- an epoch began in this second: it has margins of before, so it is left out too
+-- the state after an epoch began in this second: the second has margins of the epoch before, so it is left out too
 abbrev pub minute_from : ℕ → MinuteState
 minute_from second = record { next = min (second + 1) (2 ^ 64 - 1); margins = [] }
 
--- sums over so many points at most, of places below 60 and margins of 32 bits
+-- sums over at most `n` points, with places below 60 and margins of 32 bits
 pub record IsSmall (n : ℕ) (s : Sums) : Type 0 where
   pub count : s.count ≤ n
   pub places : s.places ≤ 59 * n

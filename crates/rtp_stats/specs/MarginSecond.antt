@@ -6,23 +6,23 @@ use Rattle.rtp_stats.specs.Offer.{Offer}
 use Rattle.rtp_stats.specs.declared.spare.ArrivalMargin.{ArrivalMargin}
 use Rattle.rtp_stats.specs.Margins.{second_of, spares_in}
 
--- what a counter of 32 bits shows
+-- the value of a counter of 32 bits
 abbrev pub count_in_32_bits : ℕ → ℕ
 count_in_32_bits n = min n (2 ^ 32 - 1)
 
--- the bin of a spare time: one for each 6 sampling instants, and the last for all that is longer
+-- the bin of an arrival margin: one for each 6 sampling instants, and the last for all greater margins
 abbrev pub bin_of : ℕ → ℕ
 bin_of spare = min (spare / 6) 1023
 
--- how many spare times are in a bin
+-- the number of arrival margins in a bin
 abbrev pub count_in : ℕ → List ℕ → ℕ
 count_in bin spares = count_by (λ x. nat_eq (bin_of x) bin) spares
 
--- nothing came yet
+-- a second in which nothing has come yet
 abbrev pub empty_second : ℕ → MarginSecond
 empty_second second = record { second = second; count = 0; least = 0; greatest = 0; bins = replicate 1024 0 }
 
--- with one more spare time
+-- the second with one more arrival margin
 abbrev pub with_spare : ℕ → MarginSecond → MarginSecond
 with_spare spare s = record {
   second = s.second;
@@ -32,14 +32,14 @@ with_spare spare s = record {
   bins = slice_set s.bins (bin_of spare) (count_in_32_bits (slice_index s.bins (bin_of spare) + 1));
 }
 
--- after one more packet, of a second; what is of an earlier one than is kept isn't noted
+-- the second that is kept after one more packet: a packet of an earlier second is not noted
 abbrev pub second_after : ℕ → ℕ → MarginSecond → MarginSecond
 second_after second spare s =
     if nat_lt s.second second then with_spare spare (empty_second second)
     else if nat_eq s.second second then with_spare spare s
     else s
 
--- what is kept of these spare times
+-- the second has what is kept of these arrival margins
 pub record HasSpares (spares : List ℕ) (s : MarginSecond) : Type 0 where
   pub count : s.count ≡ count_in_32_bits (length spares)
   pub some : 0 < length spares → Contains spares s.least
@@ -50,13 +50,13 @@ pub record HasSpares (spares : List ℕ) (s : MarginSecond) : Type 0 where
   pub wide : length s.bins ≡ 1024
   pub bins : (bin : ℕ) → bin < 1024 → slice_index s.bins bin ≡ count_in_32_bits (count_in bin spares)
 
--- the bin of the middle one
+-- the bin of the median
 pub record IsMiddle (bins : List ℕ) (count bin : ℕ) : Type 0 where
   pub in_range : bin < 1024
   pub below : 2 * sum (take bin bins) < count
   pub within : bin < 1023 → count ≤ 2 * sum (take (bin + 1) bins)
 
--- the least, the median and the greatest of what is kept of a second
+-- the least, the median and the greatest arrival margin, of what is kept of this second
 pub record IsSpareOf (s : MarginSecond) (at : ℕ) (spare : ArrivalMargin) : Type 0 where
   pub second : s.second ≡ at
   pub some : 0 < s.count
@@ -70,12 +70,12 @@ pub record IsSpareOf (s : MarginSecond) (at : ℕ) (spare : ArrivalMargin) : Typ
 abbrev pub place_of : ℕ → ℕ → ℕ
 place_of path second = 2 * path + second % 2
 
--- the first so many places, with no packet yet
+-- `count` places for seconds, in which no packet has come yet
 pub record AreNewSeconds (count : ℕ) (seconds : List MarginSecond) : Type 0 where
   pub long : length seconds ≡ count
   pub each : (k : ℕ) (d : MarginSecond) → k < count → slice_index_or seconds k d ≡ empty_second (k % 2)
 
--- the spare times of a path in the latest second of a parity in which it brought any
+-- the arrival margins of a path, in the latest second with this parity in which it brought packets with a margin
 pub record HasSecond (path parity : ℕ) (offers : List Offer) (s : MarginSecond) : Type 0 where
   pub parity_is : s.second % 2 ≡ parity
   pub begun : parity < s.second → 0 < s.count

@@ -2,8 +2,8 @@
 use Rattle.std.specs.Prelude.{ℕ, ℤ, Bool, Option}
 use Rattle.rtp_stream.specs.declared.fate.Fate.{Fate}
 
--- the path that brought it, what became of it, its sequence number, how long before its deadline it came, the reading of the clock
--- then, and whether its number is that of the last packet that was taken before it, or less
+-- a packet that was offered: the path that brought it, its fate, its sequence number, its arrival margin, the clock
+-- reading then, and whether its number is that of the last packet that was taken before it, or less
 pub record Offer : Type 0 where
   pub path : ℕ
   pub fate : Fate

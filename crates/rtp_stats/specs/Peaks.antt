@@ -8,13 +8,13 @@ use Rattle.rtp_wire.specs.Sample.{sample_at, sample_count}
 abbrev pub magnitude_at : Enc → List ℕ → ℕ → ℕ
 magnitude_at enc octets index = unsigned_abs (sample_at enc octets index)
 
--- the greatest of a channel's, among the first so many samples; samples stand instant by instant, each with all channels
+-- the greatest magnitude of a channel, among the first samples of a payload: frame by frame, each with all channels
 abbrev pub peak_among : Enc → List ℕ → ℕ → ℕ → ℕ → ℕ
 peak_among enc octets channels channel zero = 0
 peak_among enc octets channels channel (suc index) =
     if nat_eq (index % channels) channel then max (peak_among enc octets channels channel index) (magnitude_at enc octets index)
     else peak_among enc octets channels channel index
 
--- of all of them
+-- the greatest magnitude of a channel, among all samples of a payload
 abbrev pub peak_of : Enc → List ℕ → ℕ → ℕ → ℕ
 peak_of enc octets channels channel = peak_among enc octets channels channel (sample_count enc octets)

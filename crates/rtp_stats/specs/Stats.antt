@@ -1,4 +1,4 @@
--- The statistics of a path, by the packets that were offered, the latest first.
+-- The statistics of a path, from the packets that were offered, the latest first.
 use Rattle.std.specs.Prelude.{◌≡◌, ℕ, ◌+◌, ◌^◌, ◌<◌, List, [], length, ℤ, IfSome, IsNone}
 use Rattle.rtp_stream.specs.declared.stream_spec.Stream.{Stream}
 use Rattle.rtp_stats.specs.Offer.{Offer}
@@ -8,7 +8,7 @@ use Rattle.rtp_stats.specs.Repeats.{repeats_of}
 use Rattle.rtp_stats.specs.Margins.{IsGreatest, IsLatest, IsLeast, IsMedian, last_spares, second_of}
 use Rattle.rtp_stats.specs.declared.stats.PathStats.{PathStats}
 
--- what became of the packets of a path, and the spare times of the whole second before this reading's
+-- the fates of a path's packets, and the arrival margins of the whole second before the one of this clock reading
 pub record AreNumbers (stream : Stream) (offers : List Offer) (path : ℕ) (now : ℤ) (numbers : PathStats) : Type 0 where
   pub first : numbers.tally.first ≡ count_in_64_bits (first_of path offers)
   pub double : numbers.tally.double ≡ count_in_64_bits (double_of path offers)

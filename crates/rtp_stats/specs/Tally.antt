@@ -11,7 +11,7 @@ use Rattle.rtp_stats.specs.Missed.{missed_of}
 use Rattle.rtp_stats.specs.Repeats.{repeats_of}
 use Rattle.rtp_stats.specs.MarginSecond.{HasSecond}
 
--- what contracts see of a tally
+-- the part of a tally that contracts see
 pub record TallyState : Type 0 where
   pub counts : FateCounts
   pub missed : List ℕ
@@ -29,7 +29,7 @@ pub record HasSeconds (offers : List Offer) (seconds : List MarginSecond) : Type
   pub eight : length seconds ≡ 8
   pub each : (k : ℕ) (d : MarginSecond) → k < 8 → HasSecond (k / 2) (k % 2) offers (slice_index_or seconds k d)
 
--- the tally of a stream was told these offers
+-- the tally of a stream has counted these offers
 pub record HasTally (stream : Stream) (offers : List Offer) (tally : TallyState) : Type 0 where
   pub fates : HasFates offers tally.counts
   pub missed : AreCounts (λ path. missed_of stream.window path offers) tally.missed

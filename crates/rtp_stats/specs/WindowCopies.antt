@@ -1,4 +1,4 @@
--- The copies that are kept of the number that was taken last at a place.
+-- The copies that are kept of the last number that was taken at a place.
 use Rattle.std.specs.Prelude.{◌≡◌, ℕ, ◌<◌, Bool, true, false, not, ◌&&◌, nat_eq, List, [], ◌∷◌, length, slice_index_or, slice_set, Option, Some, None, if◌then◌else◌}
 use Rattle.rtp_stream.specs.declared.fate.Fate.{Fate}
 use Rattle.rtp_stream.specs.Counts.{is_taken_fate}
@@ -17,11 +17,11 @@ empty_entry = record { taken = false; seq = 0; brought = no_path }
 abbrev pub entry_of : ℕ → ℕ → WindowCopies
 entry_of path seq = record { taken = true; seq = seq; brought = slice_set no_path path true }
 
--- with one more copy of a number, where it is the one that is kept
+-- the entry after one more copy of a number, if this is the number that is kept
 abbrev pub with_copy : ℕ → ℕ → WindowCopies → WindowCopies
 with_copy path seq entry = if entry.taken && nat_eq entry.seq seq then record entry { brought = slice_set entry.brought path true } else entry
 
--- after one more offer at its place
+-- the entry after one more offer at its place
 abbrev pub entry_after : ℕ → Fate → ℕ → WindowCopies → WindowCopies
 entry_after path fate seq entry =
     if is_taken_fate fate then entry_of path seq

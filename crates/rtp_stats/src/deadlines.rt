@@ -35,7 +35,7 @@ pub fn margin_before(deadline: i64, now: i64) -> Option<u32>
 }
 
 /// Returns the deadline of a packet with the timestamp `ts`, from the known deadline of another packet.
-// A timestamp has 32 bits and wraps, so the nearest to the known one is meant.
+// A timestamp has 32 bits and wraps, so the deadline is computed for the timestamp nearest to the known one.
 #[inline(always)]
 fn deadline_from(known_ts: u32, known_at: i64, ts: u32) -> i64
     ensures { (stream : Stream) (anchor : Anchor) (before number : ℕ) →

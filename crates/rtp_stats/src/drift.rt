@@ -30,7 +30,7 @@ const MINUTE: usize = 60;
 const LEAST_SECONDS: u64 = 10;
 
 /// The greatest time left that is reported, in seconds: a year.
-// Without a drift nothing is ever late. A greatest value gives that a number, so it needs no word of its own.
+// Without a drift no packet is ever late. The greatest time left says so, and no further value is needed.
 const YEAR: u64 = 31_536_000;
 
 /// The drift of a path's arrival margin.
@@ -119,7 +119,7 @@ fn newest_of(margins: &[ArrivalMargin]) -> Option<ArrivalMargin>
     newest
 }
 
-/// Returns the sums over those of these margins that are of the sixty seconds before the second `now`.
+/// Returns the sums over the margins that are of the sixty seconds before the second `now`.
 fn sums_of(margins: &[ArrivalMargin], now: u64) -> Sums
     requires { length margins.now ≤ 60 }
     ensures sums { result ≡ sums_of now margins.now }
@@ -133,7 +133,7 @@ fn sums_of(margins: &[ArrivalMargin], now: u64) -> Sums
 }
 
 /// Returns the drift by these sums, or `None` if they are of fewer than ten seconds. `newest` has the margins of the
-/// last one.
+/// last second.
 fn drift_by(sums: &Sums, room: u32, newest: &ArrivalMargin) -> Option<Drift>
     requires { IsSmall 60 sums.now }
     ensures { result ≡ drift_by sums.now room newest.now }

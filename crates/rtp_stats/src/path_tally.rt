@@ -13,8 +13,8 @@ pub struct PathTally {
     pub late: u64,
     /// The packets that arrived too early for the window.
     pub ahead: u64,
-    /// The packets that the path brought last, one after another, each of them late and with a number that was heard or
-    /// is less than one that was. A sender that was started again with the same numbers brings many of them.
+    /// The packets that the path brought last, one after another, each of them late and with a number that was received
+    /// in time or is less than one that was. A sender that was started again with the same numbers brings many of them.
     pub repeated: u64,
     /// The numbers that another path brought and this one did not, until a number one window later was taken.
     pub missed: u64,

@@ -5,7 +5,7 @@ ghost use Rattle.rtp_stats.specs.Peaks.{peak_of};
 use rtp_wire::{Enc, sample};
 
 /// Returns the channel of the sample that follows a sample of this channel.
-// Samples are interleaved. A comparison serves in place of a division for each sample.
+// Samples are interleaved. A comparison is cheaper than a division for each sample.
 #[inline(always)]
 fn channel_after(channel: usize, channels: usize) -> usize
     requires { channel < channels }

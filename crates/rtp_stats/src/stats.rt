@@ -17,7 +17,7 @@ pub struct PathStats {
 #[derive(Clone, Copy, Debug)]
 pub struct StreamStats {
     pub counts: Counts,
-    /// The statistics of each path. Those of a path that the stream does not have are 0 and `None`.
+    /// The statistics of each path. A path that the stream does not have has counts of 0 and no arrival margin.
     pub paths: [PathStats; 4],
 }
 

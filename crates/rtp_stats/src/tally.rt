@@ -48,7 +48,7 @@ mod window_copies;
 pub struct StreamTally {
     counts: FateCounts,
     missed: [u64; 4],
-    /// The packets in a row, by path, that repeat numbers which were heard.
+    /// The packets in a row, by path, that repeat numbers which were received in time.
     repeats: [u64; 4],
     /// An entry for each place of the window.
     entries: Vec<WindowCopies>,

@@ -21,10 +21,10 @@ pub struct MixStatsReceiver {
     ring: Consumer<MixStats>,
 }
 
-/// Opens the channel for a mix of so many channels, of which at most the first 8 are reported.
+/// Opens the channel for a mix of this many channels, of which at most the first 8 are reported.
 ///
 /// Allocates all memory of both ends. Returns `AllocError` if that fails.
-// One place is enough: the peaks stay with the sender until the place is free, so none is lost.
+// One place is enough: the peaks stay with the sender until the place is free, so no peak is lost.
 pub fn mix_stats_channel(
     alloc: Global,
     enc: Enc,

@@ -5,7 +5,7 @@ ghost use Rattle.rtp_stats.specs.MarginSecond.{IsMiddle, IsSpareOf, empty_second
 
 use crate::spare::ArrivalMargin;
 
-/// The number of bins of a second. Each holds margins of 6 sampling instants, and the last all longer ones.
+/// The number of bins of a second. Each holds margins of 6 sampling instants, and the last all longer margins.
 // 6 sampling instants are 125 microseconds, the shortest packet time of SMPTE ST 2110-30.
 const BINS: usize = 1_024;
 
@@ -18,7 +18,7 @@ pub fn second_of(now: i64) -> u64
 }
 
 /// The arrival margins of a path's packets in a second.
-// Bins in place of the margins: the size is fixed, however many packets arrive.
+// Bins instead of the margins: the size is fixed, however many packets arrive.
 #[derive(Drop)]
 pub(crate) struct MarginSecond {
     second: u64,
@@ -101,7 +101,7 @@ impl MarginSecond {
     }
 }
 
-/// Returns the bin that the middle one of `count` margins is in, or the last bin.
+/// Returns the bin with the middle one of `count` margins, or the last bin.
 fn middle_of(bins: &[u32; BINS], count: u32) -> u32
     requires { 0 < count }
     ensures { IsMiddle bins.now count result }

@@ -1,4 +1,4 @@
-//! The packets in a row, path by path, that repeat numbers which were heard.
+//! The packets in a row, path by path, that repeat numbers which were received in time.
 ghost use Rattle.std.specs.Prelude.{◌≡◌, ◌<◌, slice_set};
 ghost use Rattle.rtp_stats.specs.Repeats.{rows_after};
 
