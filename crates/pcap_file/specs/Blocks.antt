@@ -1,4 +1,5 @@
--- Blocks of the pcapng format as they are written, numbers least significant octet first (draft-ietf-opsawg-pcapng, Block Definitions).
+-- Blocks of the pcapng format as they are written, numbers least significant octet first (draft-ietf-opsawg-pcapng,
+-- Block Definitions).
 use Rattle.std.specs.Prelude.{ℕ, ◌+◌, ◌-◌, ◌*◌, ◌/◌, ◌%◌, ◌^◌, List, [], ◌∷◌, ◌++◌, length, replicate, codes, decimal}
 use Rattle.byteorder.specs.Endian.{little_bytes}
 use Rattle.pcap_file.specs.Mark.{opening_text}
@@ -10,7 +11,7 @@ use Rattle.pcap_file.specs.IpHeader.{header_octets, udp_octets}
 unfoldable pub padded : List ℕ → List ℕ
 padded octets = octets ++ replicate (3 * length octets % 4) 0
 
--- a block of a type: its length is before its body and behind it
+-- a block of a type: its length is before its body and again behind it
 unfoldable pub block_octets : ℕ → List ℕ → List ℕ
 block_octets kind held = little_bytes 4 kind ++ little_bytes 4 (12 + length held) ++ held ++ little_bytes 4 (12 + length held)
 
@@ -22,7 +23,8 @@ option_octets code value = little_bytes 2 code ++ little_bytes 2 (length value) 
 abbrev pub options_end : List ℕ
 options_end = little_bytes 4 0
 
--- what a section header holds: the magic number of its order, version 1.0, no stated length, its comment, and who wrote it
+-- the body of a section header: the magic number of its order, version 1.0, no section length, its comment, and the
+-- name of its writer
 unfoldable pub section_body : ℕ → List ℕ
 section_body open_at =
     little_bytes 4 0x1a2b3c4d ++ little_bytes 2 1 ++ little_bytes 2 0 ++ little_bytes 8 (2 ^ 64 - 1)
@@ -35,8 +37,8 @@ section_block open_at = block_octets 0x0a0d0d0a (section_body open_at)
 abbrev pub interface_text : ℕ → ℕ → List ℕ
 interface_text stream letter = decimal stream ++ 32 ∷ letter ∷ []
 
--- what the description of an interface of IP packets holds: no limit, its name, that its times are in nanoseconds, and a
--- description
+-- the body of the description of an interface of IP packets: no limit, its name, that its times are in nanoseconds, and
+-- a description
 unfoldable pub texts_body : List ℕ → List ℕ → List ℕ
 texts_body name description =
     little_bytes 2 101 ++ little_bytes 2 0 ++ little_bytes 4 0
@@ -45,7 +47,7 @@ texts_body name description =
 unfoldable pub texts_block : List ℕ → List ℕ → List ℕ
 texts_block name description = block_octets 1 (texts_body name description)
 
--- the interface of a path, whose description says what its stream's configuration is
+-- the interface of a path, whose description has its stream's configuration
 unfoldable pub interface_block : ℕ → ℕ → List ℕ → List ℕ
 interface_block stream letter description = texts_block (interface_text stream letter) description
 
@@ -57,7 +59,8 @@ gains_interface_block = texts_block (codes "gains") (codes "gains")
 abbrev pub time_octets : ℕ → List ℕ
 time_octets nanoseconds = little_bytes 4 (nanoseconds / 2 ^ 32) ++ little_bytes 4 (nanoseconds % 2 ^ 32)
 
--- the octets before a datagram in its block: its interface, its time, its packet's length as captured and as sent, and its headers
+-- the octets before a datagram in its block: its interface, its time, its packet's length as captured and as sent, and
+-- its headers
 unfoldable pub datagram_head : ArrivalView → List ℕ
 datagram_head a =
     little_bytes 4 a.interface ++ time_octets a.nanoseconds ++ little_bytes 4 (28 + length a.octets) ++ little_bytes 4 (28 + length a.octets)
@@ -82,7 +85,7 @@ change_arrival interface nanoseconds change = record {
 unfoldable pub change_block : ℕ → ℕ → ChangeView → List ℕ
 change_block interface nanoseconds change = datagram_block (change_arrival interface nanoseconds change)
 
--- what an interface statistics block of the first interface holds: its time, and nothing else
+-- the body of an interface statistics block of the first interface: its time, and nothing else
 unfoldable pub closing_body : ℕ → List ℕ
 closing_body nanoseconds = little_bytes 4 0 ++ time_octets nanoseconds
 

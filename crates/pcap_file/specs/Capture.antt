@@ -23,7 +23,7 @@ pub record State : Type 0 where
   pub format : Format
   pub section : SectionView
 
--- a pcap record leaves the section
+-- a pcap record does not change the section
 abbrev pub record_in : SectionView → Result PartView CaptureFaultKind → Result Block CaptureFaultKind
 record_in section (Ok part) = Ok (record { part = part; section = section })
 record_in section (Err kind) = Err kind
@@ -41,12 +41,12 @@ abbrev pub with_packet : Option PacketView → List Item → List Item
 with_packet None items = items
 with_packet (Some packet) items = Ok packet ∷ items
 
--- a part's packet before those of the octets behind it, or its fault at its place
+-- a part's packet before the items of the octets behind it, or its fault at its place
 abbrev pub items_after : ℕ → (Block → List Item) → Result Block CaptureFaultKind → List Item
 items_after place rest (Ok block) = with_packet block.part.packet (rest block)
 items_after place rest (Err kind) = Err (record { place = place; kind = kind }) ∷ []
 
--- the items of the adjacent records or blocks from a place on, after so many octets
+-- the items of the adjacent records or blocks from a place on, after `count` octets
 unfoldable pub packets_past : ℕ → State → ℕ → List ℕ → List Item
 packets_past count state place [] = []
 packets_past (suc count) state place (octet ∷ octets) = packets_past count state place octets
@@ -55,11 +55,11 @@ packets_past zero state place (octet ∷ octets) =
     (λ block. packets_past (block.part.len - 1) (record { format = state.format; section = block.section }) (place + block.part.len) octets)
     (part_of state (octet ∷ octets))
 
--- the same where none is
+-- the items of the adjacent records or blocks from a place on
 abbrev pub packets_from : State → ℕ → List ℕ → List Item
 packets_from state place octets = packets_past 0 state place octets
 
--- what a file holds behind a pcap header
+-- the items of a file behind its pcap header, or the header's fault
 abbrev pub packets_behind : List ℕ → Result Pcap CaptureFaultKind → List Item
 packets_behind octets (Ok pcap) = packets_from (record { format = format.Pcap pcap; section = no_section }) 24 (drop 24 octets)
 packets_behind octets (Err kind) = Err (record { place = 0; kind = kind }) ∷ []
@@ -68,7 +68,8 @@ packets_behind octets (Err kind) = Err (record { place = 0; kind = kind }) ∷ [
 abbrev pub is_pcapng : List ℕ → Bool
 is_pcapng octets = nat_le 4 (length octets) && is_section_header octets
 
--- the packets of a file, and its first fault: it begins with a section header's block, or with the header of a pcap file
+-- the packets of a file, and its first fault: it begins with a section header's block, or with the header of a pcap
+-- file
 unfoldable pub packets_of : List ℕ → List Item
 packets_of octets =
     if is_pcapng octets
@@ -85,7 +86,7 @@ packets_left c = packets_from (state_of c) c.place c.octets.now
 abbrev pub item_view : Result Packet CaptureFault → Item
 item_view item = result_map_both packet_view (λ fault. fault) item
 
--- a call read the part that octets begin with, and left the state after it, or answered its fault
+-- a call read the part that octets begin with, and left the state after it, or returned the part's fault
 abbrev pub HasRead : State → State → List ℕ → Result CaptureBlock CaptureFaultKind → Type 0
 HasRead old new octets result =
     MatchResult result

@@ -4,7 +4,7 @@ use Rattle.pcap_file.specs.declared.block_parser.CaptureBlock.{CaptureBlock}
 use Rattle.pcap_file.specs.declared.decode.record_mark.RecordMark.{RecordMark}
 use Rattle.pcap_file.specs.Packet.{PacketView, packet_view}
 
--- its length in octets, its UDP packet, if it has one, and its mark of a record, if it is one
+-- a record or a block: its length in octets, its UDP packet, if it has one, and its mark of a record, if it is one
 pub record PartView : Type 0 where
   pub len : ℕ
   pub packet : Option PacketView

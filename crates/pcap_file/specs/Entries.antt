@@ -17,16 +17,16 @@ pub data Entry : Type 0 where
   Packet : PacketView → Entry
   Mark : RecordMark → Entry
 
--- those of a record or a block: its packet, if it has one, and its mark, if it has one
+-- the entries in a record or a block: its packet, if it has one, and its mark, if it has one
 abbrev pub entries_in : Option PacketView → Option RecordMark → List Entry
 entries_in packet mark = map Packet (option_to_list packet) ++ map Mark (option_to_list mark)
 
--- those of a block before those of the octets behind it; none behind a fault
+-- the entries of a block before those of the octets behind it; none from a fault on
 abbrev pub entries_after : (Block → List Entry) → Result Block CaptureFaultKind → List Entry
 entries_after rest (Ok block) = entries_in block.part.packet block.part.mark ++ rest block
 entries_after rest (Err kind) = []
 
--- the entries of the adjacent records or blocks after so many octets
+-- the entries of the adjacent records or blocks after `count` octets
 unfoldable pub entries_past : ℕ → State → List ℕ → List Entry
 entries_past count state [] = []
 entries_past (suc count) state (octet ∷ octets) = entries_past count state octets
@@ -35,11 +35,11 @@ entries_past zero state (octet ∷ octets) =
     (λ block. entries_past (block.part.len - 1) (record { format = state.format; section = block.section }) octets)
     (part_of state (octet ∷ octets))
 
--- the same where none is
+-- the entries of the adjacent records or blocks that octets begin with
 abbrev pub entries_from : State → List ℕ → List Entry
 entries_from state octets = entries_past 0 state octets
 
--- those of a file behind a pcap header
+-- the entries of a file behind its pcap header
 abbrev pub entries_behind : List ℕ → Result Pcap CaptureFaultKind → List Entry
 entries_behind octets (Ok pcap) = entries_from (record { format = format.Pcap pcap; section = no_section }) (drop 24 octets)
 entries_behind octets (Err kind) = []
@@ -51,6 +51,6 @@ entries_of octets =
     then entries_from (record { format = format.Pcapng; section = no_section }) octets
     else entries_behind octets (pcap_of octets)
 
--- those of a capture whose octets from the place on are these
+-- the entries of a capture whose octets from the parser's place on are these
 abbrev pub entries_at : BlockParser → List ℕ → List Entry
 entries_at parts octets = entries_from (state_at parts) octets

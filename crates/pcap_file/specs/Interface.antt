@@ -43,7 +43,7 @@ interface_of order block =
       offset = offset;
     })))
 
--- how many units a second has: a power of ten, or of two where the highest bit is set
+-- the number of units in a second: a power of ten, or of two if the highest bit of the resolution is set
 abbrev pub units_per_second : ℕ → ℕ
 units_per_second resolution = if nat_lt resolution 128 then 10 ^ resolution else 2 ^ (resolution - 128)
 
@@ -51,12 +51,12 @@ units_per_second resolution = if nat_lt resolution 128 then 10 ^ resolution else
 abbrev pub time_units : Endian → List ℕ → ℕ
 time_units order block = number_at order 4 12 block * 2 ^ 32 + number_at order 4 16 block
 
--- the nanoseconds since 1970 of so many units, rounded down
+-- the nanoseconds since 1970 of this many units, rounded down
 abbrev pub nanoseconds_of : Interface → ℕ → ℤ
 nanoseconds_of interface units =
     pos (units * 1_000_000_000 / units_per_second interface.resolution) +ℤ (interface.offset *ℤ pos 1_000_000_000)
 
--- the same, if 64 bits hold it
+-- the nanoseconds since 1970 of this many units, if 64 bits hold them
 unfoldable pub time_of : Interface → ℕ → Option ℕ
 time_of interface units =
     if int_le (pos 0) (nanoseconds_of interface units) && int_lt (nanoseconds_of interface units) (pos (2 ^ 64))

@@ -8,12 +8,12 @@ use Rattle.pcap_file.specs.Octets.{number_at}
 use Rattle.pcap_file.specs.Interface.{interface_options}
 use Rattle.pcap_file.specs.Mark.{text_at}
 
--- the option 2, `if_name`, and the option 3, `if_description`; empty where it isn't found
+-- the option 2, `if_name`, and the option 3, `if_description`; a text is empty if its option isn't found
 pub record TextsView : Type 0 where
   pub name : List ℕ
   pub description : List ℕ
 
--- those of a block, if it describes an interface: its type is 1, and it has room for the fields of one
+-- the texts in a block, if it describes an interface: its type is 1, and it has room for the fields of a description
 unfoldable pub texts_in : Endian → List ℕ → Option TextsView
 texts_in order block =
     if nat_lt (length block) 20 then None
@@ -21,7 +21,7 @@ texts_in order block =
     then Some (record { name = text_at order 2 (interface_options block); description = text_at order 3 (interface_options block) })
     else None)
 
--- no record of a pcap file describes one
+-- the texts in a block of a capture: no record of a pcap file describes an interface
 abbrev pub texts_as : Format → Endian → List ℕ → Option TextsView
 texts_as (format.Pcap header) order block = None
 texts_as format.Pcapng order block = texts_in order block

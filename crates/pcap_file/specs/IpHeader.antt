@@ -24,7 +24,7 @@ header_with checksum a =
     (0x45 ∷ 0 ∷ []) ++ big_bytes 2 (28 + length a.octets) ++ big_bytes 2 0 ++ big_bytes 2 0x4000
     ++ (64 ∷ 17 ∷ []) ++ big_bytes 2 checksum ++ a.source ++ a.destination
 
--- the same with its own, which is reckoned as if it were 0
+-- an IPv4 header with its own checksum, which is computed as if the field were 0
 unfoldable pub header_octets : ArrivalView → List ℕ
 header_octets a = header_with (checksum_of (header_with 0 a)) a
 

@@ -21,11 +21,11 @@ number_if number text = if nat_lt number (2 ^ 63) && bytes_eq text (decimal numb
 unfoldable pub number_in : List ℕ → Option ℕ
 number_in text = number_if (digits_value 10 text) text
 
--- the opening that a comment gives
+-- the opening time in a comment
 abbrev pub opening_in : List ℕ → Option ℕ
 opening_in comment = if bytes_eq (take 8 comment) (codes "open_at ") then number_in (drop 8 comment) else None
 
--- an option's text, or none where it isn't found
+-- an option's text, or an empty text if the option isn't found
 abbrev pub found_text : Result (Option (List ℕ)) CaptureFaultKind → List ℕ
 found_text (Ok None) = []
 found_text (Ok (Some text)) = text
@@ -38,14 +38,15 @@ text_at order code options = found_text (option_of order code options)
 abbrev pub section_options : List ℕ → List ℕ
 section_options block = slice_range block 24 (length block - 4)
 
--- the opening that a section header gives: its writer's name, the option 4, is `darbexum`, and its comment, the option 1, has the time
+-- the opening time in a section header, if its writer, the option 4, is `darbexum`, and its comment, the option 1, has
+-- it
 unfoldable pub opened_by : Endian → List ℕ → Option RecordMark
 opened_by order block =
     if nat_lt (length block) 28 then None
     else (if bytes_eq (text_at order 4 (section_options block)) (codes "darbexum")
     then option_map (λ open_at. mark.Opened open_at) (opening_in (text_at order 1 (section_options block))) else None)
 
--- the time of an interface's statistics, if 64 bits hold its nanoseconds and the interface is described
+-- the time of an interface's statistics, if the interface is described and 64 bits hold the nanoseconds
 unfoldable pub closed_by : Endian → List Interface → List ℕ → Option RecordMark
 closed_by order interfaces block =
     if nat_lt (length block) 24 then None

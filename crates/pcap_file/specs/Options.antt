@@ -1,4 +1,5 @@
--- The options of a block (pcapng, Options): each has a code and a length of two octets each, and its value, padded to four octets.
+-- The options of a block (pcapng, Options): each has a code and a length of two octets each, and its value, padded to
+-- four octets.
 use Rattle.std.specs.Prelude.{◌+◌, ◌*◌, ◌/◌, ℕ, zero, suc, List, length, drop, slice_range, Option, Some, None, option_map, Result, Ok, Err, nat_lt, ◌==◌, if◌then◌else◌}
 use Rattle.std.specs.Borrow.{Bor}
 use Rattle.std.specs.Result.{result_map_both}
@@ -7,7 +8,7 @@ use Rattle.pcap_file.specs.declared.fault.CaptureFaultKind.{CaptureFaultKind}
 use Rattle.pcap_file.specs.declared.fault.CaptureFaultKind.TheVariants as fault
 use Rattle.pcap_file.specs.Octets.{number_at}
 
--- an option's code, where its value ends, and where the next option begins
+-- an option's code, the place where its value ends, and the place where the next option begins
 abbrev pub code_of : Endian → List ℕ → ℕ
 code_of order options = number_at order 2 0 options
 
@@ -17,7 +18,7 @@ value_end order options = 4 + number_at order 2 2 options
 abbrev pub option_end : Endian → List ℕ → ℕ
 option_end order options = 4 * ((value_end order options + 3) / 4)
 
--- the value of the first option with a code, among at most so many options; the code 0 ends them, and so does the block
+-- the value of the first option with a code, among at most `count` options; the code 0 ends them, and so does the block
 unfoldable pub option_among : ℕ → Endian → ℕ → List ℕ → Result (Option (List ℕ)) CaptureFaultKind
 option_among zero order code options = Ok None
 option_among (suc count) order code options =
@@ -27,7 +28,7 @@ option_among (suc count) order code options =
     else (if code_of order options == code then Ok (Some (slice_range options 4 (value_end order options)))
     else option_among count order code (drop (option_end order options) options))))
 
--- the same among all: there are no more than octets
+-- the value of the first option with a code, among all options: there are no more of them than octets
 abbrev pub option_of : Endian → ℕ → List ℕ → Result (Option (List ℕ)) CaptureFaultKind
 option_of order code options = option_among (length options) order code options
 

@@ -17,7 +17,7 @@ abbrev pub nanoseconds_in : TimeUnit → ℕ
 nanoseconds_in Microsecond = 1000
 nanoseconds_in Nanosecond = 1
 
--- the byte order and the smaller unit of times that the first four octets give
+-- the byte order and the smaller unit of times, by the first four octets
 abbrev pub magic_of : List ℕ → Option (Endian × TimeUnit)
 magic_of octets =
     if number_at Big 4 0 octets == 0xa1b2c3d4 then Some (Big, Microsecond)
@@ -25,7 +25,8 @@ magic_of octets =
     else (if number_at Big 4 0 octets == 0xa1b23c4d then Some (Big, Nanosecond)
     else (if number_at Little 4 0 octets == 0xa1b23c4d then Some (Little, Nanosecond) else None)))
 
--- a file's header of 24 octets, once its order is known: the version is 2.4, and its last field ends in the link's number
+-- a file's header of 24 octets, once its order is known: the version is 2.4, and its last field ends in the link's
+-- number
 unfoldable pub header_in : List ℕ → Option (Endian × TimeUnit) → Result Pcap CaptureFaultKind
 header_in octets None = Err fault.Format
 header_in octets (Some (order, unit)) =
@@ -41,7 +42,7 @@ pcap_of octets = if nat_lt (length octets) 4 then Err fault.Format else header_i
 abbrev pub record_time : Pcap → List ℕ → ℕ
 record_time pcap octets = number_at pcap.order 4 0 octets * 1_000_000_000 + number_at pcap.order 4 4 octets * nanoseconds_in pcap.unit
 
--- where the record ends: behind its header of 16 octets and what was captured of the packet
+-- the place where the record ends: behind its header of 16 octets and the captured part of the packet
 abbrev pub record_end : Pcap → List ℕ → ℕ
 record_end pcap octets = 16 + number_at pcap.order 4 8 octets
 

@@ -1,4 +1,4 @@
--- The octets of a file that came, and were not passed over.
+-- The octets of a file that were read and not yet passed over.
 use Rattle.std.specs.Prelude.{◌≡◌, ℕ, ◌≤◌, ◌++◌, Bool, true, false, List, length, drop, Option}
 use Rattle.std.specs.Io.KnownBytes.{Consumes, IsAtEnd}
 use Rattle.pcap_file.specs.declared.reader.buffer.ReadBuffer.{ReadBuffer}

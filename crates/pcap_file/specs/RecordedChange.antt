@@ -8,14 +8,14 @@ use Rattle.pcap_file.specs.Octets.{number_at}
 use Rattle.pcap_file.specs.declared.decode.recorded_change.ChangeHead.{ChangeHead}
 use Rattle.pcap_file.specs.declared.encode.recorded_change.RecordedChange.{RecordedChange}
 
--- the time from which the gains are in force, counted from the opening, the number of the next block at the call, and the gains,
--- row by row
+-- the time from which the gains are in force, counted from the opening, the number of the next block at the call, and
+-- the gains, row by row
 pub record ChangeView : Type 0 where
   pub at : ℤ
   pub next_block : ℕ
   pub gains : List ℤ
 
--- the time fits 64 bits, as the number does, and each gain 32
+-- the time fits 64 bits, as does the number of the block, and each gain fits 32
 pub record IsChange (v : ChangeView) : Type 0 where
   pub at : FitsSigned w64 v.at
   pub next_block : v.next_block < 2 ^ 64
@@ -28,12 +28,12 @@ gain_octets gain = big_bytes 4 (cast_unsigned w32 gain)
 unfoldable pub change_octets : ChangeView → List ℕ
 change_octets v = big_bytes 8 (cast_unsigned w64 v.at) ++ big_bytes 8 v.next_block ++ flat_map gain_octets v.gains
 
--- the first so many gains that octets spell, four octets each
+-- the first `count` gains in octets, four octets each
 abbrev pub gains_in : ℕ → List ℕ → List ℤ
 gains_in zero octets = []
 gains_in (suc count) octets = cast_signed w32 (number_at Big 4 0 octets) ∷ gains_in count (drop 4 octets)
 
--- the change that octets spell: they are as many as the two numbers and some gains have
+-- the change in octets, if they are as many as two numbers and some gains have
 unfoldable pub change_of : List ℕ → Option ChangeView
 change_of octets =
     if nat_lt (length octets) 16 || not (length octets % 4 == 0) then None

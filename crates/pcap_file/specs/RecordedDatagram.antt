@@ -1,9 +1,9 @@
--- A datagram that came.
+-- A datagram that arrived.
 use Rattle.std.specs.Prelude.{ℕ, List}
 use Rattle.std.specs.Net.Addr.{ipv4_octets}
 use Rattle.pcap_file.specs.declared.encode.datagram.RecordedDatagram.{RecordedDatagram}
 
--- the interface that it came on, its time in nanoseconds, the four octets of each address, the ports, and its octets
+-- the interface that it arrived on, its time in nanoseconds, the four octets of each address, the ports, and its octets
 pub record ArrivalView : Type 0 where
   pub interface : ℕ
   pub nanoseconds : ℕ

@@ -14,7 +14,7 @@ pub record UdpView : Type 0 where
   pub destination_port : ℕ
   pub payload : List ℕ
 
--- what an IPv4 packet of UDP carries
+-- the content of an IPv4 packet of UDP
 pub data BodyView : Type 0 where
   Whole : UdpView → BodyView
   Part : BodyView
@@ -31,14 +31,14 @@ abbrev pub address_at : ℕ → List ℕ → List ℕ
 address_at place octets =
     slice_index octets place ∷ slice_index octets (place + 1) ∷ slice_index octets (place + 2) ∷ slice_index octets (place + 3) ∷ []
 
--- the lengths that an IPv4 header gives: its own, in words of four octets, and the packet's
+-- the lengths in an IPv4 header: its own, in words of four octets, and the packet's
 abbrev pub header_length : List ℕ → ℕ
 header_length octets = 4 * (slice_index octets 0 % 16)
 
 abbrev pub total_length : List ℕ → ℕ
 total_length octets = number_at Big 2 2 octets
 
--- the fixed fields of a header of version 4 are first, and its protocol is UDP's, 17
+-- an IPv4 header of at least 20 octets is first, and its protocol is 17, UDP
 abbrev pub has_udp_header : List ℕ → Bool
 has_udp_header octets = nat_le 20 (length octets) && (slice_index octets 0 / 16 == 4) && (slice_index octets 9 == 17)
 
@@ -58,12 +58,13 @@ udp_of octets =
       payload = slice_range octets 8 (number_at Big 2 4 octets);
     })))
 
--- a whole datagram, if there is one
+-- the datagram if it is whole, and else a truncated one
 abbrev pub whole_or_cut : Option UdpView → BodyView
 whole_or_cut None = Truncated
 whole_or_cut (Some datagram) = Whole datagram
 
--- the body of an IPv4 packet: it is truncated if fewer octets are there than its length, or if its lengths can't be
+-- the body of an IPv4 packet: it is truncated if there are fewer octets than its length, or if its lengths are not
+-- possible
 unfoldable pub body_of : List ℕ → BodyView
 body_of octets =
     if is_fragment octets then Part

@@ -5,7 +5,8 @@ use Rattle.pcap_file.specs.declared.decode.endian.Endian.TheVariants.{Little}
 use Rattle.pcap_file.specs.declared.record_blocks.WholeBlocks.{WholeBlocks}
 use Rattle.pcap_file.specs.Octets.{number_at}
 
--- a block, least significant octet first: it has room for its type and its two lengths, and as many octets as it says
+-- a block, least significant octet first: it has room for its type and its two lengths, and its length is its first
+-- length
 pub record IsBlock (block : List ℕ) : Type 0 where
   pub room : 12 ≤ length block
   pub says : number_at Little 4 4 block ≡ length block
@@ -19,17 +20,18 @@ abbrev pub joined : List (List ℕ) → List ℕ
 joined [] = []
 joined (block ∷ blocks) = block ++ joined blocks
 
--- a block holds a datagram of a path, where the paths are the first so many interfaces: it is an enhanced packet on one of them
+-- a block holds a datagram of a path, if the first `paths` interfaces are those of paths: it is an enhanced packet on
+-- one of them
 abbrev pub holds_datagram : ℕ → List ℕ → Bool
 holds_datagram paths block = (number_at Little 4 0 block == 6) && nat_lt (number_at Little 4 8 block) paths
 
--- how many blocks hold one
+-- the number of blocks that hold a datagram of a path
 abbrev pub datagram_count : ℕ → List (List ℕ) → ℕ
 datagram_count paths [] = 0
 datagram_count paths (block ∷ blocks) = (if holds_datagram paths block then 1 else 0) + datagram_count paths blocks
 
--- octets are blocks, one after another, and a rest with which no block begins; this is the length of the blocks, and so many hold
--- a datagram of one of so many paths
+-- the octets are blocks, one after another, and a rest that begins with no block; `found` has the length of the blocks,
+-- and how many of them hold a datagram of one of the paths
 pub record AreWhole (paths : ℕ) (octets : List ℕ) (found : WholeBlocks) : Type 0 where
   pub blocks : List (List ℕ)
   pub rest : List ℕ

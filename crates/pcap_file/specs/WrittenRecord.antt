@@ -22,27 +22,27 @@ abbrev pub interface_blocks : List PathView → List ℕ
 interface_blocks [] = []
 interface_blocks (path ∷ paths) = interface_block path.stream path.letter path.description ++ interface_blocks paths
 
--- the datagrams that came
+-- the blocks of datagrams that arrived
 abbrev pub datagram_blocks : List ArrivalView → List ℕ
 datagram_blocks [] = []
 datagram_blocks (arrival ∷ arrivals) = datagram_block arrival ++ datagram_blocks arrivals
 
--- a record that isn't closed, and one that is
+-- a record that isn't closed, and a record that is
 abbrev pub open_record : ℕ → List PathView → List ArrivalView → List ℕ
 open_record open_at paths arrivals = section_block open_at ++ interface_blocks paths ++ datagram_blocks arrivals
 
 abbrev pub closed_record : ℕ → List PathView → List ArrivalView → ℕ → List ℕ
 closed_record open_at paths arrivals closed = open_record open_at paths arrivals ++ closing_block closed
 
--- the same of a run whose gains can change: the interface of its changes is behind those of the paths
+-- the record of a run whose gains can change: the interface of the changes is behind those of the paths
 abbrev pub open_gains_record : ℕ → List PathView → List ArrivalView → List ℕ
 open_gains_record open_at paths arrivals = section_block open_at ++ interface_blocks paths ++ gains_interface_block ++ datagram_blocks arrivals
 
 abbrev pub closed_gains_record : ℕ → List PathView → List ArrivalView → ℕ → List ℕ
 closed_gains_record open_at paths arrivals closed = open_gains_record open_at paths arrivals ++ closing_block closed
 
--- a datagram that can be written: on a described interface, of two addresses, with numbers that fit their octets, and of no more
--- octets than the longest change has
+-- a datagram that can be written: on a described interface, of two addresses, with numbers that fit their octets, and
+-- not longer than the longest change
 pub record IsArrival (count : ℕ) (a : ArrivalView) : Type 0 where
   pub interface : a.interface < count
   pub nanoseconds : a.nanoseconds < 2 ^ 64
@@ -52,7 +52,7 @@ pub record IsArrival (count : ℕ) (a : ArrivalView) : Type 0 where
   pub destination_port : a.destination_port < 2 ^ 16
   pub octets : length a.octets ≤ 32784
 
--- the packet that it is read as
+-- the packet that a written datagram is read back as
 abbrev pub packet_of : ArrivalView → PacketView
 packet_of a = record {
   time = Some a.nanoseconds;
@@ -67,6 +67,6 @@ packet_of a = record {
 abbrev pub items_of : List ArrivalView → List Item
 items_of arrivals = map (λ a. Ok (packet_of a)) arrivals
 
--- the same as entries
+-- the entries that written datagrams are read back as
 abbrev pub packet_entries : List ArrivalView → List Entry
 packet_entries arrivals = map (λ a. Packet (packet_of a)) arrivals

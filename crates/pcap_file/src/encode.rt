@@ -67,7 +67,7 @@ pub fn write_interface(stream: u16, letter: u8, description: &[u8], out: &mut [u
 }
 
 /// Writes the description of the interface of a run's changes of gains to the start of `out`, and returns its length in
-/// octets. It stands behind the interfaces of all paths, in a record of a run whose gains can change.
+/// octets. Its place is behind the interfaces of all paths, in a record of a run whose gains can change.
 #[tactic(auto, unfolding(crate::specs::Blocks::gains_interface_block))]
 pub fn write_gains_interface(out: &mut [u8]) -> usize
     requires { 2108 ≤ length out.old }
@@ -165,7 +165,7 @@ fn write_block(kind: u32, head: &[u8], octets: &[u8], out: &mut [u8]) -> usize
     ensures len { result ≡ length (block_octets kind (head.now ++ padded octets.now)) }
     ensures short { result ≡ 12 + length head.now + (length octets.now + 3 * length octets.now % 4) }
 {
-    // 3 n and -n are the same modulo 4: the octets that whole words of 4 lack.
+    // 3 n and -n are the same modulo 4: the octets that are missing to whole words of 4.
     let zeros = 3 * octets.len() % 4;
     let len = (12 + head.len() + octets.len() + zeros) as u32;
     let place = write_at(out, 0, &kind.to_le_bytes());

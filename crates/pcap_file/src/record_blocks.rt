@@ -37,7 +37,7 @@ pub fn whole_blocks(octets: &[u8], paths: u32) -> WholeBlocks
     blocks
 }
 
-/// Returns true if the block at the start of some octets holds a datagram of one of so many paths, and the block's
+/// Returns true if the block at the start of some octets holds a datagram of one of this many paths, and the block's
 /// length in octets. Returns `None` if the block is not whole.
 fn block_at(octets: &[u8], paths: u32) -> Option<(bool, usize)>
     ensures none { result ≡ None → BeginsNone octets.now }

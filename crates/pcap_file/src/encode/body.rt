@@ -44,7 +44,7 @@ pub(crate) fn push_option(head: &mut BlockBody, code: u16, value: &[u8])
     push(head, &code.to_le_bytes());
     push(head, &(value.len() as u16).to_le_bytes());
     push(head, value);
-    // 3 n and -n are the same modulo 4: the octets that whole words of 4 lack.
+    // 3 n and -n are the same modulo 4: the octets that are missing to whole words of 4.
     push(head, &[0; 3][..3 * value.len() % 4]);
 }
 
