@@ -21,7 +21,7 @@ longer step next = if nat_lt step.nanoseconds next.nanoseconds then next else st
 abbrev pub step_to : ℕ → ℕ → ℕ → TimeStep
 step_to packet from time = record { packet = packet; nanoseconds = time - from }
 
--- a packet at a time, where the latest time so far is known
+-- the times after a packet with a time, if `latest` is the latest time so far
 abbrev pub times_at : CaptureTimes → ℕ → ℕ → CaptureTimes
 times_at t latest time = record {
   packets = one_more t.packets;
@@ -30,7 +30,7 @@ times_at t latest time = record {
   back = longer t.back (step_to t.packets time latest);
 }
 
--- one packet more; one without a time is no step
+-- the times after one more packet; a packet without a time makes no step
 unfoldable pub times_with : CaptureTimes → Option ℕ → CaptureTimes
 times_with t None = record { packets = one_more t.packets; latest = t.latest; ahead = t.ahead; back = t.back }
 times_with t (Some time) = times_at t (unwrap_or t.latest time) time
@@ -42,7 +42,8 @@ seconds_in nanoseconds = (nanoseconds + 999_999_999) / 1_000_000_000
 abbrev pub jump_by : TimeStep → Bool → TimeJump
 jump_by step is_back = record { packet = step.packet; seconds = seconds_in step.nanoseconds; is_back = is_back }
 
--- the longest step back if it is longer than a second, or else the longest one ahead if it is longer than so many seconds
+-- the longest step back, if it is longer than a second, or else the longest step ahead, if it is longer than `gap`
+-- seconds
 unfoldable pub jump_of : CaptureTimes → ℕ → Option TimeJump
 jump_of t gap =
     if nat_lt 1 (seconds_in t.back.nanoseconds)

@@ -21,11 +21,11 @@ lengths_with l len = record { least = min l.least len; greatest = max l.greatest
 abbrev pub steps_first : ℕ → ℕ → Steps
 steps_first seq ts = record { seq = seq; ts = ts; first = None; same = 0; varies = false }
 
--- a step from the packet of one number to that of the next
+-- the timestamp step from the last packet to this one
 abbrev pub step_of : Steps → ℕ → ℕ
 step_of s ts = (2 ^ 32 + ts - s.ts) % 2 ^ 32
 
--- a step is the first, or equal to it
+-- the step is the first one, or equal to it
 abbrev pub is_same_step : Option ℕ → ℕ → Bool
 is_same_step None step = true
 is_same_step (Some first) step = first == step
@@ -51,7 +51,7 @@ flow_first s = record {
   steps = steps_first s.seq s.ts;
 }
 
--- with one more packet
+-- the flow after one more packet
 abbrev pub flow_with : FlowView → FlowPacket → FlowView
 flow_with f s = record {
   packets = one_more f.packets;
@@ -60,7 +60,7 @@ flow_with f s = record {
   steps = steps_with f.steps s.seq s.ts;
 }
 
--- the numbers from the least to the greatest that didn't come
+-- the numbers from the least to the greatest that did not arrive
 abbrev pub lost_of : FlowView → ℕ
 lost_of f = span_of f.numbers - (f.packets - f.numbers.repeated)
 

@@ -1,4 +1,4 @@
--- RTP packets among those of a capture.
+-- The RTP packets of a capture.
 use Rattle.std.specs.Prelude.{Bool, length, Option, Some, None, ◌==◌, ◌&&◌}
 use Rattle.std.specs.Int.{w32, from_be_bytes}
 use Rattle.rtp_wire.specs.declared.fault.WireFault.{WireFault}
@@ -19,7 +19,7 @@ key_of ip udp = record {
   pt = (head_at udp.payload).pt;
 }
 
--- what a datagram without a fault shows
+-- the RTP packet in a datagram that has no fault
 abbrev pub rtp_in : PacketView → UdpView → Option WireFault → Option FlowPacket
 rtp_in packet udp (Some fault) = None
 rtp_in packet udp None = Some (record {

@@ -26,11 +26,11 @@ pub record TableView : Type 0 where
 abbrev pub no_table : TableView
 no_table = record { keys = []; flows = []; untracked = 0; not_rtp = 0; fault = None; times = times_begun }
 
--- a flow's first packet
+-- the table after a flow's first packet
 abbrev pub table_begun : TableView → FlowPacket → TableView
 table_begun t s = record { keys = t.keys ++ s.key ∷ []; flows = t.flows ++ flow_first s ∷ []; untracked = t.untracked; not_rtp = t.not_rtp; fault = t.fault; times = t.times }
 
--- a packet of the flow at a place, or of a new one, of which there are 256 at most
+-- the table after a packet of the flow at a place, or of a new flow; there are at most 256 flows
 abbrev pub counted_at : TableView → FlowPacket → Option ℕ → TableView
 counted_at t s (Some place) = record {
   keys = t.keys;
@@ -53,16 +53,16 @@ abbrev pub table_telling : TableView → Option FlowPacket → TableView
 table_telling t None = record { keys = t.keys; flows = t.flows; untracked = t.untracked; not_rtp = one_more t.not_rtp; fault = t.fault; times = t.times }
 table_telling t (Some s) = table_counting t s
 
--- the time of each UDP packet
+-- the table with the time of one more UDP packet
 abbrev pub table_timed : TableView → Option ℕ → TableView
 table_timed t time = record { keys = t.keys; flows = t.flows; untracked = t.untracked; not_rtp = t.not_rtp; fault = t.fault; times = times_with t.times time }
 
--- the items of a capture are counted
+-- the table after one item of a capture
 unfoldable pub table_with : TableView → Item → TableView
 table_with t (Ok packet) = table_telling (table_timed t packet.time) (flow_packet_of packet)
 table_with t (Err fault) = record { keys = t.keys; flows = t.flows; untracked = t.untracked; not_rtp = t.not_rtp; fault = Some fault; times = t.times }
 
--- all of it, one after the other
+-- the table after these items of a capture, one after the other
 unfoldable pub table_after : TableView → List Item → TableView
 table_after t [] = t
 table_after t (item ∷ items) = table_after (table_with t item) items

@@ -8,7 +8,7 @@ use Rattle.rtp_stream.specs.StreamSpecFacts.{spec_fault_of}
 use Rattle.pcap_flows.specs.declared.packet_format.Fit.{Fit}
 use Rattle.pcap_flows.specs.Flow.{FlowView}
 
--- the channels that fill a payload of so many octets with so many sampling instants, where a sample has so many octets
+-- the channels that fill a payload of `len` octets with `frames` sampling instants, if a sample has this many octets
 unfoldable pub fit_of : ℕ → ℕ → ℕ → Option Fit
 fit_of len frames octets =
     if (frames * octets == 0) || (len == 0) || not (len % (frames * octets) == 0)
@@ -23,7 +23,7 @@ abbrev pub is_format_of : ℕ → Enc → Option Fit → Bool
 is_format_of pt enc None = false
 is_format_of pt enc (Some fit) = nat_le fit.channels 255 && nat_le fit.frames 65_535 && is_none (spec_fault_of (stream_with enc fit pt))
 
--- packets of so many octets and sampling instants fit a stream with this encoding
+-- packets of this length and step fit a stream with this encoding
 unfoldable pub is_format : ℕ → Enc → ℕ → ℕ → ℕ → Bool
 is_format pt enc octets len step = is_format_of pt enc (fit_of len step octets)
 

@@ -11,7 +11,7 @@ pub record NumbersView : Type 0 where
   -- the last packet with each 16 bits; its number is 0 if there was none
   pub last_seen : List Received
 
--- one more, as far as 64 bits hold it
+-- one more, at most the greatest number of 64 bits
 abbrev pub one_more : ℕ → ℕ
 one_more n = min (n + 1) (2 ^ 64 - 1)
 
@@ -19,7 +19,7 @@ one_more n = min (n + 1) (2 ^ 64 - 1)
 abbrev pub first_number : ℕ → ℕ
 first_number seq = 131_072 + seq
 
--- how far 16 bits are ahead of the greatest number so far, around the cycle
+-- the distance of these 16 bits ahead of the greatest number so far, around the cycle
 abbrev pub ahead_of : ℕ → ℕ → ℕ
 ahead_of greatest seq = (65_536 + seq - greatest % 65_536) % 65_536
 
@@ -38,7 +38,7 @@ no_packet = record { number = 0; ts = 0 }
 unfoldable pub no_numbers : List Received
 no_numbers = replicate 65_536 no_packet
 
--- a single packet
+-- the numbers after a single packet
 abbrev pub numbers_first : ℕ → ℕ → NumbersView
 numbers_first seq ts = record {
   least = first_number seq;
@@ -47,7 +47,7 @@ numbers_first seq ts = record {
   last_seen = set no_numbers seq (record { number = first_number seq; ts = ts });
 }
 
--- one packet more
+-- the numbers after one more packet
 abbrev pub numbers_and : NumbersView → ℕ → ℕ → ℕ → NumbersView
 numbers_and n seq ts number = record {
   least = min n.least number;
@@ -59,7 +59,7 @@ numbers_and n seq ts number = record {
 abbrev pub numbers_with : NumbersView → ℕ → ℕ → NumbersView
 numbers_with n seq ts = numbers_and n seq ts (number_near n.greatest seq)
 
--- numbers from the least to the greatest
+-- how many numbers there are from the least to the greatest
 abbrev pub span_of : NumbersView → ℕ
 span_of n = one_more (n.greatest - n.least)
 

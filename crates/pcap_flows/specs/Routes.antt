@@ -12,7 +12,7 @@ use Rattle.pcap_flows.specs.Streams.{paths_of}
 use Rattle.pcap_flows.specs.declared.streams.FlowPath.{FlowPath}
 use Rattle.pcap_flows.specs.declared.routes.Route.{Route}
 
--- a flow goes to an address and a port
+-- the flow goes to this address and port
 abbrev pub is_named : FlowKey → SocketAddrV4 → Bool
 is_named key name = (ipv4_bits (v4_ip name) == key.to) && (v4_port name == key.to_port)
 
@@ -29,36 +29,37 @@ has_format_at t place = flow_has_format (slice_get t.keys place) (slice_get t.fl
 abbrev pub stream_has_format : TableView → List FlowPath → ℕ → Bool
 stream_has_format t paths first = list_any (λ path. (path.first == first) && has_format_at t path.place) paths
 
--- a path goes to one of these addresses, or, if there are none, its stream has a format
+-- the path goes to one of these addresses, or, if there are none, its stream has a format
 abbrev pub is_chosen : TableView → List SocketAddrV4 → List FlowPath → FlowPath → Bool
 is_chosen t [] paths path = stream_has_format t paths path.first
 is_chosen t (name ∷ names) paths path = list_any (is_named path.key) (name ∷ names)
 
--- the paths that are taken, of those of all flows
+-- the chosen paths, out of the paths of all flows
 abbrev pub chosen_paths : TableView → List SocketAddrV4 → List FlowPath
 chosen_paths t names = filter (is_chosen t names (paths_of t)) (paths_of t)
 
--- a path of the same stream, of a flow before it
+-- the other path is of the same stream, and its flow is before this path's flow
 abbrev pub is_earlier : FlowPath → FlowPath → Bool
 is_earlier path other = (other.first == path.first) && nat_lt other.place path.place
 
--- a path is the first of its stream among those that are taken
+-- the path is the first of its stream among the chosen paths
 abbrev pub leads : List FlowPath → FlowPath → Bool
 leads chosen path = not (list_any (is_earlier path) chosen)
 
--- how many of the streams that are taken begin before a place
+-- the number of chosen streams that begin before a place
 abbrev pub streams_before : List FlowPath → ℕ → ℕ
 streams_before chosen first = length (filter (λ path. nat_lt path.first first && leads chosen path) chosen)
 
--- how many paths of the same stream are taken before a path
+-- the number of chosen paths of the same stream before this path
 abbrev pub paths_before : List FlowPath → FlowPath → ℕ
 paths_before chosen path = length (filter (is_earlier path) chosen)
 
--- a letter from `a`, 97, to `d`
+-- the letter of a path, from `a`, which is 97, to `d`
 abbrev pub letter_of : ℕ → ℕ
 letter_of number = 97 + min number 3
 
--- the route of a path that is taken: streams are numbered by their first flows, and the paths of each by theirs
+-- the route of a chosen path: streams are numbered in the order of their first flows, and paths in the order of their
+-- flows
 abbrev pub route_of_path : List FlowPath → FlowPath → Route
 route_of_path chosen path = record {
   key = path.key;
@@ -66,7 +67,7 @@ route_of_path chosen path = record {
   letter = letter_of (paths_before chosen path);
 }
 
--- the routes of all paths that are taken
+-- the routes of all chosen paths
 abbrev pub routes_of_paths : List FlowPath → List Route
 routes_of_paths chosen = map (route_of_path chosen) chosen
 

@@ -9,24 +9,24 @@ use Rattle.pcap_flows.specs.Flow.{FlowView}
 abbrev pub Pair : Type 0
 Pair = Received × Received
 
--- both packets came
+-- both packets arrived
 abbrev pub both_came : Pair → Bool
 both_came pair = not (pair.0.number == 0) && not (pair.1.number == 0)
 
--- they have one timestamp
+-- both packets have one timestamp
 abbrev pub has_one_stamp : Pair → Bool
 has_one_stamp pair = pair.0.ts == pair.1.ts
 
--- both came, with one timestamp
+-- both packets arrived, with one timestamp
 abbrev pub is_shared : Pair → Bool
 is_shared pair = both_came pair && has_one_stamp pair
 
--- the numbers of two pairs differ by one difference. Each flow counts its cycles from its own first packet, so the
--- numbers of a common packet may differ, but by the same for all of them
+-- the numbers of two pairs have the same difference. Each flow counts its cycles from its own first packet, so the
+-- numbers of a common packet may differ, but all of them by the same
 abbrev pub has_difference_of : Pair → Pair → Bool
 has_difference_of base pair = pair.0.number + base.1.number == pair.1.number + base.0.number
 
--- a common packet by that difference has two timestamps
+-- both packets arrived and are the same packet by that difference, but their timestamps differ
 abbrev pub contradicts : Pair → Pair → Bool
 contradicts base pair = both_came pair && has_difference_of base pair && not (has_one_stamp pair)
 
@@ -35,7 +35,7 @@ both None other = None
 both (Some one) None = None
 both (Some one) (Some other) = Some (one, other)
 
--- the packets with the same 16 bits
+-- the packets of both flows with these 16 bits
 abbrev pub pair_at : List Received → List Received → ℕ → Option Pair
 pair_at ones others seq = both (slice_get ones seq) (slice_get others seq)
 
@@ -47,7 +47,7 @@ abbrev pub agree_from : List Pair → Option Pair → Bool
 agree_from pairs None = false
 agree_from pairs (Some base) = not (list_any (contradicts base) pairs)
 
--- they have a packet in common, and by its difference none that contradicts it
+-- the flows have a packet in common, and no packet contradicts it
 abbrev pub agree : List Received → List Received → Bool
 agree ones others = agree_from (zip ones others) (first_shared ones others)
 

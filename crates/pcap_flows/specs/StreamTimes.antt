@@ -1,4 +1,4 @@
--- The distance by which a stream's capture time less its timestamp moves, and the clock that an import gives the stream.
+-- The distance by which a stream's capture time less its timestamp moves, and the clock of the stream in an import.
 use Rattle.std.specs.Prelude.{ℕ, ◌^◌, nat_le, nat_lt, ℤ, pos, ◌-ℤ◌, int_lt, if◌then◌else◌, unsigned_abs}
 use Rattle.pcap_flows.specs.declared.import.stream_times.StreamTimes.{StreamTimes}
 use Rattle.rtp_stream.specs.declared.stream_spec.StreamClock.{StreamClock}
@@ -8,7 +8,7 @@ use Rattle.rtp_stream.specs.declared.stream_spec.StreamClock.TheVariants.{Media,
 abbrev pub nearest_to_zero : ℕ → ℤ
 nearest_to_zero n = if nat_lt n (2 ^ 31) then pos n else pos n -ℤ pos (2 ^ 32)
 
--- one packet more, so much later than its timestamp says
+-- the times after one more packet, which came this much later than its timestamp says
 abbrev pub times_with : StreamTimes → ℤ → ℕ → StreamTimes
 times_with t late reading = record t {
   last = reading;
@@ -17,10 +17,11 @@ times_with t late reading = record t {
   end = late;
 }
 
--- the time within which it stays
+-- the time within which the distance stays
 abbrev pub moved_by : StreamTimes → ℕ
 moved_by t = unsigned_abs (t.greatest -ℤ t.least)
 
--- the clock: that of the media with the first packet's offset, if all packets stay within the latency; or else the one that follows its sender
+-- the clock of an import: the media clock with the first packet's offset, if all packets stay within the latency; or
+-- else the clock that follows its sender
 abbrev pub clock_for : StreamTimes → ℕ → StreamClock
 clock_for t latency = if nat_le (moved_by t) latency then Media t.offset else Follow

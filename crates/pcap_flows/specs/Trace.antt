@@ -1,4 +1,4 @@
--- The trace of a capture: its datagrams of the flows that have a route, in order, at readings of the clock.
+-- The trace of a capture: the datagrams of all flows with a route, in order, and the clock readings before them.
 use Rattle.std.specs.Prelude.{◌+◌, nat_lt, if◌then◌else◌, List, [], ◌∷◌, ◌++◌, ℕ, Option, Some, None, Ok, Err, Bool, position, slice_get, option_and_then}
 use Rattle.pcap_file.specs.UdpPacket.{BodyView, Whole, Part, Truncated}
 use Rattle.pcap_file.specs.Packet.{PacketView}
@@ -11,7 +11,7 @@ use Rattle.pcap_flows.specs.declared.import.clock.CaptureClock.{CaptureClock}
 use Rattle.pcap_flows.specs.Clock.{clock_begun, clock_with}
 use Rattle.pcap_flows.specs.TraceLines.{tick_text, arrival_line, close_line}
 
--- a flow's route is the first that names it
+-- the route is for this flow
 abbrev pub is_route_of : FlowKey → Route → Bool
 is_route_of key route = same_flow key route.key
 
@@ -29,13 +29,13 @@ octets_of (Whole udp) = udp.payload
 octets_of Part = []
 octets_of Truncated = []
 
--- a datagram's line, after that of the clock where it goes on
+-- a datagram's line, after the line of the clock if the clock has moved on
 abbrev pub packet_text : CaptureClock → PacketView → Option Route → List ℕ
 packet_text clock packet None = []
 packet_text clock packet (Some route) =
     tick_text clock.reading (clock_with clock packet.time).reading ++ arrival_line route (octets_of packet.ip.body)
 
--- times of other flows move no clock
+-- the clock after a packet; packets without a route do not move it
 abbrev pub packet_clock : CaptureClock → PacketView → Option Route → CaptureClock
 packet_clock clock packet None = clock
 packet_clock clock packet (Some route) = clock_with clock packet.time
@@ -48,7 +48,7 @@ unfoldable pub item_clock : List Route → CaptureClock → Item → CaptureCloc
 item_clock routes clock (Ok packet) = packet_clock clock packet (route_of routes packet)
 item_clock routes clock (Err fault) = clock
 
--- the lines of what is left of a capture, and the close
+-- the lines of the remaining items of a capture, and the close
 unfoldable pub text_from : List Route → CaptureClock → List Item → List ℕ
 text_from routes clock [] = close_line
 text_from routes clock (item ∷ items) = item_text routes clock item ++ text_from routes (item_clock routes clock item) items
@@ -57,7 +57,7 @@ text_from routes clock (item ∷ items) = item_text routes clock item ++ text_fr
 abbrev pub trace_of : List Route → List Item → List ℕ
 trace_of routes items = text_from routes clock_begun items
 
--- the events of a datagram: its own, and before it that of a later reading
+-- the number of a packet's events: its own, and before it a later clock reading, if there is one
 abbrev pub packet_events : CaptureClock → PacketView → Option Route → ℕ
 packet_events clock packet None = 0
 packet_events clock packet (Some route) = if nat_lt clock.reading (clock_with clock packet.time).reading then 2 else 1
@@ -66,11 +66,11 @@ unfoldable pub item_events : List Route → CaptureClock → Item → ℕ
 item_events routes clock (Ok packet) = packet_events clock packet (route_of routes packet)
 item_events routes clock (Err fault) = 0
 
--- how many events the lines of what is left give, with the close
+-- the number of events in the lines of the remaining items, with the close
 unfoldable pub events_from : List Route → CaptureClock → List Item → ℕ
 events_from routes clock [] = 1
 events_from routes clock (item ∷ items) = item_events routes clock item + events_from routes (item_clock routes clock item) items
 
--- those of the whole trace
+-- the number of events of the whole trace
 abbrev pub event_count : List Route → List Item → ℕ
 event_count routes items = events_from routes clock_begun items

@@ -4,7 +4,7 @@ use Rattle.std.specs.Fmt.{decimal}
 use Rattle.hex.specs.Hex.{encode_lower}
 use Rattle.pcap_flows.specs.declared.routes.Route.{Route}
 
--- the line of a reading, where it is a later one
+-- the line of a clock reading, if it is later than the one before
 abbrev pub tick_text : ℕ → ℕ → List ℕ
 tick_text earlier reading = if nat_lt earlier reading then codes "tick " ++ decimal reading ++ 10 ∷ [] else []
 
