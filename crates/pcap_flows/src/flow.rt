@@ -49,7 +49,7 @@ impl Flow {
         self.steps.add(next.seq, next.ts);
     }
 
-    /// Returns the number of all its packets, those with repeated numbers too.
+    /// Returns the number of all its packets, including those with repeated numbers.
     pub(crate) fn packets(&self) -> u64
         ensures { result ≡ self.now.packets }
     {

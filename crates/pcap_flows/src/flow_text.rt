@@ -179,7 +179,7 @@ fn push_steps(text: &mut String, lengths: Lengths, steps: Steps) -> Result<(), A
     }
 }
 
-/// Appends a timestamp step with its sign: one of 2^31 or more goes back.
+/// Appends a timestamp step with its sign: a step of 2^31 or more goes back.
 fn push_step(text: &mut String, step: u32) -> Result<(), AllocError> {
     let (sign, size) = if step < 0x8000_0000 {
         ("", step)

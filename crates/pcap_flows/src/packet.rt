@@ -53,7 +53,7 @@ pub(crate) struct FlowPacket {
     pub time: Option<u64>,
 }
 
-/// Returns the RTP packet in a captured one, or none if it is cut, a fragment or no RTP.
+/// Returns the RTP packet in a captured packet; none if that is cut, a fragment or no RTP.
 #[tactic(auto, unfolding(crate::specs::FlowPacket::flow_packet_of))]
 pub(crate) fn flow_packet(packet: &Packet<'_>) -> Option<FlowPacket>
     ensures { result ≡ flow_packet_of (packet_view packet.now) }

@@ -89,7 +89,7 @@ fn is_named(key: &FlowKey, name: &SocketAddrV4) -> bool
     name.ip().to_bits() == key.to && name.port() == key.to_port
 }
 
-/// Returns the paths to these addresses, or those of all streams with a format if no address is named.
+/// Returns the paths to these addresses, or the paths of all streams with a format if no address is named.
 fn chosen_paths(
     alloc: Global,
     table: &FlowTable,
@@ -101,7 +101,7 @@ fn chosen_paths(
     chosen_among(alloc, table, names, paths.as_slice())
 }
 
-/// Returns those of all paths of a table that are taken.
+/// Returns the chosen paths, out of all paths of a table.
 fn chosen_among(
     alloc: Global,
     table: &FlowTable,
@@ -174,8 +174,8 @@ fn push_route(routes: &mut Vec<Route>, route: Route) -> Result<(), AllocError>
     Ok(())
 }
 
-/// Returns the route of a path among those that are taken. Streams are numbered by their first flows, and the paths of
-/// each by theirs. Returns `Streams` if 16 streams come before.
+/// Returns the route of a chosen path. Streams are numbered in the order of their first flows, and the paths of each in
+/// the order of their flows. Returns `Streams` if 16 streams come before.
 fn route_of_path(chosen: &[FlowPath], path: &FlowPath) -> Result<Route, ImportFault>
     ensures { IfOk result (λ route. route ≡ spec.route_of_path chosen.now path.now) }
 {
@@ -197,12 +197,12 @@ fn letter_of(number: usize) -> u8
     b'a' + number.min(3) as u8
 }
 
-/// Returns the number of streams that have a path among those that are taken.
+/// Returns the number of streams with a chosen path.
 fn streams_among(chosen: &[FlowPath]) -> usize {
     chosen.iter().filter(|path| leads(chosen, path)).count()
 }
 
-/// Returns the number of streams with a path among those that are taken whose first flow is before a place.
+/// Returns the number of streams with a chosen path whose first flow is before a place.
 fn streams_before(chosen: &[FlowPath], first: usize) -> usize
     ensures { result ≡ spec.streams_before chosen.now first }
 {
@@ -236,7 +236,7 @@ fn has_earlier(chosen: &[FlowPath], path: &FlowPath) -> bool
     chosen.iter().any(|other| is_earlier(path, other))
 }
 
-/// Returns true if the other path is one of the same stream, of a flow before it.
+/// Returns true if the other path is of the same stream, and its flow is before this path's flow.
 fn is_earlier(path: &FlowPath, other: &FlowPath) -> bool
     ensures { result ≡ spec.is_earlier path.now other.now }
 {

@@ -60,7 +60,7 @@ fn index_shared(ones: &[Received], others: &[Received]) -> Option<usize>
         .position(|(one, other)| is_shared(one, other))
 }
 
-/// Returns true if by the difference of the numbers of a common packet another one has two timestamps.
+/// Returns true if by this difference of numbers some common packet has two timestamps.
 fn has_contradiction(
     ones: &[Received],
     others: &[Received],
@@ -74,14 +74,14 @@ fn has_contradiction(
         .any(|(one, other)| contradicts(base, other_base, one, other))
 }
 
-/// Returns true if both packets came, with one timestamp.
+/// Returns true if both packets arrived, with one timestamp.
 fn is_shared(one: &Received, other: &Received) -> bool
     ensures { result ≡ spec.is_shared (one.now, other.now) }
 {
     one.number != 0 && other.number != 0 && one.ts == other.ts
 }
 
-/// Returns true if both packets came, with two timestamps, and their numbers differ as those of the base.
+/// Returns true if both packets arrived, with two timestamps, and their numbers differ as those of the base do.
 fn contradicts(base: &Received, other_base: &Received, one: &Received, other: &Received) -> bool
     ensures { result ≡ spec.contradicts (base.now, other_base.now) (one.now, other.now) }
 {

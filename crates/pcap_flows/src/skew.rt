@@ -97,7 +97,7 @@ impl PairTimes {
     }
 }
 
-/// Appends the first of the flows at these places of a table with each further one.
+/// Appends pairs of flows at these places of a table: the first place with each further one.
 pub(crate) fn push_pairs(
     pairs: &mut Vec<FlowPair>,
     table: &FlowTable,

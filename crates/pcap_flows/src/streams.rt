@@ -125,14 +125,14 @@ fn has_further(paths: &[FlowPath], path: &FlowPath) -> bool
     paths.iter().any(|other| is_further(path, other))
 }
 
-/// Returns true if the other path is a further one of the same stream.
+/// Returns true if the other path is a further path of the same stream.
 fn is_further(path: &FlowPath, other: &FlowPath) -> bool
     ensures { result ≡ spec.is_further path.now other.now }
 {
     other.first == path.first && path.path < other.path
 }
 
-/// Returns true if a flow is shown to be an RTP stream: timestamps go on by one step from packet to packet, as often as
+/// Returns true if a flow is taken for an RTP stream: timestamps advance by one step from packet to packet, as often as
 /// in eight packets in a row, and its payload type is none of those that RTCP packets seem to have.
 #[tactic(auto, unfolding(crate::specs::Streams::is_shown))]
 pub(crate) fn is_shown(key: &FlowKey, flow: &Flow) -> bool
@@ -179,12 +179,12 @@ impl StreamFlows {
         self.places.get(..self.len).unwrap_or(&[])
     }
 
-    /// Returns true if one of its flows is shown to be an RTP stream. The others are copies of it.
+    /// Returns true if one of its flows is taken for an RTP stream. The others are copies of it.
     pub(crate) fn is_shown(&self, table: &FlowTable) -> bool {
         self.places().iter().any(|place| is_shown_at(table, *place))
     }
 
-    /// Adds a path, if there is room for one.
+    /// Adds a path, if there is room.
     fn add(&mut self, place: usize) {
         if let Some(free) = self.places.get_mut(self.len) {
             *free = place;

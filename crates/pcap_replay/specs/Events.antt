@@ -15,11 +15,12 @@ use Rattle.pcap_replay.specs.Record.{closing_in}
 use Rattle.pcap_replay.specs.declared.routing.PacketRole.{PacketRole}
 use Rattle.pcap_replay.specs.declared.routing.PacketRole.TheVariants as role
 
--- a reading, counted from a time, that is later than the one before is an event, but where it repeats the opening time
+-- a clock reading, counted from a time, is an event if it is later than the reading before and does not repeat the
+-- opening time
 abbrev pub read_at : ℤ → ℕ → List TraceEvent → ℕ → ℕ → List TraceEvent
 read_at open_at from events earlier reading = if nat_lt earlier reading then turned (time_at open_at events) (pos (from + reading)) events else events
 
--- a datagram that goes to a path arrives at the reading of the clock at its time, and a change of gains comes at one
+-- a datagram that goes to a path arrives at the clock reading of its time, and a change of gains has only that reading
 abbrev pub events_with : ℤ → ℕ → CaptureClock → List TraceEvent → PacketView → PacketRole → List TraceEvent
 events_with open_at from clock events packet role.Passed = events
 events_with open_at from clock events packet (role.Arrival target) =
@@ -27,7 +28,7 @@ events_with open_at from clock events packet (role.Arrival target) =
 events_with open_at from clock events packet role.Change =
     read_at open_at from events clock.reading (clock_with clock packet.time).reading
 
--- packet by packet, after some events
+-- the events after these packets, one by one
 abbrev pub events_after : ℤ → PlanView → CaptureClock → List TraceEvent → List PacketView → List TraceEvent
 events_after open_at plan clock events [] = events
 events_after open_at plan clock events (packet ∷ packets) =
@@ -37,15 +38,16 @@ abbrev pub clock_after : PlanView → CaptureClock → List PacketView → Captu
 clock_after plan clock [] = clock
 clock_after plan clock (packet ∷ packets) = clock_after plan (clock_past clock packet (role_of plan packet)) packets
 
--- those of a capture's packets
+-- the events of a capture's packets
 abbrev pub events_of : Studio → PlanView → List PacketView → List TraceEvent
 events_of studio plan packets = events_after studio.open_at plan (clock_before plan) [] packets
 
--- the clock after them
+-- the clock after a capture's packets
 abbrev pub clock_of : PlanView → List PacketView → CaptureClock
 clock_of plan packets = clock_after plan (clock_before plan) packets
 
--- and a reading at the time of the close, if that is known, with the close behind it
+-- the events of a capture's packets, and a clock reading at the time of the close, if that is known; then with the
+-- close
 abbrev pub closed_events : Studio → PlanView → List PacketView → Option ℕ → List TraceEvent
 closed_events studio plan packets closing =
     read_at studio.open_at (opening_of plan) (events_of studio plan packets) (clock_of plan packets).reading (clock_with (clock_of plan packets) closing).reading
@@ -53,14 +55,15 @@ closed_events studio plan packets closing =
 abbrev pub replay_events : Studio → PlanView → List PacketView → Option ℕ → List TraceEvent
 replay_events studio plan packets closing = closed_events studio plan packets closing ++ Closing ∷ []
 
--- those of a file's entries up to its close, and with it: the marks have its time, if the routing is that of a record
+-- the events of a file's entries before the close; then with the close. The marks have its time if the file is replayed
+-- as a record
 abbrev pub events_told : Studio → PlanView → List Entry → List TraceEvent
 events_told studio plan entries = closed_events studio plan (packets_among entries) (closing_of plan (closing_in entries))
 
 abbrev pub file_events : Studio → PlanView → List Entry → List TraceEvent
 file_events studio plan entries = replay_events studio plan (packets_among entries) (closing_of plan (closing_in entries))
 
--- some events are the first of others
+-- `events` is a prefix of `all`
 pub record AreFirst (events all : List TraceEvent) : Type 0 where
   pub later : List TraceEvent
   pub whole : events ++ later ≡ all

@@ -1,8 +1,8 @@
--- The events that are known of an observer that may be absent.
+-- The events that an observer received, if there is an observer.
 use Rattle.std.specs.Prelude.{ℕ, List, Option, Some, None, ⊤}
 use Rattle.studio_session.specs.Event.{TraceEvent}
 
--- if there is one, it received these events and datagrams; if there was none, there is none
+-- an observer, if there is one, received these events and datagrams; if there was none before, there is none now
 abbrev pub HasHeardIf : {X : Type 0} → (X → X → List TraceEvent → List (List ℕ) → Type 0) → Option X → Option X → List TraceEvent → List (List ℕ) → Type 0
 HasHeardIf heard None None events datagrams = ⊤
 HasHeardIf heard None (Some now) events datagrams = ⊥

@@ -12,7 +12,7 @@ abbrev pub bits_of : Enc → ℕ
 bits_of L16 = 16
 bits_of L24 = 24
 
--- the configuration of a stream as a record has it
+-- the configuration of a stream in a record
 abbrev pub recorded_of : Stream → RecordedStream
 recorded_of stream = record {
   bits = bits_of stream.enc;
@@ -26,11 +26,11 @@ recorded_of stream = record {
 abbrev pub HasDescription : Stream → List ℕ → Type 0
 HasDescription stream description = (description ≡ []) ⊎ (description ≡ description_of (recorded_of stream))
 
--- the path with a letter of a stream with a number, by its name and its description
+-- the path with this letter, of the stream with this number, by its name and its description
 abbrev pub IsPathOf : ℕ → Stream → ℕ → RecordedPath → Type 0
 IsPathOf number stream letter path = (path.name.items ≡ interface_text number letter) × HasDescription stream path.description.items
 
--- so many paths of a stream stand first, from a letter on, and the rest behind them
+-- `count` paths of a stream come first, from this letter on, and `rest` behind them
 abbrev pub Begins : ℕ → Stream → ℕ → ℕ → List RecordedPath → List RecordedPath → Type 0
 Begins number stream letter zero paths rest = paths ≡ rest
 Begins number stream letter (suc count) [] rest = ⊥
@@ -46,7 +46,7 @@ AreBehind [] = Unit {0}
 AreBehind (interface ∷ []) = IsOfGains interface
 AreBehind (interface ∷ other ∷ more) = ⊥
 
--- the paths of streams, whose numbers count up from this one: all paths of each, from a on
+-- the paths of streams, with numbers that count up from this one: all paths of each stream, from a on
 abbrev pub ArePathsOf : ℕ → List Stream → List RecordedPath → Type 0
 ArePathsOf number [] paths = AreBehind paths
 ArePathsOf number (stream ∷ streams) paths =

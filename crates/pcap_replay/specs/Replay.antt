@@ -29,7 +29,8 @@ use Rattle.pcap_replay.specs.Routing.{PlanView, Flows, Interfaces}
 use Rattle.pcap_replay.specs.Record.{closing_in}
 use Rattle.pcap_replay.specs.RecordChanges.{AreAllButLast, changed_by}
 
--- the engine took these events, the lines of the datagrams that it returned were written or are held, and an observer received both
+-- the engine took these events, the lines of the datagrams that it returned are written or held, and the observer
+-- received both
 pub record HasReplayed (studio : Studio) (events : List TraceEvent) (written : Option (List ℕ)) (run : ReplayState) (written_then : Option (List ℕ)) (heard : Hearing) : Type 0 where
   pub datagrams : List (List ℕ)
   pub session : HasSession studio run.engine events datagrams
@@ -38,13 +39,14 @@ pub record HasReplayed (studio : Studio) (events : List TraceEvent) (written : O
   pub wrote : PassesOn written [] written_then run.text (datagrams_text datagrams)
   pub told : heard events datagrams
 
--- before the first event
+-- the run before the first event
 pub record HasBegun (studio : Studio) (run : ReplayState) : Type 0 where
   pub session : HasSession studio run.engine [] []
   pub rested : run.engine.turning ≡ false
   pub none : run.text ≡ []
 
--- an observer received a prefix of these events, whose readings are in order, and some of the datagrams that they all give
+-- the observer received a prefix of these events, whose clock readings are in order, and some of the datagrams of all
+-- of them
 pub record HasHeardFirst (studio : Studio) (events : List TraceEvent) (heard : Hearing) : Type 0 where
   pub runs : IsRunnableBy studio events
   pub earlier : List TraceEvent
@@ -53,7 +55,7 @@ pub record HasHeardFirst (studio : Studio) (events : List TraceEvent) (heard : H
   pub first : AreFirstBlocks studio (feeds_of studio events) datagrams
   pub told : heard earlier datagrams
 
--- a prefix of the lines of the datagrams that these events give was written
+-- a prefix of the lines of these events' datagrams was written
 pub record BreaksAt (studio : Studio) (events : List TraceEvent) (written written_then : Option (List ℕ)) (heard : Hearing) : Type 0 where
   pub datagrams : List (List ℕ)
   pub first : AreFirstBlocks studio (feeds_of studio events) datagrams
@@ -61,7 +63,8 @@ pub record BreaksAt (studio : Studio) (events : List TraceEvent) (written writte
   pub wrote : Appends written written_then (take count (datagrams_text datagrams))
   pub told : HasHeardFirst studio events heard
 
--- a fault came after these events: a prefix was written, or what is written and held is whole
+-- a fault came after these events: a failed write left a prefix of the lines, and after any other fault the lines
+-- written and held are whole
 abbrev pub StopsAt : Studio → List TraceEvent → Option (List ℕ) → ReplayState → Option (List ℕ) → Hearing → ReplayFault → Type 0
 StopsAt studio events written run written_then heard Memory = ⊥
 StopsAt studio events written run written_then heard (Capture fault) = HasReplayed studio events written run written_then heard
@@ -70,7 +73,7 @@ StopsAt studio events written run written_then heard (Change number kind) = HasR
 StopsAt studio events written run written_then heard TooManyEvents = HasReplayed studio events written run written_then heard
 StopsAt studio events written run written_then heard Write = BreaksAt studio events written written_then heard
 
--- it came before all of these events were taken
+-- a fault came before all of these events were taken
 pub record Stops (studio : Studio) (all : List TraceEvent) (written : Option (List ℕ)) (run : ReplayState) (written_then : Option (List ℕ)) (heard : Hearing) (fault : ReplayFault) : Type 0 where
   pub events : List TraceEvent
   pub first : AreFirst events all
@@ -83,37 +86,37 @@ pub record BeginsWith (file : List ℕ) (entries : List Entry) : Type 0 where
   pub later : List Entry
   pub all : entries_of file ≡ entries ++ later
 
--- the events of these packets were taken by the studio with their changes, and the clock is theirs
+-- the studio with the changes in these packets took their events, and the clock is the one after them
 pub record HasTaken (studio : Studio) (plan : PlanView) (packets : List PacketView) (written : Option (List ℕ)) (run : ReplayState) (written_then : Option (List ℕ)) (heard : Hearing) : Type 0 where
   pub clock : run.clock ≡ clock_of plan packets
   pub replayed : HasReplayed (changed_by studio plan packets) (events_of studio plan packets) written run written_then heard
 
--- the packets among the entries of a file so far were replayed, and this is known of the close
+-- the packets among the file's entries so far were replayed, and `closing` is the time of the close among these entries
 pub record IsReplaying (studio : Studio) (plan : PlanView) (first : Option (List ℕ)) (written : Option (List ℕ)) (run : ReplayState) (parts : BlockParser) (held : List ℕ) (ended : Bool) (left written_then : Option (List ℕ)) (heard : Hearing) (closing : Option ℕ) : Type 0 where
   pub entries : List Entry
   pub told : IfSome first (λ file. HasReturned file entries left parts held ended)
   pub taken : HasTaken studio plan (packets_among entries) written run written_then heard
   pub closes : closing ≡ closing_in entries
 
--- a file ends behind these entries: it has no fault, or, of a record, its last block is cut
+-- a file ends behind these entries: it has no fault, or it is a record whose last block is cut
 abbrev pub EndsAt : PlanView → List ℕ → List Entry → Type 0
 EndsAt (Flows routes) file entries = HasEntries file entries
 EndsAt (Interfaces streams open_at changes) file entries = HasEntries file entries ⊎ IsCutBehind file entries
 
--- those of a whole file were
+-- the packets of a whole file were replayed
 pub record HasGoneOver (studio : Studio) (plan : PlanView) (first : Option (List ℕ)) (written : Option (List ℕ)) (run : ReplayState) (written_then : Option (List ℕ)) (heard : Hearing) (closing : Option ℕ) : Type 0 where
   pub entries : List Entry
   pub told : IfSome first (λ file. EndsAt plan file entries)
   pub taken : HasTaken studio plan (packets_among entries) written run written_then heard
   pub closes : closing ≡ closing_in entries
 
--- and a reading at the time of the close, if its marks have one
+-- the packets of a whole file and a clock reading at the time of the close, if the marks have one, were replayed
 pub record HasComeToClose (studio : Studio) (plan : PlanView) (first : Option (List ℕ)) (written : Option (List ℕ)) (run : ReplayState) (written_then : Option (List ℕ)) (heard : Hearing) : Type 0 where
   pub entries : List Entry
   pub told : IfSome first (λ file. EndsAt plan file entries)
   pub replayed : HasReplayed (changed_by studio plan (packets_among entries)) (events_told studio plan entries) written run written_then heard
 
--- a file's fault is the one behind its packets
+-- a fault of the file is the one behind these entries
 abbrev pub IsFileFault : List ℕ → List Entry → ReaderFault → Type 0
 IsFileFault file entries reader.ReadFailed = Unit {0}
 IsFileFault file entries (reader.Capture fault) = packets_of file ≡ map Ok (packets_among entries) ++ Err fault ∷ []
@@ -128,7 +131,8 @@ IsReason file entries (Change number kind) = Unit {0}
 IsReason file entries TooManyEvents = Unit {0}
 IsReason file entries Write = Unit {0}
 
--- a fault came among the events of a file's first entries; the changes of all of these were taken, or of all but the last packet
+-- a fault came among the events of a file's first entries; the changes in all of these packets were taken, or in all
+-- but the last
 pub record StopsFile (studio : Studio) (plan : PlanView) (first : Option (List ℕ)) (written : Option (List ℕ)) (run : ReplayState) (written_then : Option (List ℕ)) (heard : Hearing) (fault : ReplayFault) : Type 0 where
   pub entries : List Entry
   pub told : IfSome first (λ file. BeginsWith file entries × IsReason file entries fault)
@@ -136,28 +140,29 @@ pub record StopsFile (studio : Studio) (plan : PlanView) (first : Option (List �
   pub among : AreAllButLast changed (packets_among entries)
   pub stops : Stops (changed_by studio plan changed) (events_told studio plan entries) written run written_then heard fault
 
--- an observer received all these events, whose readings are in order, and exactly the datagrams that they give
+-- the observer received all these events, whose clock readings are in order, and exactly their datagrams
 pub record HasHeardAll (studio : Studio) (events : List TraceEvent) (heard : Hearing) : Type 0 where
   pub runs : IsRunnableBy studio events
   pub datagrams : List (List ℕ)
   pub given : AreDatagrams studio events datagrams
   pub told : heard events datagrams
 
--- the report of a file's events was written, by the studio with the changes of its packets, and an observer received them; the file
--- ends behind them
+-- the report of a file's events was written, by the studio with the changes in its packets, and the observer received
+-- the events and their datagrams; the file ends behind them
 pub record WritesReplay (studio : Studio) (plan : PlanView) (left : Option (List ℕ)) (written written_then : Option (List ℕ)) (heard : Hearing) : Type 0 where
   pub entries : List Entry
   pub told : IfSome left (λ file. EndsAt plan file entries)
   pub writes : WritesEvents (changed_by studio plan (packets_among entries)) IsReport (file_events studio plan entries) written written_then
   pub hears : HasHeardAll (changed_by studio plan (packets_among entries)) (file_events studio plan entries) heard
 
--- a prefix of the report of events was written: of its datagrams, or of all
+-- a prefix of the report of these events was written: of the lines of its datagrams, or of the whole report
 abbrev pub BreaksReport : Studio → List TraceEvent → Option (List ℕ) → Option (List ℕ) → Hearing → Type 0
 BreaksReport studio events written written_then heard =
     BreaksAt studio events written written_then heard
     ⊎ (((report : List ℕ) → IsReport studio events report → BreaksOff written [] written_then report) × HasHeardAll studio events heard)
 
--- a prefix of it was: of the datagrams of its first events, or of all; the changes of all packets were taken, or of all but the last
+-- a prefix of the report of a file's first events was written; the changes in all packets of its first entries were
+-- taken, or in all but the last
 pub record WritesFront (studio : Studio) (plan : PlanView) (left : Option (List ℕ)) (written written_then : Option (List ℕ)) (heard : Hearing) (fault : ReplayFault) : Type 0 where
   pub entries : List Entry
   pub told : IfSome left (λ file. BeginsWith file entries × IsReason file entries fault)
@@ -167,7 +172,7 @@ pub record WritesFront (studio : Studio) (plan : PlanView) (left : Option (List 
   pub among : AreAllButLast changed (packets_among entries)
   pub front : BreaksReport (changed_by studio plan changed) events written written_then heard
 
--- why the report was not written: memory was refused before, or a fault came after a part of it
+-- what was written before a fault: nothing if an allocation failed at the start, else a prefix of the report
 abbrev pub BreaksOffReplay : Studio → PlanView → Option (List ℕ) → Option (List ℕ) → Option (List ℕ) → Hearing → ReplayFault → Type 0
 BreaksOffReplay studio plan left written written_then heard Memory = (written_then ≡ written) × heard [] []
 BreaksOffReplay studio plan left written written_then heard (Capture fault) = WritesFront studio plan left written written_then heard (Capture fault)
@@ -176,14 +181,15 @@ BreaksOffReplay studio plan left written written_then heard (Change number kind)
 BreaksOffReplay studio plan left written written_then heard TooManyEvents = WritesFront studio plan left written written_then heard TooManyEvents
 BreaksOffReplay studio plan left written written_then heard Write = WritesFront studio plan left written written_then heard Write
 
--- behind a fault what was held is written: all of it, or a part, which is a fault of its own; nothing behind a write that failed
+-- after a fault the lines that are held are written: all of them, or a part, which is a fault of its own; nothing after
+-- a failed write
 abbrev pub EndsBehind : List ℕ → Option (List ℕ) → Option (List ℕ) → ReplayFault → ReplayFault → Type 0
 EndsBehind held written written_then fault result =
     ((fault ≡ Write) × (result ≡ Write) × (written_then ≡ written))
     ⊎ ((fault ≢ Write) × (((result ≡ fault) × Appends written written_then held)
     ⊎ ((result ≡ Write) × ((n : ℕ) × (n < length held) × Appends written written_then (take n held)))))
 
--- an event or a change of gains is at fault, or there are too many events
+-- the fault is that of an event or of a change of gains, or there are too many events
 abbrev pub IsRun : ReplayFault → Type 0
 IsRun Memory = ⊥
 IsRun (Capture fault) = ⊥
@@ -192,7 +198,7 @@ IsRun (Change number kind) = Unit {0}
 IsRun TooManyEvents = Unit {0}
 IsRun Write = ⊥
 
--- or a write failed
+-- the fault is that of an event or of a change of gains, there are too many events, or a write failed
 abbrev pub IsOwn : ReplayFault → Type 0
 IsOwn Memory = ⊥
 IsOwn (Capture fault) = ⊥
@@ -201,7 +207,7 @@ IsOwn (Change number kind) = Unit {0}
 IsOwn TooManyEvents = Unit {0}
 IsOwn Write = Unit {0}
 
--- a studio of these streams took some events, and may be closed
+-- some studio with these streams took some events, and may be closed
 pub record CanClose (streams : List Stream) (run : ReplayState) (written_then : Option (List ℕ)) : Type 0 where
   pub studio : Studio
   pub same : studio.streams ≡ streams

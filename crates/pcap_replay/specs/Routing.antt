@@ -1,4 +1,4 @@
--- The path to which each datagram of a capture goes, and the time from which its readings count.
+-- The path to which each datagram of a capture goes, and the time from which clock readings count.
 use Rattle.std.specs.Prelude.{ℕ, ◌+◌, ◌-◌, nat_lt, ◌==◌, List, [], ◌∷◌, Option, Some, None, if◌then◌else◌}
 use Rattle.pcap_file.specs.Packet.{PacketView}
 use Rattle.pcap_flows.specs.declared.import.clock.CaptureClock.{CaptureClock}
@@ -15,8 +15,9 @@ use Rattle.pcap_replay.specs.declared.routing.PacketRole.TheVariants as role
 use Rattle.pcap_replay.specs.declared.changes.RecordedChanges.{RecordedChanges}
 use Rattle.pcap_replay.specs.declared.changes.RecordedChanges.TheVariants.{Taken, Skipped}
 
--- flows have routes, and readings count from the first time; or interfaces are the places of these streams' paths, readings count
--- from an opening time, in sampling instants, and the changes of gains are taken or skipped
+-- the routing of a capture: flows have routes, and readings count from the first time; or interfaces are the places of
+-- these streams' paths, readings count from an opening time, in sampling instants, and changes of gains are taken or
+-- skipped
 pub data PlanView : Type 0 where
   Flows : List Route → PlanView
   Interfaces : List Stream → ℕ → RecordedChanges → PlanView
@@ -26,17 +27,18 @@ abbrev pub plan_view : declared.Routing → PlanView
 plan_view (plan.Flows routes) = Flows routes.now
 plan_view (plan.Interfaces streams open_at changes) = Interfaces streams.now open_at changes
 
--- the path that a letter names, from `a`, 97, on
+-- the path with a letter, which is `a`, 97, for path 0
 abbrev pub path_of : ℕ → ℕ
 path_of letter = letter - 97
 
--- a change of gains is one, or nothing
+-- the role of a change of gains, which is taken or skipped
 abbrev pub role_by : RecordedChanges → PacketRole
 role_by Taken = role.Change
 role_by Skipped = role.Passed
 
--- what a packet at a place is: a datagram of the path at that place among those of all streams, one stream after another, or, at
--- the place behind them, a change of gains; past that it's one of a stream that is none
+-- the role of a packet on an interface: a datagram of the path at that place among those of all streams, one stream
+-- after another, or, at the place behind them, a change of gains; an interface past that is a path of a stream that
+-- does not exist
 unfoldable pub role_at : RecordedChanges → ℕ → List Stream → ℕ → PacketRole
 role_at changes number [] place = if place == 0 then role_by changes else role.Arrival (record { stream = number; path = 0 })
 role_at changes number (stream ∷ streams) place =
@@ -47,7 +49,7 @@ abbrev pub role_of_route : Option Route → PacketRole
 role_of_route None = role.Passed
 role_of_route (Some route) = role.Arrival (record { stream = route.stream; path = path_of route.letter })
 
--- what a packet is, and where it goes: by its flow's route, or by its interface
+-- the role of a packet: by its flow's route, or by its interface
 abbrev pub role_of : PlanView → PacketView → PacketRole
 role_of (Flows routes) packet = role_of_route (route_of routes packet)
 role_of (Interfaces streams open_at changes) packet = role_at changes 0 streams packet.interface
@@ -62,17 +64,18 @@ abbrev pub clock_before : PlanView → CaptureClock
 clock_before (Flows routes) = clock_begun
 clock_before (Interfaces streams open_at changes) = clock_with clock_begun (Some 0)
 
--- the time of the close by the marks, which count only in a record
+-- the time of the close by the marks, which counts only in a record
 abbrev pub closing_of : PlanView → Option ℕ → Option ℕ
 closing_of (Flows routes) told = None
 closing_of (Interfaces streams open_at changes) told = told
 
--- packets that go nowhere move no clock
+-- the clock after a packet; a packet that goes nowhere does not move it
 abbrev pub clock_past : CaptureClock → PacketView → PacketRole → CaptureClock
 clock_past clock packet role.Passed = clock
 clock_past clock packet (role.Arrival target) = clock_with clock packet.time
 clock_past clock packet role.Change = clock_with clock packet.time
 
--- a record of a studio's run: interfaces are the places of its paths, and readings count from its opening
+-- the routing of a record of this studio's run: interfaces are the places of its paths, and readings count from its
+-- opening
 abbrev pub places_of : Studio → RecordedChanges → PlanView
 places_of studio changes = Interfaces studio.streams (natural studio.open_at) changes

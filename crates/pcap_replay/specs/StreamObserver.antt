@@ -4,6 +4,6 @@ use Rattle.studio_session.specs.Event.{TraceEvent}
 use Rattle.wav_file.specs.StreamEvents.{HasFollowed, StreamWavState}
 use Rattle.pcap_replay.specs.Observed.{HasHeardIf}
 
--- a stream's file that there may be follows the events, whatever the datagrams
+-- the file of a stream, if there is one, follows these events, whatever the datagrams
 abbrev pub HasFollowedIf : Option StreamWavState → Option StreamWavState → List TraceEvent → List (List ℕ) → Type 0
 HasFollowedIf first now events datagrams = HasHeardIf (λ first now events _. HasFollowed first now events) first now events datagrams

@@ -9,19 +9,20 @@ use Rattle.wav_file.specs.MixWav.{HasAdded}
 use Rattle.wav_file.specs.MixSamples.{samples_in}
 use Rattle.pcap_replay.specs.Observed.{HasHeardIf}
 
--- the view of a file that is written: its octets, if its contents are known, its format and count, and whether a write failed
+-- the view of a file that is written: its octets, if its contents are known, its format and count, and whether a write
+-- failed
 pub record SoundState : Type 0 where
   pub made : Option (List ℕ)
   pub wav : WavState
   pub failed : Bool
 
--- its contents are known, and they are its header alone
+-- the contents of the file are known, and are its header alone
 pub record HasHead (sound : SoundState) : Type 0 where
   pub whole : sound.failed ≡ false
   pub none : sound.wav.count ≡ 0
   pub made : sound.made ≡ Some (header_octets sound.wav.format 0)
 
--- the samples of the first so many of these datagrams were added, whole payloads, and a rest that isn't counted
+-- the samples of the first `count` of these datagrams were added, whole payloads, and a rest that isn't counted
 pub record HasAddedFirst (first now : SoundState) (datagrams : List (List ℕ)) : Type 0 where
   pub count : ℕ
   pub within : count ≤ length datagrams
@@ -30,7 +31,7 @@ pub record HasAddedFirst (first now : SoundState) (datagrams : List (List ℕ)) 
   pub counted : now.wav.count ≡ first.wav.count + length (samples_in first.wav.format.enc (take count datagrams))
   pub format : now.wav.format ≡ first.wav.format
 
--- those of all were; or, once a write failed, of the first
+-- the samples of all these datagrams were added; or, once a write failed, of some first ones
 abbrev pub HasAddedBy : Bool → SoundState → SoundState → List (List ℕ) → Type 0
 HasAddedBy false first now datagrams = HasAdded first.made now.made first.wav now.wav (samples_in first.wav.format.enc datagrams)
 HasAddedBy true first now datagrams = HasAddedFirst first now datagrams
@@ -38,11 +39,11 @@ HasAddedBy true first now datagrams = HasAddedFirst first now datagrams
 abbrev pub HasSounded : SoundState → SoundState → List (List ℕ) → Type 0
 HasSounded first now datagrams = HasAddedBy now.failed first now datagrams
 
--- the same of one that there may be, whatever the events
+-- the samples of these datagrams were added to a file, if there is one, whatever the events
 abbrev pub HasSoundedIf : Option SoundState → Option SoundState → List TraceEvent → List (List ℕ) → Type 0
 HasSoundedIf first now events datagrams = HasHeardIf (λ first now _ datagrams. HasSounded first now datagrams) first now events datagrams
 
--- a file that holds the samples of the first so many of these datagrams, with the sizes of these, and a rest that doesn't count
+-- the file has the samples of the first `count` of these datagrams, with their sizes, and a rest that isn't counted
 pub record HasFront (format : WavFormat) (made : Option (List ℕ)) (datagrams : List (List ℕ)) : Type 0 where
   pub count : ℕ
   pub within : count ≤ length datagrams

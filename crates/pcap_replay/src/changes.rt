@@ -1,4 +1,4 @@
-//! The changes of gains of a record, handed to an engine again.
+//! The changes of gains of a record, passed to an engine again.
 ghost use Rattle.std.specs.Prelude.{◌≡◌, ℕ, List, pos, ◌+ℤ◌, FitsSigned, IfErr, IfSome, OnErr, OnOk};
 ghost use Rattle.std.specs.Int.{w64};
 ghost use Rattle.pcap_file.specs.RecordedChange.{change_of};
@@ -17,15 +17,15 @@ use pcap_file::{ChangeHead, MAX_RECORDED_GAINS, read_change};
 /// The rule for the changes of gains of a record.
 #[derive(Clone, Copy, Debug, PartialEq, Eq)]
 pub enum RecordedChanges {
-    /// They are handed to the engine where the run took them.
+    /// They are passed to the engine where the run took them.
     Taken,
     /// They are passed over, as if the run had taken none.
     Skipped,
 }
 
 impl ReplayState {
-    /// Hands the change that a packet's octets spell to the engine. Its time counts from an opening. A change that is
-    /// refused, and octets that spell none, change nothing.
+    /// Passes the change in a packet's octets to the engine. Its time counts from an opening. A change that is
+    /// refused, and octets that are no change, change nothing.
     pub(crate) fn change(&mut self, from: u64, octets: &[u8]) -> Result<(), ReplayFault>
         ensures ok { OnOk result ((studio : Studio) (events : List TraceEvent) (datagrams : List (List ℕ))
             → HasSession studio self.old.engine events datagrams

@@ -64,7 +64,7 @@ use studio_engine::{ArriveFault, Engine};
 use studio_session::StudioFault;
 
 impl ReplayState {
-    /// Takes the events of all that is left of a capture, up to its end. Returns the time of the first mark of a close,
+    /// Takes the events of the rest of a capture, up to its end. Returns the time of the first mark of a close,
     /// if there is one, in nanoseconds from the studio's opening on.
     pub(crate) fn run_events<R: Read, W: Write, L: ReplayObserver>(
         &mut self,
@@ -234,7 +234,7 @@ impl ReplayState {
     }
 
     /// Takes a clock reading at a packet's time, from an opening on, and its change of gains.
-    // The run had turned to that reading when it took the change. So the same blocks are given before it, and the
+    // The run had turned to that reading when it took the change. So the same blocks are returned before it, and the
     // schedule has the same free places.
     fn take_change<W: Write, L: ReplayObserver>(
         &mut self,

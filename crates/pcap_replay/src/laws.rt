@@ -23,8 +23,8 @@ ghost use Rattle.pcap_replay.specs.RecordPackets.{
   kept_events,
 };
 
-/// States that the packets of a run's arrivals and changes of gains and the time of its close give the events of the
-/// run and its changes, except for each reading that another one follows directly. By
+/// States that the packets of a run's arrivals and changes of gains and the time of its close have the events of the
+/// run and its changes, except for each reading that another reading follows directly. By
 /// `studio_session::readings_may_be_left_out` such readings change no datagram and no count.
 pub fn a_record_says_its_run()
     ensures events { (studio : Studio) (steps : List Step) (packets : List PacketView) (closing : Option ℕ)

@@ -7,13 +7,13 @@
 //!    from what comes before its first packet.
 //! 2. For a record, `recorded_paths` returns the paths that it describes, and `recording_fault` how they
 //!    differ from a studio's. `replay_record` then reads the file, with the studio of that run, up to
-//!    the close that the record contains. It hands in the changes of gains that the run took, or skips
-//!    them. A last block that is cut ends the record before it.
+//!    the close that the record contains. It passes on the changes of gains that the run took, or
+//!    skips them. A last block that is cut ends the record before it.
 //! 3. For any other capture, `scan_flows` finds the flows, from which `pcap_flows` makes routes.
 //!    `replay` then writes the report of the same events as in the trace that `pcap_flows` would
 //!    write.
 //!
-//! A `ReplayObserver` is called with these events and with the datagrams that they give.
+//! A `ReplayObserver` is called with these events and with their datagrams.
 //! `WavObserver` writes the datagrams to a WAV file, and `wav_file::StreamWav` the samples of one
 //! stream.
 #![tactic(auto)]

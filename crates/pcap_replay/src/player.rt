@@ -67,7 +67,7 @@ pub fn replay<R: Read, W: Write, L: ReplayObserver>(
 /// Reads the record of a run of this studio once, and writes its report as `replay` does. Interfaces are numbered
 /// through the paths of all streams, and times are nanoseconds from the studio's opening on. The studio is closed
 /// behind all packets, at the time of the first mark of a close; if there is none, at the last packet's reading. The
-/// changes of gains of the run are handed in where the run took them, or skipped.
+/// changes of gains of the run are passed to the engine where the run took them, or skipped.
 ///
 /// A last block that the file's end cuts ends the record before it: its fault is returned behind the whole report.
 pub fn replay_record<R: Read, W: Write, L: ReplayObserver>(

@@ -44,7 +44,7 @@ const FIRST_LETTER: u8 = b'a';
 const GAINS: &[u8] = b"gains";
 
 /// A path of a record: its name, and the description of its stream's configuration, as its interface has them. The
-/// interface of changes of gains is listed as one more.
+/// interface of changes of gains is listed as a further path.
 #[derive(Drop)]
 pub struct RecordedPath {
     name: Vec<u8>,
@@ -222,7 +222,7 @@ fn are_behind(interfaces: &[RecordedPath]) -> bool
     }
 }
 
-/// Returns the paths behind so many paths of a stream, of which the first has this letter. If they do not stand there,
+/// Returns the paths behind this many paths of a stream, of which the first has this letter. If these are not there,
 /// returns the paths from the first one on that is not in its place.
 fn paths_behind_stream<'a>(
     paths: &'a [RecordedPath],
