@@ -15,7 +15,7 @@ pub record BinsState : Type 0 where
   pub axis : Axis
   pub counts : List ℕ
 
--- the row of a kind: of a packet that was taken that of its path
+-- the row of a kind; a packet that was taken has the row of its path
 abbrev pub row_of : ReceptionKind → ℕ
 row_of (Taken path) = path
 row_of Double = 4
@@ -28,14 +28,14 @@ row_of Restart = 8
 abbrev pub bin_of : Axis → ℤ → ℕ
 bin_of axis time = span_of axis.first axis.span axis.bins time
 
--- it is of this row, and of this span
+-- the event is of this row and in this bin
 abbrev pub is_in : Axis → ℕ → ℕ → BinEvent → Bool
 is_in axis bin row event = nat_eq (bin_of axis event.time) bin && nat_eq (row_of event.kind) row
 
--- how many are
+-- the number of events of this row and in this bin
 abbrev pub count_in : Axis → List BinEvent → ℕ → ℕ → ℕ
 count_in axis events bin row = count_by (is_in axis bin row) events
 
--- each count is that of exactly these
+-- each count is the number of events of its row and in its bin
 pub record HasCounted (bins : BinsState) (events : List BinEvent) : Type 0 where
   pub each : (bin row : ℕ) → bin < bins.axis.bins → row < 9 → get_or bins.counts (9 * bin + row) 0 ≡ count_in bins.axis events bin row

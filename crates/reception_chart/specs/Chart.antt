@@ -1,4 +1,4 @@
--- The drawing of a trace, and the reasons for which there may be none.
+-- The chart of a trace, and the reasons why there may be none.
 use Rattle.std.specs.Prelude.{◌≡◌, ℕ, List, Option, None, Ok, ⊤}
 use Rattle.std.specs.Io.KnownBytes.{Appends, Consumes, IsAtEnd}
 use Rattle.studio_config.specs.Studio.{Studio}
@@ -10,7 +10,7 @@ use Rattle.studio_run.specs.StudioReport.{IsReport}
 use Rattle.studio_run.specs.declared.player.PlayFault.{PlayFault}
 use Rattle.studio_run.specs.declared.player.PlayFault.TheVariants.{Read, Memory, Trace, Run, Write}
 
--- all that was left of an input is a trace with no fault, and one text was written
+-- the rest of an input is a trace with no fault, and one text was written
 pub record Draws (studio : Studio) (left left_then written written_then : Option (List ℕ)) : Type 0 where
   pub trace : List ℕ
   pub read : Consumes left left_then trace
@@ -21,7 +21,7 @@ pub record Draws (studio : Studio) (left left_then written written_then : Option
   pub svg : List ℕ
   pub wrote : Appends written written_then svg
 
--- why it was not: before the first write as for the report
+-- what was written before a fault: with a fault before the first write, the same as for the report
 abbrev pub FailsDrawing : Studio → Option (List ℕ) → Option (List ℕ) → Option (List ℕ) → Option (List ℕ) → PlayFault → Type 0
 FailsDrawing studio left left_then written written_then Read = written_then ≡ written
 FailsDrawing studio left left_then written written_then Memory = written_then ≡ written

@@ -1,8 +1,8 @@
-//! An SVG chart of a trace: what each path gave to each stream, over media time.
+//! An SVG chart of a trace: what each path brought to each stream, over media time.
 //!
 //! `chart` does all of it: it reads a trace to its end as `studio_run::play` does, and writes one SVG.
 //!
-//! If events come one by one, as from a capture, a `StudioTracker` takes them for all streams. A chart
+//! If events arrive one by one, as from a capture, a `StudioTracker` takes them for all streams. A chart
 //! takes all events twice. In the first pass each stream has an `Extent`, which finds its media time.
 //! In the second it has a `PanelData`, which counts packets, slots and arrival margins.
 //!

@@ -1,5 +1,5 @@
--- The `bext` chunk of a Broadcast Wave file (EBU Tech 3285), version 1, and the stamp of a time in a file's name. A time is counted in
--- sampling instants at 48 kHz since 1970-01-01T00:00:00Z.
+-- The `bext` chunk of a Broadcast Wave file (EBU Tech 3285), version 1, and the stamp of a time in a file's name. A
+-- time is counted in sampling instants at 48 kHz since 1970-01-01T00:00:00Z.
 use Rattle.std.specs.Prelude.{◌≡◌, ℕ, ◌+◌, ◌/◌, ◌%◌, min, pos, unsigned_abs, List, [], ◌∷◌, ◌++◌, codes, replicate}
 use Rattle.byteorder.specs.Endian.{little_bytes}
 use Rattle.jiff_core.specs.declared.civil.date.Date.{Date}
@@ -25,20 +25,20 @@ IsDateAt at date = epoch_day date ≡ pos (min (at / 4147200000) 2932896)
 abbrev pub bext_front : List ℕ
 bext_front = codes "bext" ++ little_bytes 4 602 ++ replicate 256 0 ++ codes "darbexum" ++ replicate 56 0
 
--- behind the time of day: the sampling instants since midnight; version 1, without a UMID
+-- the chunk behind the time of day: the sampling instants since midnight; version 1, without a UMID
 abbrev pub bext_back : ℕ → List ℕ
 bext_back instant = little_bytes 8 instant ++ little_bytes 2 1 ++ replicate 254 0
 
 abbrev pub bext_octets : Date → ℕ → List ℕ
 bext_octets date instant = bext_front ++ (date_text (codes "-") date ++ (time_text (codes ":") instant ++ bext_back instant))
 
--- the chunk of a file whose first sample is of this time
+-- the `bext` chunk of a file whose first sample has this time
 pub record IsBext (at : ℕ) (text : List ℕ) : Type 0 where
   pub date : Date
   pub day : IsDateAt at date
   pub octets : text ≡ bext_octets date (at % 4147200000)
 
--- the stamp of a time, as 20261128T174501Z
+-- the stamp of a time, such as 20261128T174501Z
 pub record IsStamp (at : ℕ) (text : List ℕ) : Type 0 where
   pub date : Date
   pub day : IsDateAt at date

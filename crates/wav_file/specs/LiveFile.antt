@@ -1,16 +1,17 @@
--- A WAV file that is written live: its header is renewed while samples are added.
+-- A WAV file that is written live: its header is written again while samples are added.
 use Rattle.std.specs.Prelude.{◌≡◌, ℕ, ◌+◌, List, [], ◌∷◌, ◌++◌, length, take, drop, ⊤, Option, Some, None}
 use Rattle.wav_file.specs.declared.header.WavFormat.{WavFormat}
 use Rattle.wav_file.specs.Header.{header_with}
 use Rattle.wav_file.specs.File.{pad_octets}
 
--- the view of a file that is written live: its format, the chunk before it, if any, and the number of its octets of data
+-- the view of a file that is written live: its format, the chunk before it, if any, and the number of its octets of
+-- data
 pub record LiveState : Type 0 where
   pub format : WavFormat
   pub chunk : List ℕ
   pub count : ℕ
 
--- of known octets the first so many are left
+-- if the octets are known, the first `len` of them are left
 abbrev pub IsCut : Option (List ℕ) → Option (List ℕ) → ℕ → Type 0
 IsCut None new len = ⊤
 IsCut (Some held) None len = ⊥
@@ -22,11 +23,11 @@ pub record HasData (contents : Option (List ℕ)) (wav : LiveState) (head octets
   pub size : length head ≡ 80 + length wav.chunk
   pub count : wav.count ≡ length octets
 
--- the first octets of a header with the sizes of so much data, over those of another header
+-- a header over which `written` octets of another one were written, with the sizes of `count` octets of data
 abbrev pub header_over : WavFormat → List ℕ → ℕ → ℕ → List ℕ → List ℕ
 header_over format chunk count written head = take written (header_with format chunk count) ++ drop written head
 
--- the data stay, whatever became of the header and of what is behind the data
+-- the data are kept, whatever happened to the header and to what is behind the data
 pub record KeepsData (contents : Option (List ℕ)) (wav : LiveState) (octets : List ℕ) : Type 0 where
   pub head : List ℕ
   pub rest : List ℕ
@@ -36,7 +37,7 @@ pub record KeepsData (contents : Option (List ℕ)) (wav : LiveState) (octets : 
 abbrev pub live_octets : WavFormat → List ℕ → List ℕ → List ℕ
 live_octets format chunk octets = header_with format chunk (length octets) ++ octets ++ pad_octets (length octets)
 
--- a file was closed: the octets of those that are closed are known, and of this one too if its octets were
+-- a file was closed: if the octets of the closed files and of this file are known, this file's follow the others
 abbrev pub Closes : Option (List (List ℕ)) → Option (List (List ℕ)) → Option (List ℕ) → Type 0
 Closes None closed contents = ⊤
 Closes (Some files) None contents = ⊥

@@ -1,4 +1,4 @@
--- The report of a trace and its WAV file, and why they may not be written.
+-- The report of a trace and its WAV file, and the reasons why they may not be written.
 use Rattle.std.specs.Prelude.{◌≡◌, ℕ, List, [], ◌++◌, take, Option, None, Ok, ⊤}
 use Rattle.std.specs.Io.KnownBytes.{Appends, Consumes, IsAtEnd}
 use Rattle.studio_config.specs.Studio.{Studio}
@@ -14,7 +14,8 @@ use Rattle.wav_file.specs.declared.fault.WavRunFault.TheVariants.{Play, Stream, 
 use Rattle.wav_file.specs.MixSamples.{output_format}
 use Rattle.wav_file.specs.MixWav.{Records}
 
--- all that was left of an input is the trace whose report was written, and a file that was made with nothing in it became that of its datagrams' samples
+-- the rest of an input is the trace whose report was written, and a file that was created empty became the WAV file of
+-- its datagrams' samples
 pub record RecordsTextOf (studio : Studio) (left left_then written written_then made_then : Option (List ℕ)) : Type 0 where
   pub trace : List ℕ
   pub read : Consumes left left_then trace
@@ -30,7 +31,7 @@ pub record RecordsTextOf (studio : Studio) (left left_then written written_then 
 abbrev pub WritesFront : Option (List ℕ) → List ℕ → Option (List ℕ) → List ℕ → Type 0
 WritesFront written held written_then octets = (count : ℕ) × Appends written written_then (take count (held ++ octets))
 
--- a fault of the writers alone
+-- the fault is one of the writers
 abbrev pub IsOfWriters : WavRunFault → Type 0
 IsOfWriters (Play Read) = ⊥
 IsOfWriters (Play Memory) = ⊥
@@ -40,7 +41,7 @@ IsOfWriters (Play Write) = ⊤
 IsOfWriters (Stream fault) = ⊥
 IsOfWriters (File fault) = ⊤
 
--- all that was left of an input is a trace whose events run, and a prefix of their report was written, or all
+-- the rest of an input is a trace whose events run, and a prefix of their report was written, or all of it
 pub record BreaksOffRecording (studio : Studio) (left left_then written written_then : Option (List ℕ)) : Type 0 where
   pub trace : List ℕ
   pub read : Consumes left left_then trace
@@ -50,7 +51,7 @@ pub record BreaksOffRecording (studio : Studio) (left left_then written written_
   pub runs : session_fault_of studio events ≡ None
   pub part : (report : List ℕ) → IsReport studio events report → WritesFront written [] written_then report
 
--- why they were not: before the first write as for the report alone
+-- what was written before a fault: with a fault before the first write, the same as for the report alone
 abbrev pub FailsRecording : Studio → Option (List ℕ) → Option (List ℕ) → Option (List ℕ) → Option (List ℕ) → WavRunFault → Type 0
 FailsRecording studio left left_then written written_then (Play Read) = written_then ≡ written
 FailsRecording studio left left_then written written_then (Play Memory) = written_then ≡ written

@@ -6,23 +6,26 @@ use Rattle.wav_file.specs.Header.{header_octets}
 use Rattle.wav_file.specs.File.{WavState, pad_octets}
 use Rattle.wav_file.specs.MixSamples.{samples_in}
 
--- the header of a file whose sizes were written in part: so many octets of it have those of so much data, and the others those of none
+-- a header whose sizes were written in part: `written` octets have the sizes of this much data, and the others those of
+-- no data
 abbrev pub part_header : WavFormat → ℕ → ℕ → List ℕ
 part_header format count written = take written (header_octets format count) ++ drop written (header_octets format 0)
 
--- known octets became those of a file that broke off: its header, the data of its sizes, and a rest that they leave out
+-- if the octets are known, they became those of a file that broke off: its header, the data of its sizes, and a rest
+-- that the sizes leave out
 abbrev pub BecomesPart : Option (List ℕ) → Option (List ℕ) → WavFormat → List ℕ → List ℕ → Type 0
 BecomesPart None new format octets rest = ⊤
 BecomesPart (Some old) None format octets rest = ⊥
 BecomesPart (Some old) (Some new) format octets rest = (written : ℕ) × (new ≡ part_header format (length octets) written ++ octets ++ rest)
 
--- octets were added: the first of them count as data, and the rest doesn't
+-- octets were added: the first of them are counted as data, and the rest is not
 pub record HasPart (made made_then : Option (List ℕ)) (wav wav_then : WavState) (octets rest : List ℕ) : Type 0 where
   pub added : Appends made made_then (octets ++ rest)
   pub count : wav_then.count ≡ wav.count + length octets
   pub format : wav_then.format ≡ wav.format
 
--- the samples of the first of these datagrams were added, and the first octets of those that follow, which don't count
+-- the samples of the first of these datagrams were added, and the first octets of the following samples, which are not
+-- counted
 pub record HasFirst (made made_then : Option (List ℕ)) (wav wav_then : WavState) (datagrams : List (List ℕ)) : Type 0 where
   pub whole : ℕ
   pub rest : List ℕ
@@ -30,7 +33,7 @@ pub record HasFirst (made made_then : Option (List ℕ)) (wav wav_then : WavStat
   pub all : samples_in wav.format.enc datagrams ≡ (samples_in wav.format.enc (take whole datagrams) ++ rest) ++ left
   pub added : HasPart made made_then wav wav_then (samples_in wav.format.enc (take whole datagrams)) rest
 
--- the first octets of these samples were added: some that count, and a rest that doesn't
+-- a prefix of these samples was added: some octets that are counted, and a rest that is not
 pub record HasPrefix (made made_then : Option (List ℕ)) (wav wav_then : WavState) (samples : List ℕ) : Type 0 where
   pub octets : List ℕ
   pub rest : List ℕ
@@ -42,8 +45,9 @@ pub record HasPrefix (made made_then : Option (List ℕ)) (wav wav_then : WavSta
 abbrev pub BreaksHeader : WavFormat → Option (List ℕ) → Option (List ℕ) → Type 0
 BreaksHeader format made made_then = (written : ℕ) × Appends made made_then (take written (header_octets format 0))
 
--- it broke off behind its header: there are the samples of the first of these datagrams, all of each, which its sizes count, and the first
--- octets of what would have followed: of the samples that are left, and of the octet that makes their number even
+-- the file broke off behind its header: it has the samples of the first of these datagrams, all of each, which its
+-- sizes count, and the first octets of what would have followed: the other samples, and the octet that makes their
+-- number even
 pub record BreaksSamples (format : WavFormat) (datagrams : List (List ℕ)) (made made_then : Option (List ℕ)) : Type 0 where
   pub whole : ℕ
   pub rest : List ℕ
@@ -54,8 +58,8 @@ pub record BreaksSamples (format : WavFormat) (datagrams : List (List ℕ)) (mad
 abbrev pub BreaksOffMix : WavFormat → List (List ℕ) → Option (List ℕ) → Option (List ℕ) → Type 0
 BreaksOffMix format datagrams made made_then = BreaksHeader format made made_then ⊎ BreaksSamples format datagrams made made_then
 
--- it broke off behind its header: there are the first octets of these samples, and of the octet that makes their number even; its sizes count
--- some of them
+-- the file broke off behind its header: it has a prefix of these samples and of the octet that makes their number even;
+-- its sizes count a part of this prefix
 pub record BreaksWithin (format : WavFormat) (samples : List ℕ) (made made_then : Option (List ℕ)) : Type 0 where
   pub octets : List ℕ
   pub rest : List ℕ

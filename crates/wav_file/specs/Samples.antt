@@ -3,13 +3,13 @@ use Rattle.std.specs.Prelude.{ℕ, List, [], ◌∷◌}
 use Rattle.rtp_wire.specs.declared.encoding.Enc.{Enc}
 use Rattle.rtp_wire.specs.declared.encoding.Enc.TheVariants.{L16, L24}
 
--- each pair of octets in the other order, and none of a pair that is cut
+-- each pair of octets in the other order, without a last pair that is cut
 abbrev pub little_16 : List ℕ → List ℕ
 little_16 [] = []
 little_16 (high ∷ []) = []
 little_16 (high ∷ low ∷ octets) = low ∷ high ∷ little_16 octets
 
--- each three octets
+-- each three octets in the other order, without a last three that are cut
 abbrev pub little_24 : List ℕ → List ℕ
 little_24 [] = []
 little_24 (high ∷ []) = []

@@ -1,4 +1,4 @@
--- A stream's WAV file while the events of a run come one by one.
+-- A stream's WAV file while the events of a run arrive one by one.
 use Rattle.std.specs.Prelude.{◌≡◌, ℕ, ℤ, Bool, true, false, List, [], ◌++◌, length, Option, Some}
 use Rattle.rtp_stream.specs.declared.stream_spec.Stream.{Stream}
 use Rattle.studio_session.specs.Event.{TraceEvent}
@@ -11,7 +11,8 @@ use Rattle.wav_file.specs.StreamSamples.{samples_behind, stream_format}
 use Rattle.wav_file.specs.StreamTrack.{HasTaken, HasTracked, first_track}
 use Rattle.wav_file.specs.declared.stream_track.StreamTrack.{StreamTrack}
 
--- the view of a file that is written: its octets, if its contents are known, where its samples end, how far its stream has come, and whether a write failed
+-- the view of a file that is written: its octets, if its contents are known, the end of its samples, its stream's
+-- cursor, and whether a write failed
 pub record StreamWavState : Type 0 where
   pub made : Option (List ℕ)
   pub track : StreamTrack
@@ -29,20 +30,21 @@ pub record HasTakenEvents (stream : Stream) (number : ℕ) (open_at : ℤ) (firs
   pub place : now.cursor.place ≡ length events
   pub taken : HasTaken stream number open_at events first.made first.track now.cursor now.made now.track
 
--- the samples of all their marks were
+-- exactly these events were taken, and the samples of all their marks were added
 pub record HasTakenDue (stream : Stream) (number : ℕ) (open_at : ℤ) (first now : StreamWavState) (events : List TraceEvent) : Type 0 where
   pub place : now.cursor.place ≡ length events
   pub pulled : HasPulled stream number open_at events now.cursor (length (stream_marks stream number open_at events))
   pub tracked : HasTracked first.made now.made first.track now.track (stream_marks stream number open_at events)
 
--- once a write has failed, the first octets of the samples of their marks were added, and no more
+-- the file after these events: as long as no write failed, they were taken; after that, it has a prefix of their
+-- samples
 abbrev pub HasFollowedBy : Bool → Stream → ℕ → ℤ → StreamWavState → StreamWavState → List TraceEvent → Type 0
 HasFollowedBy false stream number open_at first now events = HasTakenEvents stream number open_at first now events
 HasFollowedBy true stream number open_at first now events =
     HasPrefix first.made now.made first.track.wav now.track.wav
     (samples_behind first.track.wav.format first.track.frames first.track.end (stream_marks stream number open_at events))
 
--- so it is of whichever stream the first cursor is of, if its readings are in order
+-- the file follows these events, for the stream whose cursor it began with, if their clock readings are in order
 abbrev pub HasFollowed : StreamWavState → StreamWavState → List TraceEvent → Type 0
 HasFollowed first now events =
     (stream : Stream) (number : ℕ) (open_at : ℤ) → IsRunnable stream number open_at events → HasPulled stream number open_at [] first.cursor 0
@@ -53,7 +55,7 @@ HasFollowedDue first now events =
     (stream : Stream) (number : ℕ) (open_at : ℤ) → IsRunnable stream number open_at events → HasPulled stream number open_at [] first.cursor 0
     → HasTakenDue stream number open_at first now events
 
--- a file that holds the first octets of these samples: some that its sizes count, and a rest that they leave out
+-- a file with a prefix of these samples: octets that its sizes count, and a rest that they leave out
 pub record HasSamplesFront (format : WavFormat) (made : Option (List ℕ)) (samples : List ℕ) : Type 0 where
   pub octets : List ℕ
   pub rest : List ℕ

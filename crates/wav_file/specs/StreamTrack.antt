@@ -9,7 +9,7 @@ use Rattle.wav_file.specs.MixWav.{HasAdded}
 use Rattle.wav_file.specs.StreamSamples.{end_of, samples_behind, stream_format}
 use Rattle.wav_file.specs.declared.stream_track.StreamTrack.{StreamTrack}
 
--- a file whose header was written, and no sample
+-- a file with a header and no samples
 abbrev pub first_track : Stream → StreamTrack
 first_track stream = record { wav = record { format = stream_format stream; count = 0 }; frames = stream.frames; end = None }
 
@@ -19,13 +19,13 @@ pub record HasTracked (made made_then : Option (List ℕ)) (track track_then : S
   pub frames : track_then.frames ≡ track.frames
   pub end : track_then.end ≡ end_of track.frames track.end marks
 
--- the marks that a stream gave are the first of all, and their samples were added
+-- the stream has returned the first `given` of its marks, and their samples were added
 pub record HasTaken (stream : Stream) (number : ℕ) (open_at : ℤ) (events : List TraceEvent) (made : Option (List ℕ)) (track : StreamTrack) (cursor : CursorState) (made_then : Option (List ℕ)) (track_then : StreamTrack) : Type 0 where
   pub given : ℕ
   pub pulled : HasPulled stream number open_at events cursor given
   pub tracked : HasTracked made made_then track track_then (take given (stream_marks stream number open_at events))
 
--- and no mark is left of the events that were taken
+-- the marks so far were taken, and none is left of the events that were taken
 pub record HasTakenAll (stream : Stream) (number : ℕ) (open_at : ℤ) (events : List TraceEvent) (made : Option (List ℕ)) (track : StreamTrack) (cursor : CursorState) (made_then : Option (List ℕ)) (track_then : StreamTrack) : Type 0 where
   pub taken : HasTaken stream number open_at events made track cursor made_then track_then
   pub none : [] ≡ take 1 (drop taken.given (stream_marks stream number open_at (take cursor.place events)))

@@ -65,8 +65,8 @@ pub(crate) fn header_octets(format: WavFormat, chunk: &[u8], count: u64) -> Head
     head
 }
 
-/// Returns the file's size: the number of octets behind this field, `more` of which are a chunk more, with one more
-/// after data of an odd length.
+/// Returns the file's size: the number of octets behind this field, of which `more` are a further chunk, with one more
+/// octet after data of an odd length.
 fn riff_size(more: u64, count: u64) -> u64
     requires count { count < 2 ^ 63 }
     requires more { more ≤ 610 }
@@ -123,7 +123,7 @@ fn push_size(head: &mut Header, more: u64, count: u64, size: u64)
     push(head, &size.to_le_bytes());
 }
 
-/// Appends the chunk with the sizes of a long file, or one of the same length that is ignored.
+/// Appends the chunk with the sizes of a long file, or a chunk of the same length that is ignored.
 // The file's length isn't known when its header is first written. `JUNK` keeps the room for `ds64`.
 fn push_ds64_or_junk(head: &mut Header, format: WavFormat, more: u64, count: u64)
     requires room { array_vec_len head.old + 36 ≤ 690 }

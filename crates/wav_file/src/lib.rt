@@ -1,11 +1,11 @@
-//! WAV and RF64 files of PCM samples, written as they come: of the mix, or of one stream.
+//! WAV and RF64 files of PCM samples, written as they arrive: of the mix, or of one stream.
 //!
 //! - `play_to_wav` reads a trace to its end as `studio_run::play` does, creates the file with the
 //!   caller's `CreateFile`, and writes the report and the samples of its datagrams. `write_mix_wav`
 //!   does the same for events, to a file that exists.
 //! - `list_to_wav` writes a listing as `studio_run::list_marks` does, and before it the samples of
 //!   one stream, by `write_stream_wav`. `wav_stream` finds the stream.
-//! - `StreamWav` writes the samples of one stream while the events of a run come one by one.
+//! - `StreamWav` writes the samples of one stream while the events of a run arrive one by one.
 //! - `WavWriter` is the writer below both. `begin` writes the header with room for the sizes of a
 //!   file beyond 4 GiB, `push` the samples of a payload, and `finish` the sizes. If `push` fails,
 //!   call `finish_partial`: it sets the sizes to those of the whole payloads before.

@@ -38,7 +38,7 @@ pub enum PcmRoom {
 }
 
 /// The output of a live run's raw PCM. Its `write` is called only while it is `Ready`, and then does not block: it may
-/// write fewer octets than it is given.
+/// write only a part of the octets.
 pub trait PcmOutput: Write {
     /// Returns what the output is ready for. If it is full, waits until it is not, for so many milliseconds at most.
     fn room(&mut self, milliseconds: u32) -> PcmRoom

@@ -1,4 +1,4 @@
-//! The WAV file of a stream while the events of a run come one by one.
+//! The WAV file of a stream while the events of a run arrive one by one.
 ghost use Rattle.std.specs.Prelude.{◌≡◌, ◌<◌, ◌+◌, ◌∷◌, ◌++◌, [], ℕ, ℤ, List, None, Some, IfOk, true, false};
 ghost use Rattle.rtp_stream.specs.declared.stream_spec.Stream.{Stream};
 ghost use Rattle.studio_session.specs.Cursor.{HasPulled, IsRunnable};
@@ -16,7 +16,7 @@ use path_merge::Path;
 use std::marker::Model;
 use studio_session::Cursor;
 
-/// The WAV file of a stream while the events of a run come one by one, those of all streams.
+/// The WAV file of a stream while the events of a run arrive one by one, those of all streams.
 ///
 /// `write_stream_wav` writes the same samples of a list of events. Call `finish` once the run has ended, or `break_off`
 /// after an error of the run. After a failed write no more is written.
@@ -186,8 +186,8 @@ impl<F: Overwrite + Drop> StreamWav<F> {
     }
 }
 
-/// Gives a datagram to a cursor, which passes over it if it is another stream's. Returns false if the cursor's stream
-/// lacks the path.
+/// Passes a datagram to a cursor, which passes over it if it is another stream's. Returns false if the cursor's stream
+/// does not have the path.
 fn push_or_skip(cursor: &mut Cursor, stream: usize, path: Path, octets: &[u8]) -> bool
     requires settled { cursor.old.reading ≡ None }
     requires few { cursor.old.place < usize.MAX }

@@ -32,7 +32,7 @@ fn micros(instants: u64) -> u64 {
     ms.saturating_mul(1000).saturating_add(us)
 }
 
-/// Returns the least step of 1, 2, 5, 10 and so on, in microseconds, that gives at most 8 ticks behind the first.
+/// Returns the least step of 1, 2, 5, 10 and so on, in microseconds, with at most 8 ticks behind the first.
 fn step_of(micros: u64) -> u64 {
     let mut ten: u64 = 1;
     for _ in 0..18 {

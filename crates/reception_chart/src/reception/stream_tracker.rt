@@ -11,7 +11,7 @@ use std::alloc::{AllocError, Global};
 use studio_config::StudioSpec;
 use studio_session::{ArriveOutcome, Cursor, EventHeader, EventSource, ReceptionRef, receive_ref};
 
-/// The timestamp and the media time of a packet, which give the media times of all others of its epoch.
+/// The timestamp and the media time of a packet, from which the media times of all others of its epoch follow.
 // Not `rtp_stats::Deadlines`, which has no deadline for late packets: the chart draws their media times too.
 #[derive(Clone, Copy)]
 struct GridReference {
@@ -41,7 +41,7 @@ struct StreamGrid {
 #[derive(Drop)]
 pub(crate) struct StreamTracker {
     pub(crate) cursor: Cursor,
-    /// The number of events that were taken, those of other streams too.
+    /// The number of events that were taken, including those of other streams.
     place: usize,
     grid: StreamGrid,
     pub(crate) ghost counted: { cursor.place ≡ place },
@@ -115,7 +115,7 @@ impl StreamTracker {
         report_lost(&mut self.cursor, observer);
     }
 
-    /// Returns true if the path of a stream is a path of this one.
+    /// Returns true if the path of a stream is a path of this stream.
     fn has(&self, stream: usize, path: Path) -> bool
         ensures { result ≡ true → path < self.now.cursor.spec.paths }
     {
@@ -213,7 +213,7 @@ fn take_datagram<O: ReceptionObserver>(
     ensures settled { cursor.new.reading ≡ None }
 {
     let spec = cursor.spec();
-    // A stream has a deadline once it has a packet, so this is asked before the datagram is taken.
+    // A stream has a deadline once it has a packet, so this is tested before the datagram is taken.
     let anchored = cursor.next_deadline().is_some();
     let receipt = cursor.push_datagram(path, octets);
     if let (ArriveOutcome::Offered(fate), ReceptionRef::Sent(packet)) = (
