@@ -9,18 +9,18 @@ use Rattle.live_io.specs.declared.sockets.names.SocketRole.TheVariants as role
 abbrev pub descriptor_at : List (List (Option ℤ)) → ℕ → ℕ → Option ℤ
 descriptor_at rows stream path = unwrap_or (slice_get (unwrap_or (slice_get rows stream) []) path) None
 
--- that of a socket, by its role
+-- the descriptor of a socket, by its role
 abbrev pub descriptor_of : InheritedSockets → SocketRole → Option ℤ
 descriptor_of inherited (role.Path stream path) = descriptor_at inherited.paths stream path
 descriptor_of inherited role.ToA = inherited.to_a
 descriptor_of inherited role.ToB = inherited.to_b
 
--- those of a stream's first so many paths
+-- the descriptors of a stream's first `count` paths
 abbrev pub row_descriptors : List (List (Option ℤ)) → ℕ → ℕ → List (Option ℤ)
 row_descriptors rows number zero = []
 row_descriptors rows number (suc count) = row_descriptors rows number count ++ descriptor_at rows number count ∷ []
 
--- those of the paths of streams, whose numbers count up from this one
+-- the descriptors of the paths of streams, whose numbers count up from this one
 abbrev pub path_descriptors : List (List (Option ℤ)) → ℕ → List Stream → List (Option ℤ)
 path_descriptors rows number [] = []
 path_descriptors rows number (stream ∷ streams) = row_descriptors rows number stream.paths ++ path_descriptors rows (suc number) streams

@@ -7,7 +7,7 @@ use Rattle.live_io.specs.declared.sockets.names.SocketRole.TheVariants as role
 abbrev pub path_name : ℕ → ℕ → List ℕ
 path_name stream path = decimal stream ++ (97 + path) ∷ []
 
--- the name of a socket: its path's, or that of its copy of the mix
+-- the name of a socket: that of its path, or that of its copy of the mix
 abbrev pub name_of : SocketRole → List ℕ
 name_of (role.Path stream path) = path_name stream path
 name_of role.ToA = codes "to_a"

@@ -12,7 +12,7 @@ use Rattle.studio_config.specs.declared.config.fault.SpecErrorKind.TheVariants a
 use Rattle.studio_config.specs.declared.config.fault.SpecError.{SpecError}
 use Rattle.live_io.specs.declared.sockets.ports.LivePorts.{LivePorts}
 
--- a port that is needed: where the configuration says it, and which it is, if it does
+-- a port that is needed: its place in the configuration, and the port, if it is configured
 pub record Need : Type 0 where
   pub place : ConfigTable
   pub key : Key
@@ -29,17 +29,17 @@ port_key (suc (suc (suc path))) = key.PortD
 abbrev pub path_need : List (List (Option ℕ)) → ℕ → ℕ → Need
 path_need rows number path = record { place = place.Stream number; key = port_key path; port = port_at rows number path }
 
--- the needs of its first so many paths
+-- the needs of a stream's first `count` paths
 abbrev pub row_needs : List (List (Option ℕ)) → ℕ → ℕ → List Need
 row_needs rows number zero = []
 row_needs rows number (suc count) = row_needs rows number count ++ path_need rows number count ∷ []
 
--- those of streams, whose numbers count up from this one
+-- the needs of the paths of streams, whose numbers count up from this one
 abbrev pub path_needs : List (List (Option ℕ)) → ℕ → List Stream → List Need
 path_needs rows number [] = []
 path_needs rows number (stream ∷ streams) = row_needs rows number stream.paths ++ path_needs rows (suc number) streams
 
--- those of the output's addresses
+-- the needs of the output's addresses
 abbrev pub output_needs : Studio → List Need
 output_needs studio =
     record { place = place.Output; key = key.ToA; port = studio.ports.to_a }
@@ -50,7 +50,7 @@ output_needs studio =
 abbrev pub needs_of : Studio → List Need
 needs_of studio = path_needs studio.ports.paths 0 studio.streams ++ output_needs studio
 
--- the port is not there
+-- the error if this port is missing
 abbrev pub missing_at : ConfigTable → Key → Option ℕ → Option SpecError
 missing_at place key (Some port) = None
 missing_at place key None = Some (record { place = place; key = Some key; kind = kind.Missing })
@@ -58,11 +58,11 @@ missing_at place key None = Some (record { place = place; key = Some key; kind =
 abbrev pub missing_in : Need → Option SpecError
 missing_in need = missing_at need.place need.key need.port
 
--- the first of them that is not there
+-- the first error of these needs
 abbrev pub first_missing : List Need → Option SpecError
 first_missing needs = first_in (map missing_in needs)
 
--- these ports, in this order, are those needed
+-- these are the needed ports, in this order
 abbrev pub AreSaid : List Need → List ℕ → Type 0
 AreSaid needs ports = map (λ (need : Need). need.port) needs ≡ map Some ports
 

@@ -1,7 +1,8 @@
--- The wait that follows once a socket is empty.
+-- The wait after a socket was found empty.
 use Rattle.std.specs.Prelude.{ℕ, ◌/◌, min, max, Bool, true, false, ℤ, pos, ◌+ℤ◌, ◌<ℤ◌, Option, Some, None}
 
--- how long a receiver of a stream with this latency rests while packets flow, in sampling instants: a tenth of the latency, 10 at least and 192 at most
+-- the rest of a receiver of a stream with this latency while packets flow, in sampling instants: a tenth of the
+-- latency, at least 10 and at most 192
 abbrev pub rest_for : ℕ → ℕ
 rest_for latency = min 192 (max 10 (latency / 10))
 
@@ -9,12 +10,12 @@ rest_for latency = min 192 (max 10 (latency / 10))
 abbrev pub quiet_after : ℕ
 quiet_after = 960
 
--- packets flow at a time: less than 20 ms lie between it and the reading after the last datagram
+-- packets flow at this time: it is less than 20 ms after the clock reading that followed the last datagram
 abbrev pub FlowsAt : Option ℤ → ℤ → Type 0
 FlowsAt None now = ⊥
 FlowsAt (Some last) now = now <ℤ (last +ℤ pos quiet_after)
 
--- the reading after the last datagram, at a reading before which one came or none
+-- the clock reading after the last datagram, given whether a datagram arrived before the reading `now`
 abbrev pub last_with : Bool → ℤ → Option ℤ → Option ℤ
 last_with true now last = Some now
 last_with false now last = last

@@ -16,20 +16,21 @@ use Rattle.studio_config.specs.Studio.{Studio}
 use Rattle.live_io.specs.declared.record.block_producer.BlockProducer.{BlockProducer}
 use Rattle.live_io.specs.declared.record.observer.DatagramOrigin.{DatagramOrigin}
 
--- nothing was sent, and nothing will be any more
+-- the record has ended: nothing was sent, and nothing will be sent any more
 abbrev pub Ends : BlockProducer → BlockProducer → Type 0
 Ends old new = (new.ended ≡ true) × (sent new.ring ≡ sent old.ring)
 
--- a block was sent, all of it; or none of it, where that had ended before, or the ring was not known to have room for it
+-- the whole block was sent; or none of it, because the record had ended before, or the ring was not known to have room
 abbrev pub Puts : BlockProducer → List ℕ → BlockProducer → Type 0
 Puts old block new =
     ((new.ended ≡ false) × (sent new.ring ≡ sent old.ring ++ block)) ⊎ (Ends old new × ((old.ended ≡ true) ⊎ (known_free new.ring < length block)))
 
--- nanoseconds after the opening that a time is
+-- the time is this many nanoseconds after the opening
 abbrev pub IsSince : ℤ → ℤ → ℕ → Type 0
 IsSince open_at time nanoseconds = (instants : ℕ) → time ≡ (open_at +ℤ pos instants) → nanoseconds_in_64 instants ≡ Some nanoseconds
 
--- a datagram with these octets that came at a time and has this origin: its path, from one address to another
+-- the view of a datagram with these octets that arrived at this time from this origin: its path, and from which address
+-- to which
 pub record IsPacket (open_at time : ℤ) (origin : DatagramOrigin) (octets : List ℕ) (view : ArrivalView) : Type 0 where
   pub place_is : view.interface ≡ origin.path_index
   pub octets_are : view.octets ≡ octets
@@ -37,40 +38,43 @@ pub record IsPacket (open_at time : ℤ) (origin : DatagramOrigin) (octets : Lis
   pub source : (view.source ≡ ipv4_octets origin.source.ip) × (view.source_port ≡ origin.source.port)
   pub destination : (view.destination ≡ ipv4_octets origin.destination.ip) × (view.destination_port ≡ origin.destination.port)
 
--- a time that the format doesn't hold: 64 bits don't have its nanoseconds after the opening
+-- the format has no room for this time: 64 bits don't hold its nanoseconds after the opening
 abbrev pub IsPast : ℤ → ℤ → Type 0
 IsPast open_at time = (instants : ℕ) → time ≡ (open_at +ℤ pos instants) → nanoseconds_in_64 instants ≡ None
 
--- its packet was put; or nothing was sent, since the record had ended, or the datagram is too long or its time doesn't fit
+-- the datagram's packet was put; or nothing was sent, because the record had ended, or the datagram is too long, or its
+-- time is past what the format holds
 abbrev pub PutsPacket : ℤ → ℤ → DatagramOrigin → List ℕ → BlockProducer → BlockProducer → Type 0
 PutsPacket open_at time origin octets old new =
     ((view : ArrivalView) × IsPacket open_at time origin octets view × Puts old (datagram_block view) new)
     ⊎ (Ends old new × ((old.ended ≡ true) ⊎ ((2048 < length octets) ⊎ IsPast open_at time)))
 
--- a change of gains that the format doesn't hold: the record has no interface for it, or there are too many gains, or 64 bits
--- don't have the nanoseconds of its time, or the instants to the time from which the gains are in force, after the opening
+-- the format has no room for this change of gains: the record has no interface for it, there are too many gains, or 64
+-- bits don't hold the nanoseconds after the opening of its time, or the sampling instants to the time from which its
+-- gains are in force
 abbrev pub IsUnfit : ℤ → Option ℕ → ℤ → ℤ → List ℤ → Type 0
 IsUnfit open_at interface time at gains =
     (interface ≡ None) ⊎ ((8192 < length gains) ⊎ (IsPast open_at time ⊎ (FitsSigned w64 (at -ℤ open_at) → ⊥)))
 
--- a change that was taken at a time before this block: from `at` on these gains are in force, counted from the opening
+-- a change of gains, taken before this block: the gains are in force from `at` on, counted from the opening
 abbrev pub change_from : ℤ → ℤ → ℕ → List ℤ → ChangeView
 change_from open_at at next_block gains = record { at = at -ℤ open_at; next_block = next_block; gains = gains }
 
--- its block was put, on the interface for changes; or nothing was sent, since the record had ended, or the change doesn't fit
+-- the change's block was put, on the interface for changes; or nothing was sent, because the record had ended, or the
+-- format has no room for the change
 abbrev pub PutsChange : ℤ → Option ℕ → ℤ → ℤ → ℕ → List ℤ → BlockProducer → BlockProducer → Type 0
 PutsChange open_at interface time at next_block gains old new =
     ((number : ℕ) × (nanoseconds : ℕ) × (interface ≡ Some number) × IsSince open_at time nanoseconds
     × Puts old (change_block number nanoseconds (change_from open_at at next_block gains)) new)
     ⊎ (Ends old new × ((old.ended ≡ true) ⊎ IsUnfit open_at interface time at gains))
 
--- a close at a time was put, or nothing was sent, since the time doesn't fit
+-- the block of a close at this time was put, or nothing was sent, because the format has no room for the time
 abbrev pub PutsClose : ℤ → ℤ → BlockProducer → BlockProducer → Type 0
 PutsClose open_at time old new =
     ((nanoseconds : ℕ) × IsSince open_at time nanoseconds × Puts old (closing_block nanoseconds) new)
     ⊎ (Ends old new × IsPast open_at time)
 
--- the configuration of a stream as a record has it
+-- the configuration of a stream in a record
 abbrev pub bits_of : Enc → ℕ
 bits_of L16 = 16
 bits_of L24 = 24
@@ -84,33 +88,34 @@ recorded_of stream = record {
   paths = stream.paths;
 }
 
--- the descriptions of a stream's first so many paths, a to d
+-- the descriptions of a stream's first `count` paths, from a to d
 abbrev pub row_blocks : ℕ → List ℕ → ℕ → List ℕ
 row_blocks number description zero = []
 row_blocks number description (suc count) = row_blocks number description count ++ interface_block number (97 + count) description
 
--- those of all its paths, with the description of its configuration
+-- the descriptions of all paths of a stream, with that of its configuration
 abbrev pub stream_blocks : ℕ → Stream → List ℕ
 stream_blocks number stream = row_blocks number (description_of (recorded_of stream)) stream.paths
 
--- those of the paths of streams, whose numbers count up from this one
+-- the descriptions of the paths of streams, whose numbers count up from this one
 abbrev pub path_blocks : ℕ → List Stream → List ℕ
 path_blocks number [] = []
 path_blocks number (stream ∷ streams) = stream_blocks number stream ++ path_blocks (suc number) streams
 
--- once that has ended it stays so, and the ring is sent nothing more
+-- a record that has ended stays so, and nothing more is sent to the ring
 abbrev pub StaysEnded : BlockProducer → BlockProducer → Type 0
 StaysEnded old new = old.ended ≡ true → (new.ended ≡ true) × (new.ring ≡ old.ring)
 
--- nothing will be sent any more, since that had ended before, or the ring was not known to have room for these octets
+-- nothing will be sent any more, because the record had ended before, or the ring was not known to have room for these
+-- octets
 abbrev pub LacksRoom : BlockProducer → List ℕ → BlockProducer → Type 0
 LacksRoom old octets new = (new.ended ≡ true) × ((old.ended ≡ true) ⊎ (known_free new.ring < length octets))
 
--- octets were sent, or not all of them, for lack of room
+-- these octets were sent, or not all of them, because the record has ended or there is no room
 abbrev pub Sends : BlockProducer → List ℕ → BlockProducer → Type 0
 Sends old octets new = ((new.ended ≡ false) × (sent new.ring ≡ sent old.ring ++ octets)) ⊎ LacksRoom old octets new
 
--- how many paths streams have
+-- the number of paths of all streams
 abbrev pub path_total : List Stream → ℕ
 path_total streams = sum_by (λ (stream : Stream). stream.paths) streams
 
@@ -119,16 +124,18 @@ abbrev pub gains_blocks : Bool → List ℕ
 gains_blocks true = gains_interface_block
 gains_blocks false = []
 
--- its number
+-- the number of the interface for changes of gains, if there is one
 abbrev pub gains_interface_of : Bool → List Stream → Option ℕ
 gains_interface_of true streams = Some (path_total streams)
 gains_interface_of false streams = None
 
--- the front of a studio's record, which was opened at a time: its opening, its paths, and the interface for changes of gains, if there is one
+-- the start of a studio's record, opened at this time: its opening, its paths, and the interface for changes of gains,
+-- if there is one
 abbrev pub front_blocks : Bool → Studio → ℕ → List ℕ
 front_blocks is_controlled studio at = section_block at ++ (path_blocks 0 studio.streams ++ gains_blocks is_controlled)
 
--- it was sent; or nothing more will be, since the ring was not known to have room for all of it
+-- the start of the record was sent; or nothing more will be sent, because the ring was not known to have room for all
+-- of it
 abbrev pub Opens : Bool → Studio → BlockProducer → Type 0
 Opens is_controlled studio end = (at : ℕ) → studio.open_at ≡ pos at
     → ((end.ended ≡ false) × (sent end.ring ≡ front_blocks is_controlled studio at))

@@ -7,8 +7,8 @@ use Rattle.live_io.specs.declared.record.writer.FailedWrite.{FailedWrite}
 use Rattle.live_io.specs.declared.record.writer.FileResult.{FileResult}
 use Rattle.live_io.specs.declared.record.writer.RecordWriter.{RecordWriter}
 
--- what came through the ring are these blocks, which a file whose octets are known holds and which are counted, and a
--- rest that is held, with which no whole block begins
+-- what came through the ring is these blocks and a rest that begins with no whole block: the blocks are counted, and
+-- are in the file if its contents are known; the rest is held
 pub record HasWritten (contents : Option (List ℕ)) (writer : RecordWriter) : Type 0 where
   pub blocks : List (List ℕ)
   pub every : All IsBlock blocks
@@ -18,8 +18,9 @@ pub record HasWritten (contents : Option (List ℕ)) (writer : RecordWriter) : T
   pub len : writer.len ≡ length (joined blocks)
   pub datagrams : writer.datagrams ≡ datagram_count writer.paths blocks
 
--- what came through the ring begins with these blocks, of which so many hold a datagram of a path, and no whole block is behind them unless a
--- write failed; a file whose octets are known holds them and nothing else, unless it could not be cut behind them
+-- what came through the ring begins with these blocks, whose datagrams of paths are counted. Unless a write failed, no
+-- whole block follows them. The file, if its contents are known, has the blocks and nothing else, unless it could not
+-- be cut behind them
 pub record IsRecorded (contents : Option (List ℕ)) (writer : RecordWriter) (result : FileResult) : Type 0 where
   pub blocks : List (List ℕ)
   pub every : All IsBlock blocks
@@ -29,13 +30,14 @@ pub record IsRecorded (contents : Option (List ℕ)) (writer : RecordWriter) (re
   pub datagrams : result.datagrams ≡ datagram_count writer.paths blocks
   pub holds : result.is_whole ≡ true → contents ≡ Some (joined blocks)
 
--- a write of whole blocks, of a record of so many paths, to a file of so many octets failed: these of them are left in it, if it was cut
+-- a write of whole blocks of a record with this many paths failed, to a file of `len` octets: if the file was cut, it
+-- has the whole blocks that were written
 pub record FailsBehind (paths : ℕ) (contents contents_then : Option (List ℕ)) (len : ℕ) (octets : List ℕ) (failed : FailedWrite) : Type 0 where
   pub count : ℕ
   pub kept : AreWhole paths (take count octets) failed.kept
   pub cut : failed.is_cut ≡ true → (held : List ℕ) → contents ≡ Some held → len ≡ length held
       → contents_then ≡ Some (held ++ take failed.kept.len octets)
 
--- the ring was found empty, or what is held leaves no room
+-- the ring was found empty, or there is no room for more octets
 abbrev pub SeesNone : RecordWriter → RecordWriter → Type 0
 SeesNone old new = (known_items new.ring ≡ []) ⊎ (length old.octets.items ≤ old.held)

@@ -9,13 +9,13 @@ use Rattle.live_io.specs.declared.sockets.sharing.PathPlace.{PathPlace}
 abbrev pub Meet : PathPlace → PathPlace → Type 0
 Meet a b = (a.at ≡ b.at) × (a.port ≡ b.port)
 
--- both sources are given, and they differ
+-- both sources are configured, and they differ
 abbrev pub AreApart : Option Ipv4Addr → Option Ipv4Addr → Type 0
 AreApart (Some a) (Some b) = a ≢ b
 AreApart (Some a) None = ⊥
 AreApart None b = ⊥
 
--- both paths are at the same group and port, and their sources tell their datagrams apart
+-- both paths are at the same group and port, and their datagrams have different sources
 abbrev pub Share : PathPlace → PathPlace → Type 0
 Share a b = Meet a b × IsMulticastV4 a.at × AreApart a.from b.from
 
@@ -27,7 +27,7 @@ Collide a b = Meet a b × (Share a b → ⊥)
 abbrev pub AllFit : List PathPlace → Type 0
 AllFit places = AllPairs (λ a b. Collide a b → ⊥) places
 
--- one of the paths collides with one before it
+-- one of the paths collides with a path before it
 pub record HaveCollision (places : List PathPlace) : Type 0 where
   pub earlier : ℕ
   pub later : ℕ

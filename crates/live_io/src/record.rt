@@ -108,7 +108,7 @@ impl RecordResult {
         self.written.store(count, Ordering::SeqCst);
     }
 
-    /// Sets the reason for which the record ends before its run. The first one stays.
+    /// Sets the reason why the record ends before its run. Only the first reason is kept.
     pub fn set_end(&self, end: RecordEnd) {
         let number = match end {
             RecordEnd::Write => 1,

@@ -157,7 +157,7 @@ fn place_at(addresses: &[PathAddress], ports: &[u16], index: usize) -> Option<Pa
 }
 
 impl<'a> ReceiverPlan<'a> {
-    /// Returns the places of those of the first so many paths that have no inherited sockets. Returns `AllocError` if
+    /// Returns the places of those of the first `count` paths that have no inherited sockets. Returns `AllocError` if
     /// an allocation fails.
     fn new_places(&self, alloc: Global, count: usize) -> Result<Vec<PathPlace>, AllocError> {
         let mut places = Vec::with_capacity(alloc, count)?;
@@ -169,8 +169,8 @@ impl<'a> ReceiverPlan<'a> {
         Ok(places)
     }
 
-    /// Returns the index of the first path that collides with one before it, or `count` if none of so many does.
-    /// Returns `AllocError` if an allocation fails.
+    /// Returns the index of the first path that collides with a path before it, or `count` if none of the first `count`
+    /// does. Returns `AllocError` if an allocation fails.
     fn first_collision(&self, alloc: Global, count: usize) -> Result<usize, AllocError> {
         for index in 0..count {
             if have_collision(self.new_places(alloc, index.saturating_add(1))?.as_slice()) {

@@ -1,4 +1,4 @@
--- What a tracker notes of a packet that was offered.
+-- The notes of a tracker about a packet that was offered.
 use Rattle.std.specs.Prelude.{ℕ, ℤ, List, ◌∷◌, Option}
 use Rattle.rtp_stream.specs.declared.fate.Fate.{Fate}
 use Rattle.rtp_stream.specs.declared.stream_spec.Stream.{Stream}

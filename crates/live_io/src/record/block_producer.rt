@@ -100,7 +100,7 @@ impl BlockProducer {
         self.put(len)
     }
 
-    /// Puts the first so many octets of the buffer as one block, if the ring has room for all of them. The first block
+    /// Puts the first `len` octets of the buffer as one block, if the ring has room for all of them. The first block
     /// without room ends the record.
     fn put(&mut self, len: usize)
         requires within { len ≤ 32844 }

@@ -61,12 +61,12 @@ pub struct RecordObserver<'a> {
     open_at: i64,
     /// The number of the interface for changes of gains, if the gains of the run can be changed.
     gains_interface: Option<u32>,
-    /// The number of datagrams that arrived, also those after the record's end.
+    /// The number of datagrams that arrived, including those after the record's end.
     received: u64,
 }
 
 impl<'r> RecordObserver<'r> {
-    /// Returns the number of datagrams that arrived, also those after the record's end.
+    /// Returns the number of datagrams that arrived, including those after the record's end.
     pub fn received(&self) -> u64
         ensures { result ≡ self.now.received }
     {

@@ -213,7 +213,7 @@ pub fn write_record<R: Wait, D: RecordFile>(
     let parker = Parker::new();
     let mut reported = false;
     'turns: for _ in rt.forever() {
-        // Asked before the ring is read: once it is true nothing more is put, so a ring that is empty then is the end.
+        // This is read before the ring: once it is true nothing more is put, so a ring that is empty then is the end.
         let is_last = writer.ring.is_abandoned();
         match writer.write_some(file) {
             Ok(0) => {

@@ -59,7 +59,7 @@ impl RunHealth {
         fault
     }
 
-    /// Returns the index of the socket that could not be opened, and the system's error number, which is 0 if it gave
+    /// Returns the index of the socket that could not be opened, and the system's error number, which is 0 if there is
     /// none. Returns `None` if all sockets were opened.
     pub(crate) fn unopened(&self) -> Option<(usize, i32)> {
         let noted = self.unopened.load(Ordering::SeqCst);

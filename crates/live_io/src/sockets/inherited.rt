@@ -37,7 +37,7 @@ pub enum InheritedSocketFault {
     /// The variable `LISTEN_PID` is no number, and so it names no process.
     #[error("device: socket LISTEN_PID names no process")]
     NoProcess,
-    /// The sockets were passed to the process of the first number, and not to this one, which has the second.
+    /// The sockets were passed to the process with the first number, and this process has the second number.
     #[error("device: socket LISTEN_PID is {0}, not {1}")]
     OtherProcess(u32, u32),
 }

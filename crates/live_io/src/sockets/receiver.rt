@@ -11,7 +11,7 @@ use std::io::ErrorKind;
 use std::net::{Ipv4Addr, Net, SocketAddr, SocketAddrV4, UdpSocket};
 use std::os::fd::AsRawFd;
 
-/// The receive buffer of a socket, in octets. The system gives less if its own limit is lower.
+/// The receive buffer of a socket, in octets. The system sets less if its own limit is lower.
 // 8 MiB, so that a burst after a delayed sender is not dropped.
 const RECEIVE_BUFFER: u32 = 8 << 20;
 
@@ -163,7 +163,7 @@ pub(crate) fn inherited_socket(descriptor: i32) -> io::Result<UdpSocket> {
     Ok(socket)
 }
 
-/// Sets the receive buffer of a socket. The system may give less, and an error is ignored: nothing depends on the size.
+/// Sets the receive buffer of a socket. The system may set less, and an error is ignored: nothing depends on the size.
 fn set_receive_buffer(socket: &UdpSocket) {
     let value = option_of(RECEIVE_BUFFER);
     let _ = unsafe {

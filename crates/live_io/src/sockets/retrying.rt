@@ -26,8 +26,8 @@ pub trait DatagramSocket: Drop {
     fn receive(&mut self, buf: &mut [u8]) -> io::Result<Option<usize>>
         ensures within { IfOk result (λ own. IfSome own (λ count. count ≤ length buf.old)) };
 
-    /// Waits for a datagram, but for at most so many milliseconds. Returns false if none came in that time, and true if
-    /// one may have come.
+    /// Waits for a datagram, but at most this many milliseconds. Returns false if none arrived in that time, and true
+    /// if one may have arrived.
     fn wait(&mut self, milliseconds: i32) -> bool;
 }
 

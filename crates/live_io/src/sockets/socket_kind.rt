@@ -19,7 +19,7 @@ const OTHER_TABLES: [&[u8]; 3] = [
 ];
 
 /// The path of a descriptor's link, in which the digits of its number replace slashes from the end.
-// A path may have several slashes where one would do, so the number needs no fixed place.
+// Several slashes in a path have the effect of one, so the number needs no fixed place.
 const LINK: [u8; 24] = *b"/proc/self/fd///////////";
 
 /// The greatest number of octets of a socket's link, `socket:[INODE]`, with an inode of 20 digits, and more.
@@ -28,8 +28,8 @@ const MAX_LINK: usize = 32;
 /// Returns true if a descriptor is a UDP socket at an IPv4 address, as far as the system says. The descriptor stays
 /// open.
 ///
-/// A socket of this process's network is what the kernel's tables say. One that no table lists, as one of another
-/// network, is refused if it is a stream socket.
+/// The kernel's tables say what kind a socket of this process's network is. A socket that no table lists, such as one
+/// of another network, is refused if it is a stream socket.
 pub(crate) fn is_udp_socket(descriptor: i32) -> bool {
     if !has_ipv4_address(descriptor) {
         return false;

@@ -24,7 +24,7 @@ pub enum UnopenedSocket {
     Copy(&'static str, Ipv4Addr, SystemReason),
 }
 
-/// The reason that the system gave, by its error number; 0 if it gave none.
+/// The reason of the system, by its error number; 0 if there is none.
 #[derive(Clone, Copy, Debug, PartialEq, Eq)]
 pub struct SystemReason(i32);
 
