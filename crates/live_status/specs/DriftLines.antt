@@ -5,16 +5,17 @@ use Rattle.rtp_stream.specs.Path.{path_letter}
 use Rattle.status_page.specs.declared.snapshot.PathState.{PathState}
 use Rattle.live_status.specs.Lines.{flag_text, known_text}
 
--- the line of a stream's time left, at this reading of the clock
+-- the line of a stream's time left, at this clock reading
 abbrev pub left_line : ℕ → ℤ → Option ℕ → List ℕ
 left_line stream time left = codes "left=" ++ decimal stream ++ codes " time=" ++ signed_decimal time ++ codes " seconds=" ++ known_text left ++ codes "\n"
 
--- a number with its sign, or a dash where it is not known
+-- a number with its sign, or a dash if it is not known
 abbrev pub change_text : Option ℤ → List ℕ
 change_text None = codes "-"
 change_text (Some change) = signed_decimal change
 
--- the line of a path's drift, at this reading of the clock, in three parts: its place, the drift, and what is wrong
+-- the line of a path's drift, at this clock reading, in three parts: its place, the drift, and two flags for what is
+-- wrong
 abbrev pub drift_place : ℕ → ℕ → ℤ → List ℕ
 drift_place stream path time = codes "drift=" ++ decimal stream ++ path_letter path ++ codes " time=" ++ signed_decimal time
 

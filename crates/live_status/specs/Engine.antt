@@ -1,4 +1,4 @@
--- The numbers of an engine's streams as a snapshot shows them.
+-- The numbers of an engine's streams in a snapshot.
 use Rattle.std.specs.Prelude.{◌≡◌, ◌<◌, ℕ, List, Option, Some, slice_get, slice_index, IsSomeAnd}
 use Rattle.rtp_stream.specs.Counts.{tally_of}
 use Rattle.rtp_stream.specs.PathCounts.{path_tally_of}
@@ -15,19 +15,21 @@ use Rattle.rtp_stats.specs.declared.copy_tracker.CopyTracker.{CopyTracker}
 use Rattle.status_page.specs.declared.snapshot.PathState.{PathState}
 use Rattle.live_status.specs.Copies.{ShowsCopies}
 
--- of the events that were passed to an engine, the counts of this stream's merge, once its marks were taken
+-- the counts are those of this stream's merge after the events that were passed to the engine, once its marks were
+-- taken
 abbrev pub HasEngineCounts : EngineState → ℕ → Counts → Type 0
 HasEngineCounts engine number counts =
     (studio : Studio) (events : List TraceEvent) (datagrams : List (List ℕ)) (stream : Stream) → HasSession studio engine events datagrams → slice_get studio.streams number ≡ Some stream → HasAllMarks engine
     → tally_of counts ≡ merge_tally_of stream number studio.open_at events
 
--- and what became of a path's datagrams before it, of which so many are shown
+-- the outcomes of a path's datagrams before the merge; the snapshot shows this many datagrams
 abbrev pub HasEngineBefore : EngineState → ℕ → ℕ → Option PathCounts → ℕ → Type 0
 HasEngineBefore engine number path shown offered = IsSomeAnd shown (λ counts. (offered ≡ counts.offered)
     × ((studio : Studio) (events : List TraceEvent) (datagrams : List (List ℕ)) (stream : Stream) → HasSession studio engine events datagrams → slice_get studio.streams number ≡ Some stream
     → path_tally_of counts ≡ path_counts_of stream number path events))
 
--- of a path at its place: its first copies among these counts, what became of its datagrams, and its copies by the stream's tracker
+-- the path has its numbers: its first copies by these counts, the outcomes of its datagrams, and its copies by the
+-- stream's tracker
 pub record IsEnginePath (engine : EngineState) (tracker : Option CopyTracker) (number : ℕ) (counts : Counts) (place : ℕ) (old new : PathState) : Type 0 where
   pub first : place < 4 → new.first ≡ slice_index counts.taken_by place
   pub before : place < 4 → HasEngineBefore engine number place new.counts new.datagrams

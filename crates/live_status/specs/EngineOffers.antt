@@ -9,17 +9,18 @@ use Rattle.rtp_stats.specs.declared.copy_tracker.CopyTracker.{CopyTracker}
 use Rattle.studio_session.specs.declared.receipt.ArriveOutcome.{ArriveOutcome}
 use Rattle.studio_session.specs.declared.receipt.ArriveOutcome.TheVariants.{Offered, Bad, WrongType, WrongLength}
 
--- a tracker of a stream of which nothing was offered
+-- the tracker of a stream to which nothing was offered
 abbrev pub IsNewTracker : ℕ → Stream → CopyTracker → Type 0
 IsNewTracker place stream tracker = HasTally stream [] tracker.tally × (tracker.deadlines ≡ None)
 
--- a packet was noted by the tracker of the stream of this number alone
+-- a packet was noted only by the tracker of the stream with this number
 pub record AddsOfferAt (number path : ℕ) (fate : Fate) (seq ts : ℕ) (due : Option ℤ) (now : ℤ) (old new : List CopyTracker) : Type 0 where
   pub length_is : length new ≡ length old
   pub here : (was is : CopyTracker) → slice_get old number ≡ Some was → slice_get new number ≡ Some is → NotesOffer path fate seq ts due now was is
   pub elsewhere : (place : ℕ) → place ≢ number → slice_get new place ≡ slice_get old place
 
--- the packet of a datagram that was offered, which is no shorter than a header, is noted for its stream; no other datagram is noted
+-- the packet of an offered datagram is noted for its stream, if the datagram is not shorter than a header; other
+-- datagrams are not noted
 abbrev pub Notes : ArriveOutcome → ℕ → ℕ → List ℕ → Option ℤ → ℤ → List CopyTracker → List CopyTracker → Type 0
 Notes (Offered fate) number path octets due now old new = MatchBool (nat_lt (length octets) 12) (new ≡ old) (AddsOfferAt number path fate (head_at octets).seq (head_at octets).ts due now old new)
 Notes (Bad fault) number path octets due now old new = new ≡ old

@@ -13,14 +13,14 @@ use Rattle.live_status.specs.Publisher.{Shows}
 use Rattle.live_status.specs.declared.publisher.StatusPublisher.{StatusPublisher}
 use Rattle.live_status.specs.declared.stream_status.StreamStatus.{StreamStatus}
 
--- a stream of an engine: its name and latency, the counts of its merge, and each of its paths
+-- a stream of a snapshot: its name and latency, and the counts of its merge and of each path by the engine
 pub record IsEngineStream (engine : EngineState) (trackers : List CopyTracker) (number : ℕ) (status : StreamStatus) (stream : StreamState) : Type 0 where
   pub name_is : stream.name ≡ status.name
   pub latency_is : stream.latency ≡ status.latency
   pub counts : number < length engine.cursors → HasEngineCounts engine number stream.counts
   pub paths : number < length engine.cursors → AreEach (IsEnginePath engine (slice_get trackers number) number stream.counts) (replicate status.paths blank_path) stream.paths.items
 
--- a stream that was filled in: its counts and its paths are the engine's, and the rest is what it was
+-- a stream that was filled in: its counts and its paths are the engine's, and the rest did not change
 pub record FillsStream (engine : EngineState) (tracker : Option CopyTracker) (number : ℕ) (old new : StreamState) : Type 0 where
   pub name_is : new.name ≡ old.name
   pub condition_is : new.condition ≡ old.condition
@@ -28,11 +28,11 @@ pub record FillsStream (engine : EngineState) (tracker : Option CopyTracker) (nu
   pub counts : number < length engine.cursors → HasEngineCounts engine number new.counts
   pub paths : number < length engine.cursors → AreEach (IsEnginePath engine tracker number new.counts) old.paths.items new.paths.items
 
--- with the tracker at its place
+-- the stream was filled in with the tracker at its place
 abbrev pub FillsStreamAt : EngineState → List CopyTracker → ℕ → StreamState → StreamState → Type 0
 FillsStreamAt engine trackers number old new = FillsStream engine (slice_get trackers number) number old new
 
--- a channel of which so many samples were saturated, where that is counted
+-- the channel has the engine's count of its saturated samples, if there is one
 abbrev pub IsEngineOutput : EngineState → ℕ → OutputState → OutputState → Type 0
 IsEngineOutput engine channel blank output = IfSome (slice_get engine.mixer.saturated channel) (λ count. output.saturated ≡ count)
 

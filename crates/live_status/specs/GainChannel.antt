@@ -13,12 +13,12 @@ use Rattle.live_status.specs.declared.gain_channel.letters.RequestLetter.{Reques
 use Rattle.live_status.specs.declared.gain_channel.letters.OutcomeLetter.{OutcomeLetter}
 use Rattle.live_status.specs.declared.gain_channel.run_gains.RunGains.{RunGains}
 
--- the changes that the outcome of a request takes: one, or none
+-- the change of gains in the outcome of a request: one, or none
 abbrev pub changes_of : DeskAnswer → List ℤ → List (ℤ × List ℤ)
 changes_of (Answered answer next) gains = changes_in answer gains
 changes_of NoAnswer gains = []
 
--- the changes that were taken by the outcomes that were sent, in order
+-- the changes of gains in the outcomes that were sent, in order
 abbrev pub changes_sent : List OutcomeLetter → List (ℤ × List ℤ)
 changes_sent outcomes = flat_map (λ (letter : OutcomeLetter). changes_of letter.outcome letter.gains.items) outcomes
 
@@ -27,15 +27,16 @@ module _ {R : Type 0} where
   abbrev pub changes_by : RunGains R → List (ℤ × List ℤ)
   changes_by end = changes_sent (sent end.answers)
 
-  -- the times that a run's end keeps are those of the changes to come, at each time from this one on, of the studio with the changes that it has taken
+  -- the times that a run's end keeps are those of the changes still to come, at each time from this one on, in the
+  -- studio with the changes that the end has taken
   abbrev pub PlansFrom : Studio → ℤ → RunGains R → Type 0
   PlansFrom studio from end = AreKept studio (changes_by end) from end.planned.items
 
-  -- they are exactly those behind this time
+  -- the times that a run's end keeps are exactly those of the changes behind this time
   abbrev pub HasPlanned : Studio → ℤ → RunGains R → Type 0
   HasPlanned studio next end = end.planned.items ≡ planned_at studio (changes_by end) next
 
-  -- the run's end took the next request from the ring, and is to answer it
+  -- the run's end took the next request from the ring, and has to answer it
   pub record Opens (request : GainRequest) (before after : List ℤ) (old new : RunGains R) : Type 0 where
     pub letter : RequestLetter
     pub came : received new.requests ≡ received old.requests ++ letter ∷ []
@@ -44,7 +45,7 @@ module _ {R : Type 0} where
     pub gains : HasGains request.action letter.gains.items before after
     pub sent_are : sent new.answers ≡ sent old.answers
 
-  -- it took no request, or one that it sent back at once
+  -- the run's end took no request, or took one and sent it back at once
   abbrev pub Rests : RunGains R → RunGains R → Type 0
   Rests old new = (received new.requests ≡ received old.requests) × (new.taken ≡ old.taken) × (sent new.answers ≡ sent old.answers)
 
@@ -59,7 +60,8 @@ module _ {R : Type 0} where
   abbrev pub PassesBack : RunGains R → RunGains R → Type 0
   PassesBack old new = Rests old new ⊎ Returns old new
 
-  -- it sent this answer to the request of a letter, with the gains that the answer shows and the times of the planned changes
+  -- the run's end sent this answer to the request of a letter, with the gains that it shows and the times of the
+  -- planned changes
   pub record Answers (letter : RequestLetter) (answer : GainAnswer) (next : ℤ) (gains : List ℤ) (old new : RunGains R) : Type 0 where
     pub outcome : OutcomeLetter
     pub own : outcome.number ≡ letter.number

@@ -11,7 +11,7 @@ use Rattle.live_status.specs.declared.gain_channel.letters.OutcomeLetter.{Outcom
 use Rattle.live_status.specs.declared.gain_channel.page_desk.LetterMemory.{LetterMemory}
 use Rattle.live_status.specs.declared.gain_channel.page_desk.PageDesk.{PageDesk}
 
--- the gains in a buffer after an outcome: those that an answer shows, or those before
+-- the gains in a buffer after an outcome: the gains that an answer shows, or those before
 abbrev pub Shows : DeskAnswer → Option LetterMemory → List ℤ → List ℤ → Type 0
 Shows (Answered answer next) memory before after = CopiesIfFit memory before after
 Shows NoAnswer memory before after = after ≡ before
@@ -27,7 +27,7 @@ module _ {R : Type 0} where
     pub received_are : received new.outcomes ≡ received old.outcomes
     pub away : new.memory ≡ None
 
-  -- a request was sent or, if not, nothing was
+  -- a request was sent, or, if not, nothing was sent
   abbrev pub SendsIf : Bool → GainRequest → List ℤ → PageDesk R → PageDesk R → Type 0
   SendsIf true request gains old new = Sends request gains old new
   SendsIf false request gains old new = sent new.requests ≡ sent old.requests
@@ -41,7 +41,7 @@ module _ {R : Type 0} where
     pub kept : new.memory ≡ Some (record { gains = letter.gains; planned = letter.planned })
     pub sent_are : sent new.requests ≡ sent old.requests
 
-  -- or none has come back
+  -- no outcome has come back, and a letter still carries the memory
   pub record CollectsNone (old new : PageDesk R) : Type 0 where
     pub received_are : received new.outcomes ≡ received old.outcomes
     pub away : new.memory ≡ None
@@ -51,7 +51,8 @@ module _ {R : Type 0} where
   Collects old None new = CollectsNone old new
   Collects old (Some outcome) new = CollectsOne outcome old new
 
-  -- a request was sent, and its own outcome came back: the run's answer, with the gains that it shows and the times of the planned changes
+  -- a request was sent, and its own outcome came back: the run's answer, with the gains that it shows and the times of
+  -- the planned changes
   pub record IsAnswered (request : GainRequest) (before : List ℤ) (answer : GainAnswer) (next : ℤ) (after : List ℤ) (old new : PageDesk R) : Type 0 where
     pub asked : RequestLetter
     pub sent_are : sent new.requests ≡ sent old.requests ++ asked ∷ []
@@ -65,13 +66,13 @@ module _ {R : Type 0} where
     pub shown : length reply.gains.items ≡ length before → after ≡ reply.gains.items
     pub planned : planned_in new.memory ≡ reply.planned.items
 
-  -- a request was sent without an answer, or not sent
+  -- a request was sent and not answered, or was not sent
   abbrev pub IsNotAnswered : GainRequest → List ℤ → List ℤ → PageDesk R → PageDesk R → Type 0
   IsNotAnswered request before after old new =
       (after ≡ before) × ((sent new.requests ≡ sent old.requests)
       ⊎ ((asked : RequestLetter) × (sent new.requests ≡ sent old.requests ++ asked ∷ []) × (asked.request ≡ request) × (asked.gains.items ≡ before)))
 
-  -- a page asked for this request with these gains in the buffer, and this is the outcome
+  -- the page sent this request with these gains from the buffer, if it could, and this is the outcome
   abbrev pub Asks : PageDesk R → GainRequest → List ℤ → DeskAnswer → List ℤ → PageDesk R → Type 0
   Asks old request before (Answered answer next) after new = IsAnswered request before answer next after old new
   Asks old request before NoAnswer after new = IsNotAnswered request before after old new

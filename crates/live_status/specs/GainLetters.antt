@@ -6,17 +6,17 @@ use Rattle.live_status.specs.declared.gain_channel.letters.OutcomeLetter.{Outcom
 use Rattle.studio_io.specs.declared.gain_source.GainAction.{GainAction}
 use Rattle.studio_io.specs.declared.gain_source.GainAction.TheVariants.{SetAll, SetOne, Show}
 
--- the number of requests that are to be answered
+-- the number of requests that wait for an answer
 abbrev pub count_of : Option RequestLetter → ℕ
 count_of None = 0
 count_of (Some letter) = 1
 
--- there is one
+-- a request waits for an answer
 abbrev pub has_one : Option RequestLetter → Bool
 has_one None = false
 has_one (Some letter) = true
 
--- the gains in a buffer after a request was taken: those of the request if it sets all, and else those before
+-- the gains in a buffer after a request was taken: those of the request if it sets all, or else those before
 abbrev pub HasGains : GainAction → List ℤ → List ℤ → List ℤ → Type 0
 HasGains SetAll wanted before after = after ≡ wanted
 HasGains (SetOne output input gain) wanted before after = after ≡ before

@@ -2,12 +2,12 @@
 use Rattle.std.specs.Prelude.{◌≡◌, ℕ, ℤ, List, [], length, Option, Some, None}
 use Rattle.live_status.specs.declared.gain_channel.page_desk.LetterMemory.{LetterMemory}
 
--- 1 if the memory is not here
+-- 1 if the memory is not here, and 0 if it is
 abbrev pub missing : {T : Type 0} → Option T → ℕ
 missing None = 1
 missing (Some memory) = 0
 
--- the gains in a buffer, where the memory has these: those, if they are as many
+-- the gains in a buffer after a copy from the memory: the memory's, if there are as many
 abbrev pub CopiesIfFit : Option LetterMemory → List ℤ → List ℤ → Type 0
 CopiesIfFit None before after = after ≡ before
 CopiesIfFit (Some memory) before after = length memory.gains.items ≡ length before → after ≡ memory.gains.items

@@ -1,4 +1,4 @@
--- The lines of a live run: those of its report that a played one does not have, and those while it goes on.
+-- The lines of a live run: those of its report that a played one does not have, and those on standard error.
 use Rattle.std.specs.Prelude.{ℕ, ℤ, Bool, true, false, ◌++◌, ◌∷◌, [], List, Option, Some, None, codes}
 use Rattle.std.specs.Fmt.{decimal, signed_decimal}
 use Rattle.rtp_stream.specs.CountsFacts.{Tally}
@@ -12,7 +12,7 @@ use Rattle.status_page.specs.declared.snapshot.SocketState.{SocketState}
 use Rattle.status_page.specs.declared.snapshot.WavState.{WavState}
 use Rattle.live_status.specs.declared.lines.report.SinkCounts.{SinkCounts}
 
--- the line of a path's feed: how often it failed
+-- the line of a path's feed: the number of its faults
 abbrev pub feed_line : ℕ → ℕ → ℕ → List ℕ
 feed_line stream path faults = codes "feed " ++ decimal stream ++ codes " " ++ path_letter path ++ count_text (codes "faults") faults ++ 10 ∷ []
 
@@ -26,22 +26,22 @@ sink_line counts =
     ++ count_text (codes "fault_b") counts.fault_b
     ++ 10 ∷ []
 
--- the line of a stream with so many paths, at this reading of the clock: each number behind its word and a sign
+-- the line of a stream with this many paths, at this clock reading: each number after its word and a sign
 abbrev pub running_line : ℕ → ℕ → ℤ → Tally → List ℕ
 running_line stream paths time counts =
     codes "stream=" ++ decimal stream ++ codes " time=" ++ signed_decimal time ++ tally_text (codes "=") paths counts ++ 10 ∷ []
 
--- whether something holds
+-- 1 if something holds, and 0 if not
 abbrev pub flag_text : Bool → List ℕ
 flag_text true = codes "1"
 flag_text false = codes "0"
 
--- a number, or a dash where it is not known
+-- a number, or a dash if it is not known
 abbrev pub known_text : Option ℕ → List ℕ
 known_text None = codes "-"
 known_text (Some number) = decimal number
 
--- the line of the socket of a path, at this reading of the clock, in three parts: its place, its faults, and what it lost
+-- the line of the socket of a path, at this clock reading, in three parts: its place, its faults, and its losses
 abbrev pub socket_place : ℕ → ℕ → ℤ → List ℕ
 socket_place stream path time = codes "socket=" ++ decimal stream ++ path_letter path ++ codes " time=" ++ signed_decimal time
 
@@ -54,7 +54,8 @@ socket_losses socket = codes " dropped=" ++ known_text socket.dropped ++ codes "
 abbrev pub socket_line : ℕ → ℕ → ℤ → SocketState → List ℕ
 socket_line stream path time socket = socket_place stream path time ++ socket_faults socket ++ socket_losses socket
 
--- the line of a run, at this reading of the clock, in four parts: what was not sent of each copy of the mix, its record, its WAV file, and its raw PCM
+-- the line of a run, at this clock reading, in four parts: the failed sends of each copy of the mix, its record, its
+-- WAV file, and its raw PCM
 unfoldable pub run_time : ℤ → List ℕ
 run_time time = codes "run time=" ++ signed_decimal time
 

@@ -1,4 +1,4 @@
--- The snapshots that a publisher shows.
+-- The snapshots that a publisher sends.
 use Rattle.std.specs.Prelude.{◌≡◌, ◌≤◌, ℕ, ℤ, int_le, Bool, false, ◌||◌, List, length, replicate, Option, option_map, unwrap_or, IsNone, IsSomeAnd, MatchOption}
 use Rattle.rtrb.specs.declared.producer.Producer.{Producer}
 use Rattle.rtp_stats.specs.Channel.{Gives}
@@ -11,21 +11,21 @@ use Rattle.live_status.specs.declared.reception_watch.stream_watch.StreamWatch.{
 use Rattle.live_status.specs.declared.publisher.StatusPublisher.{StatusPublisher}
 use Rattle.live_status.specs.declared.stream_status.StreamStatus.{StreamStatus}
 
--- as many streams and output channels as there are, of which nothing is counted; a snapshot holds up to 16 streams
+-- a snapshot in which all counts are 0, with these streams, of which it holds up to 16, and output channels
 pub record IsBlankSnapshot (statuses : List StreamStatus) (channels : ℕ) (snapshot : Snapshot) : Type 0 where
   pub streams : length statuses ≤ 16 → AreEach IsBlankOf statuses snapshot.streams.items
   pub outputs : snapshot.outputs.items ≡ replicate channels blank_output
 
--- the snapshot that was passed in, with its streams so
+-- the snapshot that was passed in, with the conditions of its streams and what their watches show
 pub record IsShown (watches : List StreamWatch) (statuses : List StreamStatus) (now : ℤ) (has_ended : Bool) (given shown : Snapshot) : Type 0 where
   pub streams : ShowsStreams watches statuses now has_ended given.streams.items shown.streams.items
   pub outputs : shown.outputs ≡ given.outputs
 
--- that snapshot went through the ring, if there was room
+-- the snapshot, with these conditions and watches, went through the ring, if there was room
 abbrev pub GivesShown : {A P : Type 0} → List StreamWatch → List StreamStatus → ℤ → Bool → Snapshot → Producer Snapshot A P → Producer Snapshot A P → Type 0
 GivesShown watches statuses now has_ended given old new = (shown : Snapshot) × IsShown watches statuses now has_ended given shown × Gives shown old new
 
--- a snapshot goes through the page's ring, if there is a page and room; and there is a page still
+-- the snapshot goes through the page's ring, if there is a page and room; the page stays
 abbrev pub Shows : {A P : Type 0} → List StreamWatch → List StreamStatus → ℤ → Bool → Snapshot → Option (Producer Snapshot A P) → Option (Producer Snapshot A P) → Type 0
 Shows watches statuses now has_ended given old new = MatchOption old (IsNone new) (λ ring. IsSomeAnd new (GivesShown watches statuses now has_ended given ring))
 

@@ -6,7 +6,7 @@ use Rattle.status_page.specs.Blank.{IsBlank}
 use Rattle.status_page.specs.declared.snapshot.StreamState.{StreamState}
 use Rattle.live_status.specs.declared.stream_status.StreamStatus.{StreamStatus}
 
--- a stream of this name, of which nothing came by this time
+-- the status of a stream with this name, of which nothing was taken by this time
 pub record IsNewStatus (name : Option ArrayString) (now : ℤ) (stream : Stream) (status : StreamStatus) : Type 0 where
   pub name_is : status.name ≡ name
   pub latency_is : status.latency ≡ stream.latency
@@ -14,10 +14,10 @@ pub record IsNewStatus (name : Option ArrayString) (now : ℤ) (stream : Stream)
   pub taken_is : status.presence.taken ≡ 0
   pub since_is : status.presence.since ≡ now
 
--- that of the stream at a place among these names
+-- the status of the stream at a place among these names
 abbrev pub IsNewStatusAt : List (Option ArrayString) → ℤ → ℕ → Stream → StreamStatus → Type 0
 IsNewStatusAt names now place stream status = IsNewStatus (slice_index_or names place None) now stream status
 
--- its name, its latency and its paths, and nothing that came
+-- a stream in a snapshot with its name, its latency and its paths, and all counts 0
 abbrev pub IsBlankOf : ℕ → StreamStatus → StreamState → Type 0
 IsBlankOf place status stream = IsBlank status.name status.latency status.paths stream

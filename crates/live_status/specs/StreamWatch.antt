@@ -8,7 +8,7 @@ use Rattle.live_status.specs.Watch.{NotesPath, ShowsPath, any_in_time, most_left
 use Rattle.live_status.specs.declared.reception_watch.stream_watch.StreamWatch.{StreamWatch}
 use Rattle.live_status.specs.declared.stream_status.StreamStatus.{StreamStatus}
 
--- a stream of which nothing came by this time: its window holds so many packets, of so many sampling instants each
+-- the watch of a stream of which nothing was taken by this time; its room is the window in sampling instants
 pub record IsNewWatch (now : ℤ) (stream : Stream) (watch : StreamWatch) : Type 0 where
   pub room_is : watch.room ≡ stream.window * stream.frames
   pub restarts_are : watch.restarts ≡ 0
@@ -23,11 +23,11 @@ pub record NotesStream (now : ℤ) (stream : StreamState) (old new : StreamWatch
   pub restarts_are : new.restarts ≡ stream.counts.restarts
   pub paths_are : AreEach (NotesPath now old.room (not (stream.counts.restarts == old.restarts)) stream.paths.items) old.paths new.paths
 
--- that of the stream at a place, if there is one
+-- the watch at a place noted the stream at that place, if there is one
 abbrev pub NotesStreamAt : ℤ → List StreamState → ℕ → StreamWatch → StreamWatch → Type 0
 NotesStreamAt now streams place old new = MatchOption (slice_get streams place) (new ≡ old) (λ stream. NotesStream now stream old new)
 
--- what a watch shows of a stream: the time that is left, and each path; the rest is what it was
+-- the watch is shown in a stream: the time that is left, and each path; the rest did not change
 pub record ShowsWatch (has_ended : Bool) (watch : StreamWatch) (old new : StreamState) : Type 0 where
   pub name_is : new.name ≡ old.name
   pub condition_is : new.condition ≡ old.condition
@@ -36,11 +36,11 @@ pub record ShowsWatch (has_ended : Bool) (watch : StreamWatch) (old new : Stream
   pub left_is : new.seconds_left ≡ most_left watch.paths
   pub paths_are : AreEach (ShowsPath has_ended (any_in_time watch.paths) watch.paths) old.paths.items new.paths.items
 
--- that of the watch at a place, if there is one
+-- the watch at a place is shown in the stream at that place, if there is one
 abbrev pub ShowsWatchAt : Bool → List StreamWatch → ℕ → StreamState → StreamState → Type 0
 ShowsWatchAt has_ended watches place old new = MatchOption (slice_get watches place) (new ≡ old) (λ watch. ShowsWatch has_ended watch old new)
 
--- streams with their conditions at this time, and with what their watches show once they noted these streams
+-- the streams with their conditions at this time, and with their watches, which have noted these streams
 pub record ShowsStreams (watches : List StreamWatch) (statuses : List StreamStatus) (now : ℤ) (has_ended : Bool) (given shown : List StreamState) : Type 0 where
   pub set : List StreamState
   pub noting : List StreamWatch

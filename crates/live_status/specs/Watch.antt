@@ -1,4 +1,5 @@
--- The state of paths as a snapshot shows it, by their margins, and by the times at which their packets came in time, late or too early.
+-- The state of paths in a snapshot, by their arrival margins, and by the times at which their packets arrived in time,
+-- late or too early.
 use Rattle.std.specs.Prelude.{◌≡◌, ℕ, ◌+◌, ◌-◌, ◌^◌, max, min, nat_lt, Bool, true, false, not, ◌&&◌, ◌==◌, List, [], fold, slice_get, ℤ, pos, ◌+ℤ◌, int_le, Option, Some, None, option_map, MatchOption, if◌then◌else◌}
 use Rattle.rtp_stats.specs.Drift.{MinuteState, drift_of, minute_after, minute_from}
 use Rattle.rtp_stats.specs.Margins.{second_of}
@@ -9,27 +10,27 @@ use Rattle.status_page.specs.declared.snapshot.PathState.{PathState}
 use Rattle.live_status.specs.declared.reception_watch.count_watch.CountWatch.{CountWatch}
 use Rattle.live_status.specs.declared.reception_watch.path_watch.PathWatch.{PathWatch}
 
--- a count, and since when it is what it is
+-- a count, with the time since which it has not changed
 abbrev pub count_after : ℕ → ℤ → CountWatch → CountWatch
 count_after count now watch = if count == watch.count then watch else record { count = count; since = now }
 
--- it has stayed for two seconds
+-- the count has not changed for two seconds
 abbrev pub is_still : CountWatch → ℤ → Bool
 is_still watch now = int_le (watch.since +ℤ pos 96000) now
 
--- what a counter of 64 bits shows of a sum
+-- the sum in a counter of 64 bits
 abbrev pub sum_in_64_bits : ℕ → ℕ → ℕ
 sum_in_64_bits a b = min (a + b) (2 ^ 64 - 1)
 
--- the packets of a path that came in time: first copies and further ones
+-- the packets of a path that arrived in time: first copies and further ones
 abbrev pub in_time_of : ℕ → CopyCounts → ℕ
 in_time_of first copies = sum_in_64_bits (sum_in_64_bits first copies.double) copies.unlike
 
--- those that came late or too early
+-- the packets of a path that were late or too early
 abbrev pub astray_of : CopyCounts → ℕ
 astray_of copies = sum_in_64_bits copies.late copies.ahead
 
--- both, watched from the counts that are known
+-- both counts are watched once they are known
 abbrev pub in_time_count : Option CopyCounts → ℕ → ℤ → CountWatch → CountWatch
 in_time_count None first now watch = watch
 in_time_count (Some copies) first now watch = count_after (in_time_of first copies) now watch
@@ -38,12 +39,12 @@ abbrev pub astray_count : Option CopyCounts → ℤ → CountWatch → CountWatc
 astray_count None now watch = watch
 astray_count (Some copies) now watch = count_after (astray_of copies) now watch
 
--- the margins of the last minute, with those that are shown now: an epoch that began leaves out what was before
+-- the margins of the last minute, with those of this second, if there are any
 abbrev pub minute_with : Option ArrivalMargin → MinuteState → MinuteState
 minute_with None minute = minute
 minute_with (Some margin) minute = minute_after margin minute
 
--- a path on which nothing came by this time
+-- the watch of a path on which nothing has arrived by this time
 abbrev pub new_path_watch : ℤ → PathWatch
 new_path_watch now = record {
   minute = record { next = 0; margins = [] };
@@ -54,11 +55,11 @@ new_path_watch now = record {
   is_astray = false;
 }
 
--- the margins that are kept, once an epoch that began left out what was before, and those that are shown now were noted
+-- the margins that are kept after those of this second were noted; an epoch that begins leaves out all earlier margins
 abbrev pub minute_noted : ℕ → Bool → Option ArrivalMargin → MinuteState → MinuteState
 minute_noted second begins margin minute = minute_with margin (if begins then minute_from second else minute)
 
--- packets came in the last two seconds, and each was late or too early
+-- packets arrived in the last two seconds, and each was late or too early
 abbrev pub is_astray : CountWatch → CountWatch → ℤ → Bool
 is_astray in_time astray now = if is_still in_time now then not (is_still astray now) else false
 
@@ -75,7 +76,7 @@ pub record IsNoted (now : ℤ) (room : ℕ) (begins : Bool) (path : PathState) (
 abbrev pub any_in_time : List PathWatch → Bool
 any_in_time watches = fold (λ found watch. if watch.is_in_time then true else found) false watches
 
--- the last 64 packets repeat numbers that were heard, and no path is in time
+-- the last 64 packets repeat numbers that were received in time, and no path is in time
 abbrev pub repeats : Option CopyCounts → Bool
 repeats None = false
 repeats (Some copies) = nat_lt 63 copies.repeated
@@ -83,7 +84,7 @@ repeats (Some copies) = nat_lt 63 copies.repeated
 abbrev pub is_repeating : Bool → Bool → Option CopyCounts → Bool
 is_repeating has_ended others copies = if has_ended then false else (if others then false else repeats copies)
 
--- a path as its watch shows it
+-- the path in a snapshot, by its watch
 abbrev pub shown_path : Bool → Bool → PathWatch → PathState → PathState
 shown_path has_ended others watch path = record path {
   drift = option_map (λ drift. drift.ppm) watch.drift;
@@ -91,7 +92,7 @@ shown_path has_ended others watch path = record path {
   is_repeating = is_repeating has_ended others path.copies;
 }
 
--- the greater of a time that is left and that of a path
+-- the greater of a time left and that of a path
 abbrev pub greater : Option ℕ → ℕ → ℕ
 greater None left = left
 greater (Some most) left = max most left
@@ -103,7 +104,7 @@ with_left most (Some drift) = Some (greater most drift.left)
 abbrev pub left_with : Option ℕ → PathWatch → Option ℕ
 left_with most watch = with_left most watch.drift
 
--- that of the path with the most
+-- the time left of the path that has the most
 abbrev pub most_left : List PathWatch → Option ℕ
 most_left watches = fold left_with None watches
 
@@ -111,6 +112,6 @@ most_left watches = fold left_with None watches
 abbrev pub NotesPath : ℤ → ℕ → Bool → List PathState → ℕ → PathWatch → PathWatch → Type 0
 NotesPath now room begins paths place old new = MatchOption (slice_get paths place) (new ≡ old) (λ path. IsNoted now room begins path old new)
 
--- the path at a place is shown by the watch at that place, if there is one
+-- the path at a place has what the watch at that place shows, if there is one
 abbrev pub ShowsPath : Bool → Bool → List PathWatch → ℕ → PathState → PathState → Type 0
 ShowsPath has_ended others watches place old new = MatchOption (slice_get watches place) (new ≡ old) (λ watch. new ≡ shown_path has_ended others watch old)

@@ -1,4 +1,4 @@
-//! The channel between a page that asks for gains and a run: `page_desk` is the page's end, `run_gains` the run's end.
+//! The channel between a page that requests gains and a run: `page_desk` is the page's end, `run_gains` the run's end.
 //! They pass `letters` to each other through two rings of one place, and share a `link`. The run's end keeps the times
 //! of the changes that are still to come (`planned`).
 ghost use Rattle.std.specs.Prelude.{◌≡◌, ℤ, [], IfOk, IfSome};
@@ -25,7 +25,7 @@ pub(crate) mod run_gains;
 /// The two ends of a channel.
 #[derive(Drop)]
 pub struct GainChannel<'a, R> {
-    /// The end in the page's thread, which asks for gains.
+    /// The end in the page's thread, which requests gains.
     pub desk: PageDesk<'a, R>,
     /// The end in the run's thread, which answers.
     pub gains: RunGains<'a, R>,

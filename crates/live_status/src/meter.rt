@@ -10,7 +10,7 @@ use rtp_wire::Enc;
 use status_page::OutputState;
 use std::sync::atomic::{AtomicU32, Ordering};
 
-/// A meter that measures the datagrams of the mix as they are sent, and that may be read in another thread.
+/// A meter that measures the datagrams of the mix as they are sent, and that another thread may read.
 // Peaks are atomics and not behind a lock, so the thread that sends never waits for the one that reads.
 #[derive(Drop)]
 pub struct Meter {

@@ -34,7 +34,7 @@ pub(crate) const MAX_CHANNELS: usize = 8;
 
 /// The period of snapshots, in sampling instants at 48 kHz: a tenth of a second.
 // The page asks for a snapshot ten times a second, and the workers send their statistics as often. The watches of the
-// streams see each second, also if only lines are wanted.
+// streams need each second, also if only lines are wanted.
 const SNAPSHOT_INTERVAL: i64 = 4_800;
 
 /// The publisher of a run's status, to its page and as lines on standard error.

@@ -1,5 +1,6 @@
 //! The watch of all streams: the drift of each path, the time that is left, and paths of which no packet is in time.
-//! `stream_watch` has that of a stream, `path_watch` of a path, and `count_watch` since when a count stays.
+//! `stream_watch` has the watch of a stream, `path_watch` of a path, and `count_watch` the time since which a count
+//! stays.
 ghost use Rattle.std.specs.Prelude.{IfOk};
 ghost use Rattle.live_status.specs.Each.{AreEach};
 ghost use Rattle.live_status.specs.StreamWatch.{IsNewWatchAt, NotesStreamAt, ShowsWatchAt};

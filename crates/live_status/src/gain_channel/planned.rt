@@ -25,7 +25,7 @@ pub(crate) fn planned_of(alloc: Global, studio: &StudioSpec) -> Result<Vec<i64>,
 }
 
 /// Updates the times of the changes to come after an answer whose next block begins at `next`, and copies them to the
-/// memory of a letter. A change that was taken replaces those from its time on; what is due by `next` goes.
+/// memory of a letter. A change that was taken replaces those from its time on; times up to `next` are removed.
 pub(crate) fn update_planned<R: Wait>(
     rt: &R,
     answer: GainAnswer,
@@ -36,7 +36,7 @@ pub(crate) fn update_planned<R: Wait>(
     ensures planned { planned.new.items ≡ planned_after answer next planned.old.items }
     ensures memory { memory.new.items ≡ planned.new.items }
 {
-    // What is due goes first, so that no more than 64 times are held: a mixer counts only changes to come.
+    // Times that are due are removed first, so that no more than 64 are held: a mixer counts only changes to come.
     write_taken(rt, answer, behind(planned.as_slice(), next), memory);
     copy_times(rt, behind(memory.as_slice(), next), planned);
     copy_times(rt, planned.as_slice(), memory);
@@ -91,7 +91,7 @@ fn push_time<R: Wait>(rt: &R, time: i64, memory: &mut Vec<i64>)
     unreachable!()
 }
 
-/// Copies times to `memory`, in the place of those that it has.
+/// Copies times to `memory`, and removes the times that it had.
 fn copy_times<R: Wait>(rt: &R, times: &[i64], memory: &mut Vec<i64>)
     ensures { memory.new.items ≡ times.now }
 {

@@ -95,7 +95,8 @@ fn push_drift_change(text: &mut TextBuffer, drift: Option<i64>)
     push_change(text, drift);
 }
 
-/// Adds whether the path is astray, and whether it repeats numbers that were heard, and ends the line.
+/// Adds two flags: whether the path is astray, and whether it repeats numbers that were received in time. Ends the
+/// line.
 fn push_drift_flags(text: &mut TextBuffer, state: &PathState)
     requires { length text.old + 100 ≤ 65536 }
     ensures { text.new ≡ text.old ++ drift_flags state.now }

@@ -2,7 +2,7 @@
 ghost use Rattle.std.specs.Prelude.{◌≡◌};
 ghost use Rattle.live_status.specs.Watch.{count_after, is_still};
 
-/// The time after which a count that stays stands still, in sampling instants: two seconds.
+/// The time without a change after which a count is still, in sampling instants: two seconds.
 const STILL_AFTER: i64 = 96_000;
 
 /// A count of packets, and the time since which no packet was added.

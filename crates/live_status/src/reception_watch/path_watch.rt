@@ -125,7 +125,7 @@ fn is_astray(in_time: &CountWatch, astray: &CountWatch, now: i64) -> bool
     false
 }
 
-/// Returns true if the last packets of a path repeat numbers that were heard, while no path is in time.
+/// Returns true if the last packets of a path repeat numbers that were received in time, while no path is in time.
 fn is_repeating(has_ended: bool, others: bool, copies: Option<CopyCounts>) -> bool
     ensures { result ≡ is_repeating has_ended others copies }
 {
