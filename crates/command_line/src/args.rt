@@ -43,7 +43,7 @@ pub enum FileCommand<'a> {
 #[derive(Clone, Copy)]
 pub struct StreamWavArgs<'a> {
     // The option takes two words of one kind, a number and a path, so the command parses the number itself.
-    /// The stream's number, as the word that was given.
+    /// The stream's number, as it was typed.
     pub stream: &'a str,
     /// The file's path.
     pub file: &'a str,
@@ -75,8 +75,7 @@ pub struct StreamsArgs<'a> {
 pub struct ReplayArgs<'a> {
     /// The capture's path, or `-` for standard input.
     pub file: &'a str,
-    /// The addresses and ports of the flows, as the words that were given. If it is empty, all flows that fit a stream
-    /// are taken.
+    /// The addresses and ports of the flows, as they were typed. If it is empty, all flows that fit a stream are taken.
     pub addresses: Vec<&'a str>,
     /// The longest step forward of the capture's time that is no fault, in seconds.
     pub gap: u64,
@@ -102,8 +101,7 @@ impl ReplayArgs<'_> {
 /// The arguments of `import`.
 #[derive(Drop)]
 pub struct ImportArgs<'a> {
-    /// The addresses and ports of the flows, as the words that were given. If it is empty, all flows that fit a stream
-    /// are taken.
+    /// The addresses and ports of the flows, as they were typed. If it is empty, all flows that fit a stream are taken.
     pub addresses: Vec<&'a str>,
     /// True if the configuration is asked for instead of the trace.
     pub config: bool,

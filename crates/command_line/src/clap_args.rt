@@ -28,10 +28,10 @@ impl ArgKind {
     pub(crate) const FLAG: ArgKind = ArgKind::Option(ArgAction::SetTrue, &[], ValueParser::Bool);
 }
 
-/// The relation of an option to another one.
+/// The relation of an option to another option.
 #[derive(Clone, Copy)]
 pub(crate) enum ArgRelation {
-    /// The option can be given with and without any other.
+    /// The option needs no other option, and excludes none.
     Free,
     /// The option needs this other one.
     Needs(&'static str),
@@ -40,7 +40,7 @@ pub(crate) enum ArgRelation {
 }
 
 impl ArgSpec {
-    /// Returns clap's argument for this one.
+    /// Returns clap's argument for this option or path.
     pub(crate) fn clap_arg<'a>(&self, alloc: Global) -> Result<Arg<'a>, AllocError> {
         let arg = Arg::new(alloc, self.name).help(self.help);
         match self.kind {
@@ -105,7 +105,7 @@ fn command_parser<'a>(alloc: Global, spec: &CommandSpec) -> Result<Command<'a>, 
         .args(args)
 }
 
-/// Returns clap's arguments for those of a command.
+/// Returns clap's arguments for a command.
 fn arg_list<'a>(alloc: Global, spec: &CommandSpec) -> Result<Vec<Arg<'a>>, AllocError> {
     let mut args = Vec::with_capacity(alloc, spec.args.len())?;
     for arg in spec.args {

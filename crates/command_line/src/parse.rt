@@ -9,7 +9,8 @@ use live_io::LiveOptions;
 use std::alloc::{AllocError, Global};
 
 // A recorder that stops and starts again within a minute is one capture. A clock that is set steps by years.
-/// The longest step forward of a capture's time that is no fault, in seconds, unless another one is given.
+/// The longest step forward of a capture's time that is no fault, in seconds, unless the command line has another
+/// limit.
 const GAP: u64 = 60;
 
 /// Returns the command that the words ask for. The program's name is not among the words. Help and the version are
@@ -70,7 +71,7 @@ fn parse_command<'a>(alloc: Global, matches: &ArgMatches<'a>) -> Result<CliComma
             FileCommand::Import(capture, import_args(alloc, inner)?)
         }
         (None, Some(capture)) => FileCommand::Streams(streams_args(capture, inner)),
-        // Never: each command requires one of these paths.
+        // Not reached: each command requires one of these paths.
         (None, None) => FileCommand::QuickStart,
     };
     Ok(CliCommand::File(command))

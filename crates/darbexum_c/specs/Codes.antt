@@ -1,4 +1,4 @@
--- The numbers that stand for results.
+-- The numbers that represent results.
 use Rattle.std.specs.Prelude.{ℕ, ℤ, List, pos, negsuc, nat_lt, length, slice_get, Option, Some, None, if◌then◌else◌, option_map}
 use Rattle.gain_mix.specs.declared.live.ChangeFault.{ChangeFault}
 use Rattle.gain_mix.specs.declared.live.ChangeFault.TheVariants.{Shape, Range, Time, TooMany}
@@ -114,25 +114,25 @@ abbrev pub gains_code : Option ChangeFault → ℤ
 gains_code None = pos 0
 gains_code (Some fault) = change_fault_code fault
 
--- whether a change of gains is taken
+-- 0 if a change of gains is taken, or else the code of its fault
 abbrev pub gains_code_of : EngineState → ℤ → List ℤ → ℤ
 gains_code_of engine at gains = gains_code (gains_fault_of engine.mixer at gains)
 
--- why a datagram isn't taken: its path is no path of any stream, or the engine's fault
+-- the code of the reason why a datagram isn't taken: its path is no path of any stream, or the engine's fault
 abbrev pub arrive_code_of : EngineState → ℕ → ℕ → Option ℤ
 arrive_code_of engine stream path = if nat_lt path 4 then option_map arrive_fault_code (arrive_fault_of engine stream path) else Some no_path
 
--- why a clock reading isn't taken: the room is shorter than a datagram, or the engine's fault
+-- the code of the reason why a clock reading isn't taken: the room is shorter than a datagram, or the engine's fault
 abbrev pub turn_code_of : EngineState → ℤ → ℕ → Option ℤ
 turn_code_of engine now room =
     if nat_lt room (datagram_length engine.mixer.packer.spec) then Some short_room
     else option_map clock_fault_code (clock_fault_of engine.time engine.closed now)
 
--- whether a struct of this size holds what is written
+-- 0 if a struct of this size has room for the values, or else a code
 abbrev pub size_code_of : ℕ → ℕ → ℤ
 size_code_of needed size = if nat_lt size needed then short_room else pos 0
 
--- whether what is asked of a stream can be written
+-- 0 if the values of a stream can be written, or else a code
 abbrev pub stream_code_of : ℕ → EngineState → ℕ → ℕ → ℤ
 stream_code_of needed engine stream size =
     if nat_lt size needed then short_room else if nat_lt stream (length engine.cursors) then pos 0 else no_stream
@@ -141,7 +141,7 @@ abbrev pub path_code_in : ℕ → Option CursorState → ℤ
 path_code_in path None = no_stream
 path_code_in path (Some cursor) = if nat_lt path cursor.spec.paths then pos 0 else no_path
 
--- whether what is asked of a stream's path can be written
+-- 0 if the values of a stream's path can be written, or else a code
 abbrev pub path_code_of : ℕ → EngineState → ℕ → ℕ → ℕ → ℤ
 path_code_of needed engine stream path size =
     if nat_lt size needed then short_room else path_code_in path (slice_get engine.cursors stream)

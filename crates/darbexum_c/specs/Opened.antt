@@ -1,4 +1,4 @@
--- The engine that a configuration's octets make, and why octets make none.
+-- The engine of a configuration's octets, and the reasons why octets make none.
 use Rattle.std.specs.Prelude.{◌≡◌, ◌⊎◌, ◌<◌, false, ℕ, List, [], length, Some, None, IsUtf8}
 use Rattle.toml.specs.Data.{Members}
 use Rattle.toml.specs.Parse.{parse_document}
@@ -29,7 +29,7 @@ pub record IsNoStudio (octets : List ℕ) (fault : SpecError) : Type 0 where
   pub reads : parse_document octets ≡ Some members
   pub fault_is : config_fault_of members ≡ Some fault
 
--- the reason why octets make no engine; memory may be refused for any
+-- the reason why octets make no engine; an allocation may fail for any octets
 abbrev pub IsOpenFault : List ℕ → OpenFault → Type 0
 IsOpenFault octets NoToml = IsNoToml octets
 IsOpenFault octets (NoStudio fault) = IsNoStudio octets fault

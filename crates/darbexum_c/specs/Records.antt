@@ -18,10 +18,10 @@ tally_in c = record { arrived = c.arrived; taken = c.taken; taken_by = c.taken_b
 abbrev pub path_tally_in : PathCounts → PathTally
 path_tally_in c = record { offered = c.offered; sent = c.sent; bad = c.bad; wrong_type = c.wrong_type; wrong_length = c.wrong_length; full = c.full }
 
--- a struct of this size that says what is fixed of an output
+-- a struct of this size with the fixed values of an output
 abbrev pub output_record : ℕ → OutputParts → Output
 output_record size out = record { size = size; start = out.start; sample_octets = octets_per_sample out.enc; channels = out.channels; frames = out.frames; payload_type = out.pt; ssrc = out.ssrc; datagram_octets = datagram_length out }
 
--- a struct of this size that says what is fixed of a stream
+-- a struct of this size with the fixed values of a stream
 abbrev pub stream_record : ℕ → StreamParts → Stream
 stream_record size stream = record { size = size; sample_octets = octets_per_sample stream.enc; channels = stream.channels; frames = stream.frames; payload_type = stream.pt; paths = stream.paths; latency = stream.latency; window = stream.window; clock = clock_code stream.clock }

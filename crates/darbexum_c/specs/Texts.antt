@@ -1,9 +1,9 @@
--- The texts of faults, and how C is given a text.
+-- The texts of faults, and the form in which C receives a text.
 use Rattle.std.specs.Prelude.{ℕ, ℤ, pos, int_le, List, [], ◌∷◌, ◌++◌, length, take, drop, min, codes, if◌then◌else◌}
 use Rattle.std.specs.Ordering.{int_eq}
 use Rattle.darbexum_c.specs.Codes as code_is
 
--- the text of a number that is no code of a fault
+-- the text of a number that is no fault's code
 abbrev pub unnamed_text_of : ℤ → List ℕ
 unnamed_text_of code = if int_le (pos 0) code then codes "no fault" else codes "unknown code"
 
@@ -29,7 +29,7 @@ fault_text_of code =
     else if int_eq code code_is.too_many then codes "64 changes before the time are still to come"
     else unnamed_text_of code
 
--- a room after a text was written to its front: as much of the text as fits before a 0, the 0, and what was behind it
+-- the room after a text was written to its start: as much of the text as fits before a 0, the 0, and what was behind it
 abbrev pub room_after : List ℕ → List ℕ → List ℕ
 room_after text [] = []
 room_after text (octet ∷ rest) = take (length rest) text ++ 0 ∷ drop (min (length text) (length rest)) rest

@@ -1,4 +1,4 @@
-//! The numbers that stand for results.
+//! The numbers that represent results.
 ghost use Rattle.std.specs.Prelude.{◌≡◌, ◌<ℤ◌, pos};
 ghost use Rattle.darbexum_c.specs.Codes as code;
 
@@ -14,7 +14,7 @@ pub(crate) const NO_ENGINE: i32 = -1;
 pub(crate) const UNFINISHED: i32 = -2;
 /// There is no such stream.
 pub(crate) const NO_STREAM: i32 = -3;
-/// The stream lacks the path.
+/// The stream does not have the path.
 pub(crate) const NO_PATH: i32 = -4;
 /// 2^62 events were taken.
 pub(crate) const FULL: i32 = -5;
@@ -34,7 +34,7 @@ pub(crate) const NO_STUDIO: i32 = -11;
 pub(crate) const NO_MEMORY: i32 = -12;
 /// There is none.
 pub(crate) const NONE: i32 = -13;
-/// The gains are not one for each output channel and input channel.
+/// The gains are not as many as the matrix has: one for each output channel and input channel.
 pub(crate) const BAD_SHAPE: i32 = -14;
 /// A gain is below -1,048,576 or above 1,048,576.
 pub(crate) const BAD_GAIN: i32 = -15;

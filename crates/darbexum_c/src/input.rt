@@ -1,4 +1,4 @@
-//! The calls by which an engine takes datagrams and clock readings, and gives datagrams.
+//! The calls by which an engine takes datagrams and clock readings, and returns datagrams.
 ghost use Rattle.std.specs.Prelude.{
   ◌≡◌,
   ◌⊎◌,

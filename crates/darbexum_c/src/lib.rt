@@ -9,7 +9,7 @@
 //! 3. `darbexum_close` ends all streams. `darbexum_drain` then writes the remaining datagrams, until it returns 0.
 //!
 //! The other calls read. Each returns a code if it fails, and has then changed nothing. `bindings/c/darbexum.h` has the
-//! declarations, and states what the caller owes.
+//! declarations, and states what the caller has to ensure.
 #![tactic(auto)]
 
 mod calls;

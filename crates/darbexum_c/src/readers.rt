@@ -32,7 +32,7 @@ use crate::handle::Handle;
 use std::alloc::Global;
 
 /// Writes the clock reading before which no datagram comes if nothing arrives. Returns 0, or a code: `NONE` while a
-/// turn isn't finished, after a close, and if no reading up to 2^60 gives a datagram.
+/// turn isn't finished, after a close, and if no reading up to 2^60 returns a datagram.
 #[unsafe(no_mangle)]
 pub extern "C" fn darbexum_next_deadline(
     alloc: Global,

@@ -30,7 +30,7 @@ use path_merge::Path;
 use std::alloc::Global;
 use studio_engine::Engine;
 
-/// Writes what is fixed of the output. Returns 0, or a code.
+/// Writes the fixed values of the output. Returns 0, or a code.
 #[unsafe(no_mangle)]
 pub extern "C" fn darbexum_output(alloc: Global, handle: &mut Handle, output: &mut Output) -> i32
     ensures value { result ≡ pos 0 → IsSomeAnd handle.old.engine
@@ -49,7 +49,7 @@ pub extern "C" fn darbexum_output(alloc: Global, handle: &mut Handle, output: &m
     answer
 }
 
-/// Writes what is fixed of the output, if the struct is large enough.
+/// Writes the fixed values of the output, if the struct is large enough.
 fn write_output(engine: &Engine, output: &mut Output) -> i32
     ensures value { result ≡ pos 0 → output.new ≡ output_record output.old.size engine.now.mixer.packer.spec }
     ensures exact { result ≡ code.size_code_of 40 output.old.size }
@@ -63,7 +63,7 @@ fn write_output(engine: &Engine, output: &mut Output) -> i32
     0
 }
 
-/// Writes what is fixed of a stream. Returns 0, or a code.
+/// Writes the fixed values of a stream. Returns 0, or a code.
 #[unsafe(no_mangle)]
 pub extern "C" fn darbexum_stream(
     alloc: Global,
@@ -92,7 +92,7 @@ pub extern "C" fn darbexum_stream(
     answer
 }
 
-/// Writes what is fixed of a stream, if there is the stream and the struct is large enough.
+/// Writes the fixed values of a stream, if there is the stream and the struct is large enough.
 fn write_stream(engine: &Engine, stream: usize, out: &mut Stream) -> i32
     ensures value { result ≡ pos 0
         → option_map (stream_record out.old.size) (stream_spec_of (slice_get engine.now.cursors stream))

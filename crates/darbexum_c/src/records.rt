@@ -1,4 +1,4 @@
-//! The structs that C is given. Each begins with its size, which the caller sets: a later version may append fields.
+//! The structs that C receives. Each begins with its size, which the caller sets: a later version may append fields.
 ghost use Rattle.std.specs.Prelude.{◌≡◌};
 ghost use Rattle.rtp_wire.specs.Sample.{octets_per_sample};
 ghost use Rattle.darbexum_c.specs.Records.{output_record, stream_record};
@@ -102,7 +102,7 @@ fn sample_octets(enc: Enc) -> u32
 }
 
 impl Output {
-    /// Returns what C is given of an output, in a struct of a size.
+    /// Returns the values of an output in a struct of this size.
     pub(crate) fn of(spec: &OutSpec, size: usize) -> Output
         ensures { result ≡ output_record size spec.now }
     {
@@ -120,7 +120,7 @@ impl Output {
 }
 
 impl Stream {
-    /// Returns what C is given of a stream, in a struct of a size.
+    /// Returns the values of a stream in a struct of this size.
     pub(crate) fn of(spec: StreamSpec, size: usize) -> Stream
         ensures { result ≡ stream_record size spec }
     {

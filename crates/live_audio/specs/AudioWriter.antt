@@ -15,7 +15,7 @@ use Rattle.live_audio.specs.declared.writer.AudioStop.{AudioStop}
 use Rattle.live_audio.specs.declared.writer.AudioStop.TheVariants.{Failed, Ended}
 use Rattle.live_audio.specs.declared.writer.AudioWriter.{AudioWriter}
 
--- a writer of an output's samples to which nothing came yet
+-- a writer of an output's samples that has received nothing yet
 pub record IsFresh (output : Output) (writer : AudioWriter) : Type 0 where
   pub none : received writer.ring ≡ []
   pub format : writer.format ≡ output_format output
@@ -24,7 +24,7 @@ pub record IsFresh (output : Output) (writer : AudioWriter) : Type 0 where
   pub parts : 0 < writer.plan.blocks
   pub counted : writer.blocks ≡ 0
 
--- what came is the same, and all else of a writer
+-- the writer has received nothing more and is otherwise the same
 pub record IsSameWriter (old new : AudioWriter) : Type 0 where
   pub came : received new.ring ≡ received old.ring
   pub format : new.format ≡ old.format
@@ -32,17 +32,18 @@ pub record IsSameWriter (old new : AudioWriter) : Type 0 where
   pub plan : new.plan ≡ old.plan
   pub counted : new.blocks ≡ old.blocks
 
--- no whole block was left in the ring
+-- no whole block is left in the ring
 abbrev pub LacksBlock : AudioWriter → Type 0
 LacksBlock writer = 0 < writer.block_len → writer.block_len < 1441 → length (known_items writer.ring) < writer.block_len
 
--- so many octets are whole blocks, which a number counts up to 2^64 - 1
+-- this many octets are whole blocks, which a number counts up to 2^64 - 1
 pub record AreBlocks (block octets count : ℕ) : Type 0 where
   pub blocks : ℕ
   pub whole : octets ≡ blocks * block
   pub counted : count ≡ min blocks (2 ^ 64 - 1)
 
--- what came through the ring is whole blocks, and files whose octets are known hold their samples, in order, from the first on
+-- what came through the ring is whole blocks, and the files, if their contents are known, have its samples, in order,
+-- from the first on
 pub record HasMoved (closed : Option (List (List ℕ))) (contents : Option (List ℕ)) (writer : AudioWriter) (parts : WavParts) : Type 0 where
   pub format : parts.wav.format ≡ writer.format
   pub some : 0 < frame_length writer.format
@@ -52,12 +53,14 @@ pub record HasMoved (closed : Option (List (List ℕ))) (contents : Option (List
   pub whole : AreBlocks writer.block_len (length (received writer.ring)) writer.blocks
   pub held : HasParts closed contents writer.format writer.plan writer.block_len parts (received writer.ring) (header_with writer.format parts.wav.chunk parts.sized) []
 
--- and the sizes in the last file's header lack less than a second of them
+-- the files have the samples of what came through the ring, and the sizes in the last file's header lack less than a
+-- second of them
 pub record HasWritten (closed : Option (List (List ℕ))) (contents : Option (List ℕ)) (writer : AudioWriter) (parts : WavParts) : Type 0 where
   pub moved : HasMoved closed contents writer parts
   pub recent : parts.wav.count < parts.sized + 48000 * frame_length writer.format
 
--- a write failed: what came begins with whole blocks, whose samples the files hold, and maybe a rest behind them that is not counted
+-- a write failed: what came begins with whole blocks, whose samples the files have, maybe with a rest behind them that
+-- is not counted
 pub record HasFailed (closed : Option (List (List ℕ))) (contents : Option (List ℕ)) (writer : AudioWriter) (parts : WavParts) : Type 0 where
   pub format : parts.wav.format ≡ writer.format
   pub kept : List ℕ
@@ -68,8 +71,9 @@ pub record HasFailed (closed : Option (List (List ℕ))) (contents : Option (Lis
   pub behind : List ℕ
   pub held : HasParts closed contents writer.format writer.plan writer.block_len parts kept head behind
 
--- files of the samples of whole blocks, the first that came, one file behind the other; of all of them, unless a write failed or no file could be
--- created; each closed file has as many as a file has, and the last one, which has no more, is a WAV file, unless its end could not be written
+-- the samples of the first whole blocks that came are in files, one after another: of all blocks, unless a write failed
+-- or no file could be created. Each closed file has the planned number of blocks. The last file has at most as many,
+-- and is a WAV file, unless its end could not be written
 pub record IsWritten (done : Option (List (List ℕ))) (contents : Option (List ℕ)) (writer : AudioWriter) (file : AudioFile) : Type 0 where
   pub kept : List ℕ
   pub rest : List ℕ
@@ -85,7 +89,8 @@ pub record IsWritten (done : Option (List (List ℕ))) (contents : Option (List 
   pub ends : length kept ≤ length chunks * (writer.plan.blocks * writer.block_len) + writer.plan.blocks * writer.block_len
   pub holds : file.is_whole ≡ true → contents ≡ Some (live_octets writer.format chunk (little_samples writer.format.enc (drop (length chunks * (writer.plan.blocks * writer.block_len)) kept)))
 
--- the audio ended before the run: a write failed behind the last whole block; or the last file is finished, or could not be begun
+-- the audio ended before the run: a write failed behind the last whole block; or the last file is finished, or could
+-- not be begun
 abbrev pub IsStopped : Option (List (List ℕ)) → Option (List ℕ) → AudioWriter → WavParts → AudioStop → Type 0
 IsStopped closed contents writer parts Failed = HasFailed closed contents writer parts
 IsStopped closed contents writer parts (Ended is_whole) = IsWritten closed contents writer (record { blocks = writer.blocks; is_all = false; is_whole = is_whole })

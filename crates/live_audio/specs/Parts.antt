@@ -1,4 +1,4 @@
--- A run's audio in files, one after another: each but the last has so many whole blocks.
+-- A run's audio in files, one after another: each file but the last has the same number of whole blocks.
 use Rattle.std.specs.Prelude.{◌≡◌, ◌≤◌, ℕ, zero, suc, ◌+◌, ◌-◌, ◌*◌, ◌/◌, ◌^◌, min, max, Bool, true, false, List, [], ◌∷◌, ◌++◌, length, take, drop, ⊤, Option, Some, None}
 use Rattle.mix_packets.specs.declared.out_spec.Output.{Output}
 use Rattle.wav_file.specs.declared.header.WavFormat.{WavFormat}
@@ -9,41 +9,43 @@ use Rattle.live_audio.specs.declared.parts.AudioParts.{AudioParts}
 use Rattle.live_audio.specs.declared.parts.PartPlan.{PartPlan}
 use Rattle.live_audio.specs.declared.parts.WavParts.{WavParts}
 
--- the whole blocks of a file that is to have so many sampling instants, and one at least
+-- the number of whole blocks in a file of this many sampling instants, at least one
 abbrev pub blocks_for : Output → ℕ → ℕ
 blocks_for output instants = max 1 (instants / output.frames)
 
--- how an output's audio is divided: not at all, and without a chunk; or into files of so many blocks, each with the chunk of its time
+-- the plan for an output's audio: one file without a chunk; or files of the same number of blocks, each with the chunk
+-- of its time
 abbrev pub plan_of : Output → Option AudioParts → PartPlan
 plan_of output None = record { stamped = false; at = 0; step = 0; blocks = 2 ^ 64 - 1 }
 plan_of output (Some parts) =
     record { stamped = true; at = parts.at; step = min (blocks_for output parts.instants * output.frames) (2 ^ 64 - 1); blocks = blocks_for output parts.instants }
 
--- the time of a sampling instant so much later
+-- the time that is `step` sampling instants later
 abbrev pub later : ℕ → ℕ → ℕ
 later step at = min (at + step) (2 ^ 64 - 1)
 
--- the time of the first sample behind so many files
+-- the time of the first sample behind this many files
 abbrev pub time_behind : ℕ → ℕ → ℕ → ℕ
 time_behind step at zero = at
 time_behind step at (suc files) = time_behind step (later step at) files
 
--- the chunk of a file whose first sample is of this time, if files have one
+-- the chunk of a file whose first sample has this time, if files have one
 abbrev pub IsChunk : Bool → ℕ → List ℕ → Type 0
 IsChunk false at chunk = chunk ≡ []
 IsChunk true at chunk = IsBext at chunk
 
--- those of files one after another
+-- the chunks of files one after another
 abbrev pub AreChunks : Bool → ℕ → ℕ → List (List ℕ) → Type 0
 AreChunks stamped step at [] = ⊤
 AreChunks stamped step at (chunk ∷ chunks) = IsChunk stamped at chunk × AreChunks stamped step (later step at) chunks
 
--- whole files with these chunks, of payload octets one after another, so many in each
+-- whole files with these chunks: each has `len` octets of the payloads, one after another
 abbrev pub part_files : WavFormat → ℕ → List ℕ → List (List ℕ) → List (List ℕ)
 part_files format len octets [] = []
 part_files format len octets (chunk ∷ chunks) = live_octets format chunk (little_samples format.enc (take len octets)) ∷ part_files format len (drop len octets) chunks
 
--- of payload octets the first are in closed files, and the others are the data of the file that is written, which has room for so many blocks more
+-- the first payload octets are in closed files, and the others are the data of the file that is written, which has room
+-- for `left` more blocks
 pub record HasParts (done : Option (List (List ℕ))) (contents : Option (List ℕ)) (format : WavFormat) (plan : PartPlan) (block : ℕ) (parts : WavParts) (octets head rest : List ℕ) : Type 0 where
   pub chunks : List (List ℕ)
   pub closed : done ≡ Some (part_files format (plan.blocks * block) octets chunks)

@@ -3,20 +3,21 @@ use Rattle.std.specs.Prelude.{◌≡◌, ◌⊎◌, ◌<◌, ℕ, ◌+◌, ◌-�
 use Rattle.rtrb.specs.Ring.{known_free, sent}
 use Rattle.live_audio.specs.declared.pcm_tap.PcmTap.{PcmTap}
 
--- the octets of those blocks that were chosen, in order, with a choice for each block
+-- the octets of the chosen blocks, in order, with a choice for each block
 abbrev pub chosen_octets : List (List ℕ) → List Bool → List ℕ
 chosen_octets [] choices = []
 chosen_octets (block ∷ blocks) [] = []
 chosen_octets (block ∷ blocks) (true ∷ choices) = block ++ chosen_octets blocks choices
 chosen_octets (block ∷ blocks) (false ∷ choices) = chosen_octets blocks choices
 
--- the number of those that were not
+-- the number of blocks that were not chosen
 abbrev pub left_out_of : List Bool → ℕ
 left_out_of [] = 0
 left_out_of (true ∷ choices) = left_out_of choices
 left_out_of (false ∷ choices) = 1 + left_out_of choices
 
--- of these blocks each was sent as a whole or left out; those that were sent are in order, and the others are counted, up to 2^64 - 1
+-- each of these blocks was sent as a whole or left out; the ones sent are in order, and the others are counted, up to
+-- 2^64 - 1
 pub record HasTapped (blocks : List (List ℕ)) (tap : PcmTap) : Type 0 where
   pub choices : List Bool
   pub each : length choices ≡ length blocks
@@ -28,13 +29,14 @@ pub record LeavesOut (old new : PcmTap) : Type 0 where
   pub sent : sent new.ring ≡ sent old.ring
   pub left_out : new.left_out ≡ min (old.left_out + 1) (2 ^ 64 - 1)
 
--- the samples of a block were sent, all of them; or none, where nobody had read the output yet, or the ring was not known to have room for them
+-- the samples of a block were sent, all of them; or none, because nobody had opened the output for reading yet, or the
+-- ring was not known to have room for them
 abbrev pub Takes : PcmTap → List ℕ → PcmTap → Type 0
 Takes old block new =
     ((sent new.ring ≡ sent old.ring ++ block) × (new.left_out ≡ old.left_out))
     ⊎ (LeavesOut old new × ((new.is_open ≡ false) ⊎ (known_free new.ring < length block)))
 
--- the same of a tap that there may be; whatever blocks were offered before, this one follows them
+-- the samples of a block were sent to a tap, or left out, if there is a tap
 abbrev pub TakesIf : Option PcmTap → List ℕ → Option PcmTap → Type 0
 TakesIf None block None = ⊤
 TakesIf None block (Some new) = ⊥

@@ -10,7 +10,7 @@ use wav_file::{BextChunk, LiveWav, bext_chunk};
 pub struct AudioParts {
     /// The time of the first sample, in sampling instants since 1970 in UTC.
     pub at: u64,
-    /// The number of sampling instants in a file. It is rounded down to whole blocks, and a file has one at least.
+    /// The number of sampling instants in a file. It is rounded down to whole blocks, of which a file has at least one.
     pub instants: u64,
 }
 

@@ -71,7 +71,7 @@ impl PcmResult {
         self.left_out.store(count, Ordering::SeqCst);
     }
 
-    /// Sets the reason for which the output ends before the run. The first one stays.
+    /// Sets the reason why the output ends before the run. Only the first reason is kept.
     pub fn set_end(&self, end: PcmEnd) {
         let number = match end {
             PcmEnd::Closed => 1,

@@ -337,7 +337,7 @@ pub fn write_pcm<R: Wait, D: PcmOutput>(
     let parker = Parker::new();
     // The label names the loop in its proof.
     'turns: for _ in rt.forever() {
-        // Asked before the ring is read: once it is true nothing more is put, so a ring that is empty then is the end.
+        // This is read before the ring: once it is true nothing more is put, so a ring that is empty then is the end.
         let is_last = writer.is_last();
         match writer.write_some(rt, output) {
             Ok(0) => {

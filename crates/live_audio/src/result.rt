@@ -56,7 +56,7 @@ impl AudioResult {
         self.written.store(count, Ordering::SeqCst);
     }
 
-    /// Sets the reason for which the file ends before the run. The first one stays.
+    /// Sets the reason why the file ends before the run. Only the first reason is kept.
     pub fn set_end(&self, end: WavEnd) {
         let number = match end {
             WavEnd::Write => 1,

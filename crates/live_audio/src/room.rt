@@ -7,7 +7,7 @@ use rtp_stream::StreamSpec;
 use wav_file::WavFormat;
 
 /// The least room, in octets: 1 MiB.
-// Of mono in L16 this is eleven seconds: where the octets are few, a slow device may be waited for longer.
+// Of mono in L16 this is eleven seconds: if the octets are few, there is more time for a slow device.
 const LEAST_OCTETS: u64 = 1 << 20;
 
 /// The sampling instants that the ring holds in addition to the streams' latency: two seconds.
