@@ -1,4 +1,4 @@
--- The states of paths and streams from which nothing came.
+-- The states of paths and streams on which nothing has arrived.
 use Rattle.std.specs.Prelude.{◌≡◌, ℕ, false, Option, None, replicate}
 use Rattle.arrayvec.specs.ArrayString.{ArrayString}
 use Rattle.rtp_stream.specs.Counts.{tally_of}
@@ -7,11 +7,11 @@ use Rattle.status_page.specs.declared.snapshot.Condition.TheVariants.{NoPacket}
 use Rattle.status_page.specs.declared.snapshot.PathState.{PathState}
 use Rattle.status_page.specs.declared.snapshot.StreamState.{StreamState}
 
--- a path on which nothing came, and of which no more is known
+-- a path on which nothing has arrived, and of which nothing is known
 abbrev pub blank_path : PathState
 blank_path = record { datagrams = 0; first = 0; counts = None; copies = None; spare = None; socket = None; drift = None; is_astray = false; is_repeating = false }
 
--- a stream of this name, latency and number of paths, of which nothing came
+-- a stream with this name, latency and number of paths, on which nothing has arrived
 pub record IsBlank (name : Option ArrayString) (latency paths : ℕ) (stream : StreamState) : Type 0 where
   pub name_is : stream.name ≡ name
   pub condition_is : stream.condition ≡ NoPacket

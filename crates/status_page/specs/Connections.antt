@@ -1,4 +1,4 @@
--- The responses that a client was sent.
+-- The responses that were sent to a client.
 use Rattle.std.specs.Prelude.{◌≡◌, ℕ, List, ◌++◌, All}
 use Rattle.http.specs.declared.request.Request.{Request}
 use Rattle.http.specs.Request.{head_of}
@@ -10,15 +10,15 @@ use Rattle.status_page.specs.declared.snapshot.Snapshot.{Snapshot}
 use Rattle.status_page.specs.Host.{host_of}
 use Rattle.status_page.specs.Responses.{IsAnswer}
 
--- a request and the answer to its host, its method and its path
+-- the response to a request, by its host, its method and its path
 abbrev pub IsAnswered : Snapshot → Request (List ℕ) → Response → Type 0
 IsAnswered snapshot request response = IsAnswer snapshot (host_of (head_of request)) (head_of request).method (uri_path (head_of request).uri) response
 
--- an answer leaves the page as it was
+-- the response to a request, which leaves the page as it was
 abbrev pub page_answers : Snapshot → Request (List ℕ) → Response → Snapshot → Type 0
 page_answers old request response new = IsAnswered old request response × (new ≡ old)
 
--- further requests were answered, each from the snapshot
+-- further requests were answered, each from this snapshot
 pub record AnswersMore (snapshot : Snapshot) (old new : History) : Type 0 where
   pub more : List Call
   pub follow : new.calls ≡ old.calls ++ more

@@ -1,4 +1,4 @@
--- The responses to requests for the gains that are refused.
+-- The responses to requests about the gains that are refused.
 use Rattle.std.specs.Prelude.{ℕ, List, [], ◌∷◌, ◌++◌, codes}
 use Rattle.http1.specs.Fields.{Header}
 use Rattle.http_server.specs.declared.response.Response.{Response}
@@ -9,14 +9,14 @@ use Rattle.status_page.specs.declared.control.fault.ControlFault.{ControlFault}
 use Rattle.status_page.specs.declared.control.fault.ControlFault.TheVariants.{Origin, Rate, Query, Body, Shape, Range, Time, TooMany, NoAnswer}
 use Rattle.status_page.specs.Responses.{guard_fields}
 
--- the reason for which a run refuses a change
+-- the fault of a request, by the reason why the run refuses its change
 abbrev pub fault_of : ChangeFault → ControlFault
 fault_of Change.Shape = Shape
 fault_of Change.Range = Range
 fault_of Change.Time = Time
 fault_of Change.TooMany = TooMany
 
--- the status
+-- the status of a fault's response
 abbrev pub fault_status : ControlFault → ℕ
 fault_status Origin = 403
 fault_status Rate = 429
@@ -28,7 +28,7 @@ fault_status Time = 409
 fault_status TooMany = 409
 fault_status NoAnswer = 503
 
--- the body
+-- the body of a fault's response
 abbrev pub fault_text : ControlFault → List ℕ
 fault_text Origin = codes "{\"fault\":\"origin\"}"
 fault_text Rate = codes "{\"fault\":\"rate\"}"
@@ -48,7 +48,7 @@ json_fields = (codes "content-type", codes "application/json") ∷ guard_fields
 abbrev pub IsFault : ControlFault → Response → Type 0
 IsFault fault response = IsResponse (fault_status fault) json_fields (fault_text fault) response
 
--- what is said to a request without the token, or with another one
+-- the body of the response to a request without the token
 abbrev pub without_token_text : List ℕ
 without_token_text = codes "{\"fault\":\"token\"}"
 

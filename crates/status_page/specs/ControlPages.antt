@@ -6,7 +6,7 @@ use Rattle.status_page.specs.declared.page.resource.Resource.TheVariants.{Page, 
 use Rattle.status_page.specs.declared.snapshot.Snapshot.{Snapshot}
 use Rattle.status_page.specs.Responses.{content_of, page_text}
 
--- the gains on the page
+-- the part of the page with the gains
 unfoldable pub controls_text : List ℕ
 controls_text = CONTROLS.now
 
@@ -18,7 +18,7 @@ page_end = codes "</body>\n</html>\n"
 abbrev pub control_page_text : List ℕ
 control_page_text = take (length page_text - length page_end) page_text ++ controls_text ++ page_end
 
--- what is shown of a snapshot
+-- the content of a resource, by a snapshot
 abbrev pub control_content_of : Snapshot → Resource → List ℕ
 control_content_of snapshot Page = control_page_text
 control_content_of snapshot State = content_of snapshot State

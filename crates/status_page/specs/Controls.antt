@@ -26,7 +26,8 @@ use Rattle.status_page.specs.Integers.{integer_in}
 use Rattle.status_page.specs.Responses.{guard_fields, misdirected_fields, misdirected_text, refused_fields, shown_fields}
 use Rattle.status_page.specs.Verdicts.{verdict_of}
 
--- how a desk answers: its state, the request, the gains in the buffer, the outcome, the gains in the buffer after it, and the state then
+-- the relation of a desk's call: its state, the request, the gains in the buffer, the outcome, the gains in the buffer
+-- after it, and the desk's state then
 abbrev pub Asks : Type 0 → Type 1
 Asks D = D → GainRequest → List ℤ → DeskAnswer → List ℤ → D → Type 0
 
@@ -42,7 +43,7 @@ abbrev pub time_found : Option ℤ → Result (Option ℤ) ControlFault
 time_found None = Err Query
 time_found (Some at) = Ok (Some at)
 
--- the time that a query asks for: that of the next block without a query
+-- the time in a query; without a query it is that of the next block
 abbrev pub time_in_query : Option (List ℕ) → Result (Option ℤ) ControlFault
 time_in_query None = Ok None
 time_in_query (Some query) = time_found (time_at query)
@@ -52,7 +53,7 @@ pub record HasSameLock {D : Type 0} (old new : Control D) : Type 0 where
   pub token : new.token ≡ old.token
   pub shape : new.shape ≡ old.shape
 
--- the run was asked for the gains at a time, and the reply is its answer
+-- the run was sent a request for the gains at a time, and the reply is its answer
 pub record AsksToShow {D : Type 0} (asks : Asks D) (old : Control D) (at : Option ℤ) (new : Control D) (reply : Result ShownTimes ControlFault) : Type 0 where
   pub sent : List ℤ
   pub places : length sent ≡ old.shape.outs * old.shape.ins
@@ -60,12 +61,12 @@ pub record AsksToShow {D : Type 0} (asks : Asks D) (old : Control D) (at : Optio
   pub asked : asks old.desk (record { at = at; action = ShowAction }) sent outcome new.gains.items new.desk
   pub is_reply : reply ≡ shown_in outcome
 
--- a query at fault is refused, and the run is not asked
+-- a query with a fault is refused and nothing is sent to the run; other queries are sent
 abbrev pub ShowsBy : {D : Type 0} → Asks D → Control D → Result (Option ℤ) ControlFault → Control D → Result ShownTimes ControlFault → Type 0
 ShowsBy asks old (Err fault) new reply = (new.desk ≡ old.desk) × (reply ≡ Err fault)
 ShowsBy asks old (Ok at) new reply = AsksToShow asks old at new reply
 
--- the run was asked for exactly this change, and the reply is its answer
+-- the run was sent exactly this change, and the reply is its answer
 pub record AsksToChange {D : Type 0} (asks : Asks D) (old : Control D) (value : Option Json) (request : GainRequest) (new : Control D) (reply : Result ℤ ControlFault) : Type 0 where
   pub sent : List ℤ
   pub buffer : IsBuffer old.shape.outs old.shape.ins value request.action sent
@@ -73,7 +74,7 @@ pub record AsksToChange {D : Type 0} (asks : Asks D) (old : Control D) (value : 
   pub asked : asks old.desk request sent outcome new.gains.items new.desk
   pub is_reply : reply ≡ taken_in outcome
 
--- a body at fault is refused, and the run is not asked
+-- a body with a fault is refused and nothing is sent to the run; other changes are sent
 abbrev pub ChangesTo : {D : Type 0} → Asks D → Control D → Option Json → Result GainRequest ControlFault → Control D → Result ℤ ControlFault → Type 0
 ChangesTo asks old value (Err fault) new reply = (new.desk ≡ old.desk) × (reply ≡ Err fault)
 ChangesTo asks old value (Ok request) new reply = AsksToChange asks old value request new reply
@@ -85,32 +86,33 @@ ChangesBy asks old value new reply = ChangesTo asks old value (change_of old.sha
 abbrev pub IsFailed : Response → Type 0
 IsFailed response = IsResponse 500 [] [] response
 
--- the response is such, unless an allocation failed
+-- this is the response, unless an allocation failed
 abbrev pub IsWrittenOrFailed : (Response → Type 0) → Response → Type 0
 IsWrittenOrFailed Is response = Is response ⊎ IsFailed response
 
--- the gains were asked for at the time of the query, and the response is the reply; or an allocation failed before that
+-- the gains at the time of the query were requested, and the response has the reply; or an allocation failed before
+-- that
 abbrev pub Shows : {D : Type 0} → Asks D → Plans D → Control D → Option (List ℕ) → Control D → Response → Type 0
 Shows asks plans old query new response =
     ((reply : Result ShownTimes ControlFault) × ShowsBy asks old (time_in_query query) new reply
     × IsWrittenOrFailed (IsShownReply old.shape.outs old.shape.ins reply (plans new.desk) new.gains.items) response)
     ⊎ ((new.desk ≡ old.desk) × IsFailed response)
 
--- the change of the body was asked for, and the response is the reply; or an allocation failed before that
+-- the change in the body was requested, and the response has the reply; or an allocation failed before that
 abbrev pub Changes : {D : Type 0} → Asks D → Control D → Option Json → Control D → Response → Type 0
 Changes asks old value new response =
     ((reply : Result ℤ ControlFault) × ChangesBy asks old value new reply × IsWrittenOrFailed (IsTakenReply reply) response)
     ⊎ ((new.desk ≡ old.desk) × IsFailed response)
 
--- at this time
+-- the page at this time
 abbrev pub at_time : {D : Type 0} → ControlPage D → Duration → ControlPage D
 at_time page time = record page { time = time }
 
--- what is done with a request
+-- the verdict on a request
 abbrev pub verdict_on : {D : Type 0} → ControlPage D → Request (List ℕ) → Verdict
 verdict_on page request = verdict_of page.control.token (allows page.rate page.time) (head_of request)
 
--- the gains were shown, and nothing but the desk has changed
+-- the gains were shown; only the desk and the buffer of gains may have changed
 pub record ShowsGains {D : Type 0} (asks : Asks D) (plans : Plans D) (old : ControlPage D) (request : Request (List ℕ)) (response : Response) (new : ControlPage D) : Type 0 where
   pub shows : Shows asks plans old.control (uri_query (head_of request).uri) new.control response
   pub lock : HasSameLock old.control new.control
@@ -118,7 +120,7 @@ pub record ShowsGains {D : Type 0} (asks : Asks D) (plans : Plans D) (old : Cont
   pub rate : new.rate ≡ old.rate
   pub time : new.time ≡ old.time
 
--- a change was asked for and counted, and nothing but the desk has changed
+-- a change was requested and counted; only the desk, the buffer of gains and the count may have changed
 pub record ChangesGains {D : Type 0} (asks : Asks D) (old : ControlPage D) (request : Request (List ℕ)) (response : Response) (new : ControlPage D) : Type 0 where
   pub changes : Changes asks old.control (value_of (body_of request)) new.control response
   pub lock : HasSameLock old.control new.control
@@ -126,7 +128,7 @@ pub record ChangesGains {D : Type 0} (asks : Asks D) (old : ControlPage D) (requ
   pub rate : new.rate ≡ counted old.rate old.time
   pub time : new.time ≡ old.time
 
--- what the page does by a verdict
+-- the response to a request with this verdict, and what changes
 abbrev pub responds : {D : Type 0} → Asks D → Plans D → Verdict → ControlPage D → Request (List ℕ) → Response → ControlPage D → Type 0
 responds asks plans OtherHost old request response new = IsResponse 421 misdirected_fields misdirected_text response × (new ≡ old)
 responds asks plans (Refused fault) old request response new = IsFault fault response × (new ≡ old)
@@ -138,6 +140,6 @@ responds asks plans (Show resource) old request response new = IsResponse 200 (s
 responds asks plans ShowGains old request response new = ShowsGains asks plans old request response new
 responds asks plans ChangeGains old request response new = ChangesGains asks old request response new
 
--- the answer to a request, by its verdict
+-- the response to a request, by the verdict on it
 abbrev pub control_answers : {D : Type 0} → Asks D → Plans D → ControlPage D → Request (List ℕ) → Response → ControlPage D → Type 0
 control_answers asks plans old request response new = responds asks plans (verdict_on old request) old request response new

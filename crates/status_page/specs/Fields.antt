@@ -16,7 +16,7 @@ use Rattle.status_page.specs.declared.fields.Number.TheVariants as Shown
 use Rattle.status_page.specs.declared.fields.MetricKind.{MetricKind}
 use Rattle.status_page.specs.declared.fields.MetricKind.TheVariants.{Counter, Gauge}
 
--- how a number of a path is called
+-- the name of a path's number
 abbrev pub path_key : PathField → List ℕ
 path_key Path.Datagrams = codes "datagrams"
 path_key Path.First = codes "first"
@@ -42,7 +42,7 @@ path_key Path.SocketFaults = codes "socket_faults"
 path_key Path.SocketEnded = codes "socket_ended"
 path_key Path.SocketDropped = codes "socket_dropped"
 
--- whether it only rises
+-- the kind of a path's number: a counter only rises
 abbrev pub path_kind : PathField → MetricKind
 path_kind Path.Datagrams = Counter
 path_kind Path.First = Counter
@@ -68,7 +68,7 @@ path_kind Path.SocketFaults = Counter
 path_kind Path.SocketEnded = Gauge
 path_kind Path.SocketDropped = Counter
 
--- what it counts
+-- the description of a path's number
 abbrev pub path_help : PathField → List ℕ
 path_help Path.Datagrams = codes "Datagrams that came on the path."
 path_help Path.First = codes "Packets of which the path brought the first copy."
@@ -94,35 +94,35 @@ path_help Path.SocketFaults = codes "Receives that failed at the path's socket."
 path_help Path.SocketEnded = codes "1 once the path was given up because its socket failed again and again, and 0 before."
 path_help Path.SocketDropped = codes "Datagrams that the system dropped because the buffer of the path's socket was full."
 
--- how a number of a stream is called
+-- the name of a stream's number
 abbrev pub stream_key : StreamField → List ℕ
 stream_key (Stream.Count count) = count_key count
 stream_key Stream.Latency = codes "latency"
 stream_key Stream.SecondsLeft = codes "seconds_left"
 
--- whether it only rises
+-- the kind of a stream's number: a counter only rises
 abbrev pub stream_kind : StreamField → MetricKind
 stream_kind (Stream.Count count) = Counter
 stream_kind Stream.Latency = Gauge
 stream_kind Stream.SecondsLeft = Gauge
 
--- what it counts
+-- the description of a stream's number
 abbrev pub stream_help : StreamField → List ℕ
 stream_help (Stream.Count count) = count_help count
 stream_help Stream.Latency = codes "From a packet's media time to its deadline, in periods of 48 kHz."
 stream_help Stream.SecondsLeft = codes "Seconds until packets will be late or too early, at the drift of the path with the most time left; 31536000 (a year) is the most."
 
--- how a number of an output channel is called
+-- the name of an output channel's number
 abbrev pub output_key : OutputField → List ℕ
 output_key Output.Peak = codes "peak"
 output_key Output.Saturated = codes "saturated"
 
--- whether it only rises
+-- the kind of an output channel's number: a counter only rises
 abbrev pub output_kind : OutputField → MetricKind
 output_kind Output.Peak = Gauge
 output_kind Output.Saturated = Counter
 
--- what it counts
+-- the description of an output channel's number
 abbrev pub output_help : OutputField → List ℕ
 output_help Output.Peak = codes "The greatest magnitude of a sample of the last tenth of a second, of 8388608 at full scale."
 output_help Output.Saturated = codes "Samples that were saturated: their rounded sum lay past what the output can hold."
@@ -132,7 +132,7 @@ abbrev pub flag : Bool → ℕ
 flag true = 1
 flag false = 0
 
--- 1 or 0, of a path whose copies are counted
+-- 1 or 0, for a path whose copies are counted
 abbrev pub known_flag : PathState → Bool → Option ℕ
 known_flag path holds = option_map (λ copies. flag holds) path.copies
 

@@ -1,4 +1,4 @@
--- The change of gains that a body asks for.
+-- The change of gains in a request's body.
 use Rattle.std.specs.Prelude.{◌≡◌, ℕ, suc, ◌*◌, ◌==◌, ◌&&◌, Bool, List, [], ◌∷◌, length, map, flat_map, codes, ℤ, pos, Option, Some, None, option_map, option_and_then, is_some, unwrap_or, Result, Ok, Err, if◌then◌else◌}
 use Rattle.std.specs.List.{list_all}
 use Rattle.std.specs.Str.{is_utf8}
@@ -17,7 +17,7 @@ abbrev pub list_of : Items → List Json
 list_of no_items = []
 list_of (item value rest) = value ∷ list_of rest
 
--- the items of a JSON value. One that is no array has none
+-- the items of a JSON value; a value that is no array has none
 abbrev pub items_in : Json → List Json
 items_in null = []
 items_in (boolean b) = []
@@ -30,7 +30,7 @@ abbrev pub count_of : Members → ℕ
 count_of no_members = 0
 count_of (member key value rest) = suc (count_of rest)
 
--- how many members a JSON value has. One that is no object has none
+-- the number of members of a JSON value; a value that is no object has none
 abbrev pub members_in : Json → ℕ
 members_in null = 0
 members_in (boolean b) = 0
@@ -59,7 +59,7 @@ are_gains values = list_all is_gain values
 abbrev pub are_gain_rows : List Json → Bool
 are_gain_rows rows = list_all (λ row. are_gains (items_in row)) rows
 
--- the gain that a value is. One that is no gain counts as 0
+-- the gain of a JSON value; a value that is no gain counts as 0
 abbrev pub gain_or_zero : Json → ℤ
 gain_or_zero value = unwrap_or (gain_of value) (pos 0)
 
@@ -129,28 +129,28 @@ change_of_one (Some at) None gain = Err Body
 change_of_one (Some at) (Some cell) None = Err Body
 change_of_one (Some at) (Some cell) (Some gain) = change_of_gain at cell (gain_of gain)
 
--- the change that a JSON value asks for: an object of `at` and `gains`, or of `at`, `cell` and `gain`
+-- the change in a JSON value: an object with `at` and `gains`, or with `at`, `cell` and `gain`
 abbrev pub change_in : ℕ → ℕ → Json → Result GainRequest ControlFault
 change_in outs ins value =
     if members_in value == 2 then change_of_all outs ins (time_of value) (get (codes "gains") value)
     else (if members_in value == 3 then change_of_one (time_of value) (cell_of value) (get (codes "gain") value)
     else Err Body)
 
--- the JSON value that a body is, in UTF-8
+-- the JSON value of a body, which is in UTF-8
 unfoldable pub value_of : List ℕ → Option Json
 value_of body = if is_utf8 body then document body else None
 
--- the change that a body asks for
+-- the change in a body
 abbrev pub change_of : ℕ → ℕ → Option Json → Result GainRequest ControlFault
 change_of outs ins None = Err Body
 change_of outs ins (Some value) = change_in outs ins value
 
--- the gains that a body asks for
+-- all gains in a body
 abbrev pub wanted_by : Option Json → List ℤ
 wanted_by None = []
 wanted_by (Some value) = gains_of value
 
--- the buffer of a request: all gains that the body asks for, or else a place for each gain of the matrix
+-- the buffer of a request: all gains in the body, or else a place for each gain of the matrix
 abbrev pub IsBuffer : ℕ → ℕ → Option Json → GainAction → List ℤ → Type 0
 IsBuffer outs ins value SetAll gains = gains ≡ wanted_by value
 IsBuffer outs ins value (SetOne output input gain) gains = length gains ≡ outs * ins

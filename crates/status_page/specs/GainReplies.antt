@@ -1,4 +1,4 @@
--- The responses to requests for the gains.
+-- The responses to requests about the gains.
 use Rattle.std.specs.Prelude.{ℕ, List, [], ◌∷◌, ◌++◌, codes, ℤ, Result, Ok, Err}
 use Rattle.std.specs.Fmt.{signed_decimal}
 use Rattle.json.specs.Print.{print}
@@ -16,7 +16,7 @@ use Rattle.status_page.specs.declared.control.reply.ShownTimes.{ShownTimes}
 use Rattle.status_page.specs.ControlFaults.{IsFault, fault_of, json_fields}
 use Rattle.status_page.specs.State.{array_tokens}
 
--- a change that was taken or refused. An answer that only shows gains is no answer to it
+-- the result of a change: it was taken or refused; an answer that only shows gains is not one of a change
 abbrev pub taken_of : GainAnswer → Result ℤ ControlFault
 taken_of (Taken at) = Ok at
 taken_of (Refused fault) = Err (fault_of fault)
@@ -26,7 +26,7 @@ abbrev pub taken_in : DeskAnswer → Result ℤ ControlFault
 taken_in (Desk.Answered answer next) = taken_of answer
 taken_in Desk.NoAnswer = Err NoAnswer
 
--- the gains that an answer shows. A change that was taken is no answer to a request that asks for none
+-- the times of gains that were shown; an answer that takes a change is not one of a request that only shows gains
 abbrev pub shown_of : GainAnswer → ℤ → Result ShownTimes ControlFault
 shown_of (Shown at) next = Ok (record { at = at; next_block_start = next })
 shown_of (Refused fault) next = Err (fault_of fault)
@@ -36,7 +36,7 @@ abbrev pub shown_in : DeskAnswer → Result ShownTimes ControlFault
 shown_in (Desk.Answered answer next) = shown_of answer next
 shown_in Desk.NoAnswer = Err NoAnswer
 
--- a time behind its key
+-- a time with its key
 abbrev pub time_member : List ℕ → ℤ → List Token
 time_member name time = key name ∷ number (signed_decimal time) ∷ []
 

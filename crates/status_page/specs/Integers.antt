@@ -1,4 +1,4 @@
--- The integers that texts and JSON values are.
+-- Integers in texts and JSON values.
 use Rattle.std.specs.Prelude.{ℕ, ◌^◌, ◌&&◌, nat_lt, nat_le, Bool, List, length, ℤ, pos, negsuc, Option, Some, None, option_and_then, if◌then◌else◌}
 use Rattle.std.specs.Int.RustNames.{unsigned_abs}
 use Rattle.std.specs.Str.{all_ascii_digits}
@@ -19,29 +19,29 @@ is_numeral digits = nat_lt 0 (length digits) && all_ascii_digits digits
 abbrev pub is_integer : List ℕ → Bool
 is_integer text = is_numeral (without_leading_sign text) && has_64_bits (signed_digits_value 10 text)
 
--- the integer that a text is
+-- the integer in a text
 unfoldable pub integer_in : List ℕ → Option ℤ
 integer_in text = if is_integer text then Some (signed_digits_value 10 text) else None
 
--- the integer that a JSON value is: a number without a fraction and without an exponent
+-- the integer of a JSON value: a number without a fraction and without an exponent
 abbrev pub integer_of : Json → Option ℤ
 integer_of value = option_and_then integer_in (as_number value)
 
--- an integer, if it is a gain: at most sixteen times, of either sign
+-- the integer, if it is a gain: at most 16 * 65,536, of either sign
 abbrev pub gain_in : Option ℤ → Option ℤ
 gain_in None = None
 gain_in (Some gain) = if nat_le (unsigned_abs gain) 1048576 then Some gain else None
 
--- the gain that a JSON value is
+-- the gain of a JSON value
 abbrev pub gain_of : Json → Option ℤ
 gain_of value = gain_in (integer_of value)
 
--- an integer, if it is a number of an output channel or an input
+-- the integer, if it is not negative, as the number of an output channel or an input
 abbrev pub index_in : Option ℤ → Option ℕ
 index_in None = None
 index_in (Some (pos n)) = Some n
 index_in (Some (negsuc n)) = None
 
--- the number of an output channel or an input that a JSON value is
+-- the number of an output channel or an input, by a JSON value
 abbrev pub index_of : Json → Option ℕ
 index_of value = index_in (integer_of value)

@@ -1,4 +1,4 @@
--- The text form of Prometheus, 0.0.4, of a snapshot.
+-- A snapshot in the text form of Prometheus, 0.0.4.
 use Rattle.std.specs.Prelude.{ℕ, ℤ, suc, List, [], ◌∷◌, ◌++◌, Option, Some, None, codes, slice_index, if◌then◌else◌, ◌==◌}
 use Rattle.std.specs.Str.{bytes_eq}
 use Rattle.std.specs.Fmt.{decimal, signed_decimal}
@@ -39,7 +39,7 @@ unfoldable pub label_text : List ℕ → List ℕ
 label_text [] = []
 label_text (octet ∷ octets) = label_octet octet ++ label_text octets
 
--- what ends the name of a metric: that of a counter ends in `_total`
+-- the end of a metric's name: a counter's name ends in `_total`
 abbrev pub suffix : MetricKind → List ℕ
 suffix Counter = codes "_total"
 suffix Gauge = codes ""
@@ -48,7 +48,7 @@ suffix Gauge = codes ""
 unfoldable pub metric_text : List ℕ → List ℕ → MetricKind → List ℕ
 metric_text group key kind = codes "darbexum_" ++ group ++ key ++ suffix kind
 
--- what ends the line of a metric's type
+-- the end of the line with a metric's type
 abbrev pub kind_text : MetricKind → List ℕ
 kind_text Counter = codes " counter\n"
 kind_text Gauge = codes " gauge\n"
@@ -62,19 +62,19 @@ header_text group key kind help =
 abbrev pub stream_metric : StreamField → List ℕ
 stream_metric field = metric_text (codes "stream_") (stream_key field) (stream_kind field)
 
--- that of a path's
+-- the metric of a path's number
 abbrev pub path_metric : PathField → List ℕ
 path_metric field = metric_text (codes "path_") (path_key field) (path_kind field)
 
--- that of an output channel's
+-- the metric of an output channel's number
 abbrev pub output_metric : OutputField → List ℕ
 output_metric field = metric_text (codes "output_") (output_key field) (output_kind field)
 
--- that of a stream's condition
+-- the metric of a stream's condition
 abbrev pub state_metric : List ℕ
 state_metric = metric_text (codes "stream_") (codes "state") Gauge
 
--- the lines before each
+-- the lines before each metric's samples
 abbrev pub stream_header : StreamField → List ℕ
 stream_header field = header_text (codes "stream_") (stream_key field) (stream_kind field) (stream_help field)
 
@@ -87,7 +87,7 @@ output_header field = header_text (codes "output_") (output_key field) (output_k
 abbrev pub state_header : List ℕ
 state_header = header_text (codes "stream_") (codes "state") Gauge (codes "Where the stream stands: 1 for the state that it is in, and 0 for the others.")
 
--- how a condition is written
+-- the name of a condition
 abbrev pub condition_text : Condition → List ℕ
 condition_text NoPacket = codes "no_packet"
 condition_text Running = codes "running"
@@ -107,27 +107,27 @@ stream_labels number stream = codes "{stream=\"" ++ decimal number ++ codes "\""
 unfoldable pub value_text : ℕ → List ℕ
 value_text value = codes "} " ++ decimal value ++ codes "\n"
 
--- with a sign
+-- the end of a sample's line, for a number with a sign
 unfoldable pub change_text : ℤ → List ℕ
 change_text value = codes "} " ++ signed_decimal value ++ codes "\n"
 
--- of a count, or of a change
+-- the end of a sample's line, for a count or a change
 abbrev pub shown_text : Number → List ℕ
 shown_text (Shown.Count value) = value_text value
 shown_text (Shown.Change value) = change_text value
 
--- a number of a stream, if it is known
+-- the sample of a stream's number, if the number is known
 unfoldable pub stream_sample : StreamField → ℕ → StreamState → Option ℕ → List ℕ
 stream_sample field number stream None = []
 stream_sample field number stream (Some value) = stream_metric field ++ stream_labels number stream ++ value_text value
 
--- a number of a path, if it is known
+-- the sample of a path's number, if the number is known
 unfoldable pub path_sample : PathField → ℕ → StreamState → ℕ → Option Number → List ℕ
 path_sample field number stream path None = []
 path_sample field number stream path (Some value) =
     path_metric field ++ stream_labels number stream ++ codes ",path=\"" ++ path_letter path ++ codes "\"" ++ shown_text value
 
--- whether a stream has a condition: 1 or 0
+-- 1 if a stream has this condition, and 0 if not
 abbrev pub has_condition : Condition → Condition → ℕ
 has_condition NoPacket NoPacket = 1
 has_condition Running Running = 1
@@ -135,43 +135,43 @@ has_condition SignalLost SignalLost = 1
 has_condition Ended Ended = 1
 has_condition _ _ = 0
 
--- whether it has this one
+-- the sample of one condition of a stream
 unfoldable pub condition_sample : ℕ → StreamState → Condition → List ℕ
 condition_sample number stream condition =
     state_metric ++ stream_labels number stream ++ codes ",state=\"" ++ condition_text condition ++ codes "\""
     ++ value_text (has_condition condition stream.condition)
 
--- a number of an output channel
+-- the sample of an output channel's number
 unfoldable pub output_sample : OutputField → ℕ → OutputState → List ℕ
 output_sample field number output = output_metric field ++ codes "{output=\"" ++ decimal number ++ codes "\"" ++ value_text (output_value field output)
 
--- one number of the streams, from this one on
+-- the samples of one number of the streams, numbered from this stream on
 unfoldable pub stream_samples : StreamField → ℕ → List StreamState → List ℕ
 stream_samples field number [] = []
 stream_samples field number (stream ∷ streams) = stream_sample field number stream (stream_value field stream) ++ stream_samples field (suc number) streams
 
--- one number of a stream's paths, from this one on
+-- the samples of one number of a stream's paths, numbered from this path on
 unfoldable pub path_samples : PathField → ℕ → StreamState → ℕ → List PathState → List ℕ
 path_samples field number stream path [] = []
 path_samples field number stream path (state ∷ states) =
     path_sample field number stream path (path_value field state) ++ path_samples field number stream (suc path) states
 
--- one number of all paths, from this stream on
+-- the samples of one number of all paths, numbered from this stream on
 unfoldable pub all_path_samples : PathField → ℕ → List StreamState → List ℕ
 all_path_samples field number [] = []
 all_path_samples field number (stream ∷ streams) = path_samples field number stream 0 stream.paths.items ++ all_path_samples field (suc number) streams
 
--- which of these conditions a stream has
+-- the samples of these conditions of a stream
 unfoldable pub condition_samples : ℕ → StreamState → List Condition → List ℕ
 condition_samples number stream [] = []
 condition_samples number stream (condition ∷ conditions) = condition_sample number stream condition ++ condition_samples number stream conditions
 
--- which condition each stream has, from this one on
+-- the samples of all conditions of the streams, numbered from this stream on
 unfoldable pub all_condition_samples : List Condition → ℕ → List StreamState → List ℕ
 all_condition_samples conditions number [] = []
 all_condition_samples conditions number (stream ∷ streams) = condition_samples number stream conditions ++ all_condition_samples conditions (suc number) streams
 
--- one number of the output channels, from this one on
+-- the samples of one number of the output channels, numbered from this channel on
 unfoldable pub output_samples : OutputField → ℕ → List OutputState → List ℕ
 output_samples field number [] = []
 output_samples field number (output ∷ outputs) = output_sample field number output ++ output_samples field (suc number) outputs
@@ -180,7 +180,7 @@ output_samples field number (output ∷ outputs) = output_sample field number ou
 abbrev pub stream_family : StreamField → List StreamState → List ℕ
 stream_family field streams = stream_header field ++ stream_samples field 0 streams
 
--- those of the latency, and of the time that is left
+-- the metrics of the latency, and of the time that is left
 abbrev pub last_families : List StreamState → List ℕ
 last_families streams = stream_family Latency streams ++ stream_family SecondsLeft streams
 
@@ -199,24 +199,24 @@ unfoldable pub output_families : List OutputField → List OutputState → List 
 output_families [] outputs = []
 output_families (field ∷ fields) outputs = output_header field ++ output_samples field 0 outputs ++ output_families fields outputs
 
--- the metric of the datagrams that were not sent, one for each copy of the mix
+-- the lines before the metric of the datagrams that were not sent, which has a sample for each copy of the mix
 abbrev pub failed_header : List ℕ
 failed_header = header_text (codes "sends_") (codes "failed") Counter (codes "Datagrams of the mix that were not sent to the address of this copy.")
 
--- those of one copy
+-- the sample of one copy of the mix
 unfoldable pub failed_sample : List ℕ → ℕ → List ℕ
 failed_sample letter failed =
     metric_text (codes "sends_") (codes "failed") Counter ++ codes "{copy=\"" ++ letter ++ codes "\"" ++ value_text failed
 
--- those of both
+-- the samples of both copies of the mix
 abbrev pub failed_samples : ℕ → ℕ → List ℕ
 failed_samples failed_a failed_b = failed_sample (codes "a") failed_a ++ failed_sample (codes "b") failed_b
 
--- the whole metric
+-- the metric of the datagrams that were not sent
 unfoldable pub failed_text : ℕ → ℕ → List ℕ
 failed_text failed_a failed_b = failed_header ++ failed_samples failed_a failed_b
 
--- whether the state of this name is the one that something is in
+-- the sample of the state with this name: 1 if it is this state, and 0 if not
 unfoldable pub state_sample : List ℕ → List ℕ → List ℕ → List ℕ
 state_sample group state name =
     metric_text group (codes "state") Gauge ++ codes "{state=\"" ++ name ++ codes "\"" ++ value_text (flag (bytes_eq state name))
@@ -297,7 +297,7 @@ pcm_counts blocks left_out = pcm_blocks_family blocks ++ left_out_family left_ou
 unfoldable pub pcm_families : PcmState → List ℕ
 pcm_families state = pcm_state_family state ++ pcm_counts (pcm_blocks state) (pcm_left_out state)
 
--- those of what a run writes in addition to its datagrams
+-- the metrics of the files that a run writes, and of its raw PCM
 abbrev pub file_families : RecordState → WavState → PcmState → List ℕ
 file_families record_state wav_state pcm_state = record_families record_state ++ wav_families wav_state ++ pcm_families pcm_state
 

@@ -21,11 +21,11 @@ resource_of path =
     else (if bytes_eq path (codes "/state") then Some State
     else (if bytes_eq path (codes "/metrics") then Some Metrics else None))
 
--- whether a method only reads
+-- the method only reads
 abbrev pub is_read : List ℕ → Bool
 is_read method = bytes_eq method (codes "GET") || bytes_eq method (codes "HEAD")
 
--- the media type of what is shown
+-- the media type of a resource
 abbrev pub media_type : Resource → List ℕ
 media_type Page = codes "text/html; charset=utf-8"
 media_type State = codes "application/json"
@@ -35,29 +35,29 @@ media_type Metrics = codes "text/plain; version=0.0.4; charset=utf-8"
 unfoldable pub page_text : List ℕ
 page_text = HTML.now
 
--- what is shown of a snapshot
+-- the content of a resource, by a snapshot
 abbrev pub content_of : Snapshot → Resource → List ℕ
 content_of snapshot Page = page_text
 content_of snapshot State = print (state_tokens snapshot)
 content_of snapshot Metrics = metrics_text snapshot
 
--- the header fields of every answer: no cache keeps it, and no browser takes it for another type than is said
+-- the header fields of every response: no cache keeps it, and no browser takes it for another type than the one it has
 abbrev pub guard_fields : List Header
 guard_fields = (codes "cache-control", codes "no-store") ∷ (codes "x-content-type-options", codes "nosniff") ∷ []
 
--- those of what is shown
+-- the header fields of a resource
 abbrev pub shown_fields : Resource → List Header
 shown_fields resource = (codes "content-type", media_type resource) ∷ guard_fields
 
--- those of what can only be read
+-- the header fields of the response to a method that does not only read
 abbrev pub refused_fields : List Header
 refused_fields = (codes "allow", codes "GET, HEAD") ∷ guard_fields
 
--- those of what is addressed to another host
+-- the header fields of the response to a request that is addressed to another host
 abbrev pub misdirected_fields : List Header
 misdirected_fields = (codes "content-type", codes "text/plain; charset=utf-8") ∷ guard_fields
 
--- what is said to a request that is addressed to another host
+-- the body of the response to a request that is addressed to another host
 abbrev pub misdirected_text : List ℕ
 misdirected_text = codes "The page answers only to the hosts 127.0.0.1, localhost and [::1].\n"
 
@@ -68,17 +68,18 @@ answers snapshot true read None response = IsResponse 404 guard_fields [] respon
 answers snapshot true false (Some resource) response = IsResponse 405 refused_fields [] response
 answers snapshot true true (Some resource) response = IsResponse 200 (shown_fields resource) (content_of snapshot resource) response
 
--- the answer to a host, a method and a path
+-- the response to a request, by its host, its method and its path
 abbrev pub IsAnswer : Snapshot → Option (List ℕ) → List ℕ → List ℕ → Response → Type 0
 IsAnswer snapshot host method path response = answers snapshot (is_here host) (is_read method) (resource_of path) response
 
--- at most 8,192 octets of a head and of trailers, at most so many of a body, and no request while an answer waits
+-- the limits of a connection: at most 8,192 octets of a head and of trailers, at most `most` of a body, and no further
+-- request before the response
 pub record IsGuardedUpTo (most : ℕ) (config : Config) : Type 0 where
   pub head : config.limits.max_head_len ≤ 8192
   pub trailers : config.limits.max_trailers_len ≤ 8192
   pub body : config.max_body_len ≤ most
   pub pending : config.max_pending ≡ 0
 
--- the same, with a body of at most 8,192 octets
+-- the limits of a connection, with a body of at most 8,192 octets
 abbrev pub IsGuarded : Config → Type 0
 IsGuarded = IsGuardedUpTo 8192

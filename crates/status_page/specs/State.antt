@@ -25,32 +25,32 @@ use Rattle.status_page.specs.declared.fields.output.TheConstants.{OUTPUT_FIELDS}
 use Rattle.status_page.specs.Fields.{path_key, path_value, stream_key, stream_value, output_key, output_value}
 use Rattle.status_page.specs.Metrics.{condition_text}
 
--- a number
+-- the token of a number
 abbrev pub number_token : ℕ → Token
 number_token value = number (decimal value)
 
--- a number, or null where it isn't known
+-- the token of a number, or null if it isn't known
 abbrev pub known_token : Option ℕ → Token
 known_token None = null
 known_token (Some value) = number_token value
 
--- a count, or a change with its sign, or null where it isn't known
+-- the token of a count, or of a change with its sign, or null if it isn't known
 abbrev pub shown_token : Option Number → Token
 shown_token None = null
 shown_token (Some (Shown.Count value)) = number_token value
 shown_token (Some (Shown.Change value)) = number (signed_decimal value)
 
--- a name, or null
+-- the token of a name, or null if there is none
 abbrev pub name_token : Option ArrayString → Token
 name_token None = null
 name_token (Some name) = string name.bytes
 
--- the numbers of a path, each behind its key
+-- the numbers of a path, each with its key
 unfoldable pub path_members : List PathField → PathState → List Token
 path_members [] path = []
 path_members (field ∷ fields) path = key (path_key field) ∷ shown_token (path_value field path) ∷ path_members fields path
 
--- a number of a stream, behind its key
+-- a number of a stream, with its key
 abbrev pub stream_member : StreamField → StreamState → List Token
 stream_member field stream = key (stream_key field) ∷ known_token (stream_value field stream) ∷ []
 
@@ -63,7 +63,7 @@ unfoldable pub stream_members : List CountField → StreamState → List Token
 stream_members [] stream = last_members stream
 stream_members (count ∷ counts) stream = stream_member (Count count) stream ++ stream_members counts stream
 
--- the numbers of an output channel, each behind its key
+-- the numbers of an output channel, each with its key
 unfoldable pub output_members : List OutputField → OutputState → List Token
 output_members [] output = []
 output_members (field ∷ fields) output = key (output_key field) ∷ number_token (output_value field output) ∷ output_members fields output
@@ -82,7 +82,7 @@ abbrev pub front_tokens : StreamState → List Token
 front_tokens stream =
     begin_object ∷ key (codes "name") ∷ name_token stream.name ∷ key (codes "state") ∷ string (condition_text stream.condition) ∷ []
 
--- an array behind its key
+-- an array with its key
 abbrev pub array_tokens : List ℕ → List Token → List Token
 array_tokens name items = key name ∷ begin_array ∷ (items ++ end_array ∷ [])
 
@@ -106,7 +106,7 @@ unfoldable pub outputs_tokens : List OutputState → List Token
 outputs_tokens [] = []
 outputs_tokens (output ∷ outputs) = output_tokens output ++ outputs_tokens outputs
 
--- how many datagrams of each copy of the mix were not sent
+-- the number of datagrams of each copy of the mix that were not sent
 abbrev pub failed_tokens : List ℕ → List Token
 failed_tokens failed =
     array_tokens (codes "failed_sends") (number_token (slice_index failed 0) ∷ number_token (slice_index failed 1) ∷ [])
@@ -115,23 +115,23 @@ failed_tokens failed =
 abbrev pub state_member : List ℕ → List Token
 state_member name = key (codes "state") ∷ string name ∷ []
 
--- a count behind its key
+-- a count with its key
 abbrev pub count_member : List ℕ → Option ℕ → List Token
 count_member name count = key name ∷ known_token count ∷ []
 
--- an object behind its key
+-- an object with its key
 abbrev pub object_tokens : List ℕ → List Token → List Token
 object_tokens name members = key name ∷ begin_object ∷ (members ++ end_object ∷ [])
 
--- the state of a record, and how many datagrams it holds
+-- the state of a record, and the number of datagrams in it
 abbrev pub record_members : RecordState → List Token
 record_members state = state_member (record_text state) ++ count_member (codes "datagrams") (record_datagrams state)
 
--- the state of a WAV file, and how many blocks it holds
+-- the state of a WAV file, and the number of blocks in it
 abbrev pub wav_members : WavState → List Token
 wav_members state = state_member (wav_text state) ++ count_member (codes "blocks") (wav_blocks state)
 
--- the state of raw PCM, how many blocks were written, and how many left out
+-- the number of blocks that were written as raw PCM, and the number that were left out; then with the state
 unfoldable pub pcm_count_members : Option ℕ → Option ℕ → List Token
 pcm_count_members blocks left_out = count_member (codes "blocks") blocks ++ count_member (codes "left_out") left_out
 
@@ -150,7 +150,7 @@ wav_tokens state = object_tokens (codes "wav") (wav_members state)
 abbrev pub pcm_tokens : PcmState → List Token
 pcm_tokens state = object_tokens (codes "pcm") (pcm_members state)
 
--- what a run writes in addition to its datagrams
+-- the files that a run writes, and its raw PCM
 unfoldable pub file_tokens : RecordState → WavState → PcmState → List Token
 file_tokens record_state wav_state pcm_state = record_tokens record_state ++ wav_tokens wav_state ++ pcm_tokens pcm_state
 

@@ -4,11 +4,11 @@ use Rattle.std.specs.Duration.{as_nanos}
 use Rattle.std.specs.declared.time.Duration.{Duration}
 use Rattle.status_page.specs.declared.server.times.RequestTimes.{RequestTimes}
 
--- more than ten seconds lie between two times
+-- there are more than ten seconds between two times
 abbrev pub is_over : Duration → Duration → Bool
 is_over since now = nat_lt 10000000000 (as_nanos now - as_nanos since)
 
--- since a time, if there is one
+-- more than ten seconds have passed since a time, if there is one
 abbrev pub is_over_since : Option Duration → Duration → Bool
 is_over_since None now = false
 is_over_since (Some since) now = is_over since now

@@ -12,7 +12,7 @@ use Rattle.status_page.specs.declared.page.resource.Resource.{Resource}
 use Rattle.status_page.specs.Host.{host_of, is_here}
 use Rattle.status_page.specs.Responses.{is_read, resource_of}
 
--- the value of the first field of a name
+-- the value of the first field with this name
 abbrev pub field_of : List ℕ → Entries FieldValue → Option (List ℕ)
 field_of name headers = option_map (λ value. value.bytes) (get headers name)
 
@@ -20,13 +20,13 @@ field_of name headers = option_map (λ value. value.bytes) (get headers name)
 abbrev pub is_origin_of : List ℕ → List ℕ → Bool
 is_origin_of host origin = eq_ignore_case (take 7 origin) (codes "http://") && eq_ignore_case (drop 7 origin) host
 
--- no origin, or that of the host and port to which the request is addressed
+-- there is no origin, or it is that of the host and port to which the request is addressed
 abbrev pub is_own_origin : Option (List ℕ) → Option (List ℕ) → Bool
 is_own_origin None host = true
 is_own_origin (Some origin) None = false
 is_own_origin (Some origin) (Some host) = is_origin_of host origin
 
--- a token behind its scheme (RFC 6750, 2.1)
+-- the token with its scheme (RFC 6750, 2.1)
 abbrev pub is_bearer : List ℕ → List ℕ → Bool
 is_bearer token value = eq_ignore_case (take 7 value) (codes "bearer ") && bytes_eq (drop 7 value) token
 
@@ -34,14 +34,14 @@ abbrev pub has_token : List ℕ → Option (List ℕ) → Bool
 has_token token None = false
 has_token token (Some value) = is_bearer token value
 
--- the tests of a request for the gains: its method, its token, and whether another change may be asked for
+-- the tests of a request to the gains: its method, its token, and whether a further change is allowed now
 abbrev pub verdict_on_gains : List ℕ → Bool → Bool → Verdict
 verdict_on_gains method allowed free =
     if is_read method then ShowGains
     else (if bytes_eq method (codes "PUT") then if allowed then if free then ChangeGains else Refused Rate else WithoutToken
     else WrongGainsMethod)
 
--- the tests of a request for another resource: whether there is one, and the method
+-- the tests of a request to another resource: whether it exists, and the method
 abbrev pub verdict_on_page : Option Resource → Bool → Verdict
 verdict_on_page None read = NoResource
 verdict_on_page (Some resource) true = Show resource

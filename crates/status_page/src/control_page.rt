@@ -82,7 +82,7 @@ impl<D: GainDesk> ControlPage<D> {
         connection.advance(self);
     }
 
-    /// Returns what is done with a request.
+    /// Returns the verdict on a request.
     fn verdict(&self, request: &Request<Bytes>) -> Verdict
         ensures { result ≡ verdict_on self.now request.now }
     {
@@ -115,7 +115,7 @@ impl<D: GainDesk> ControlPage<D> {
         self.control.show(alloc, request.uri().query(), response);
     }
 
-    /// Asks for the change in the body of a request.
+    /// Sends the change in the body of a request to the run.
     fn change_gains(&mut self, request: &Request<Bytes>, response: &mut Response)
         requires { IsBlank response.old }
         ensures { ChangesGains D.asks self.old request.now response.new self.new }

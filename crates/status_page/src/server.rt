@@ -108,7 +108,7 @@ impl PageServer {
         self.take_clients(page, now);
     }
 
-    /// Gives the client at a place its turn, and disconnects it if it is done.
+    /// Reads, answers and writes for the client at a place, and disconnects it if it is done.
     fn turn_at<P: ServedPage>(&mut self, place: usize, page: &mut P, now: Duration) {
         if is_done_at(&mut self.clients, place, page, now) {
             remove_client(&mut self.clients, place);
@@ -168,7 +168,7 @@ impl PageServer {
     }
 }
 
-/// Gives the client at a place its turn, and returns true if there is one that is done then.
+/// Reads, answers and writes for the client at a place, and returns true if there is one that is done then.
 // This function and those below only borrow the clients, so that few functions hold sockets.
 fn is_done_at<P: ServedPage>(
     clients: &mut Slab<Client>,

@@ -39,7 +39,7 @@ pub struct CopyCounts {
     pub late: u64,
     /// The packets that arrived too early for the window.
     pub ahead: u64,
-    /// The packets that the path brought last, one after another, that are late and repeat numbers which were heard.
+    /// The packets that the path brought last, one after another, that are late and repeat numbers received in time.
     pub repeated: u64,
 }
 
@@ -77,7 +77,7 @@ pub struct PathState {
     pub drift: Option<i64>,
     /// True if every packet of the last two seconds was late or too early, and there was one.
     pub is_astray: bool,
-    /// True if the last 64 packets repeat numbers that were heard, while no path of the stream is in time.
+    /// True if the last 64 packets repeat numbers that were received in time, while no path of the stream is in time.
     pub is_repeating: bool,
 }
 

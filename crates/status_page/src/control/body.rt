@@ -33,14 +33,14 @@ use json::{Error, Scratch, Value};
 use std::alloc::{AllocError, Global};
 use studio_io::{GainAction, GainRequest};
 
-/// The place of a gain in the matrix: the number of its output channel and that of its input.
+/// The place of a gain in the matrix: the numbers of its output channel and its input.
 #[derive(Clone, Copy, Debug, PartialEq, Eq)]
 pub(crate) struct MatrixCell {
     pub(crate) output: usize,
     pub(crate) input: usize,
 }
 
-/// Returns the change that a body asks for, and writes the buffer of its request to `gains`. Returns `AllocError` if an
+/// Returns the change in a body, and writes the buffer of its request to `gains`. Returns `AllocError` if an
 /// allocation fails.
 // The values of a body take at most some 3 MB for as long as it is read, since each takes two of its octets.
 pub(crate) fn read_change(
@@ -62,7 +62,7 @@ pub(crate) fn read_change(
     }
 }
 
-/// Returns the change that a value asks for, and writes the buffer of its request to `gains`.
+/// Returns the change in a JSON value, and writes the buffer of its request to `gains`.
 fn change_with_buffer(
     shape: GainShape,
     value: &Value,
@@ -132,7 +132,7 @@ fn push_gains(values: &[Value], gains: &mut Vec<i32>) -> Result<(), AllocError>
     Ok(())
 }
 
-/// Returns the change that a value asks for, or its fault.
+/// Returns the change in a JSON value, or its fault.
 fn change_in(shape: GainShape, value: &Value) -> Result<GainRequest, ControlFault>
     ensures { result ≡ change_in shape.outs shape.ins (value_view value.now) }
 {

@@ -5,18 +5,18 @@ ghost use Rattle.status_page.specs.ControlFaults.{fault_of, fault_status, fault_
 use gain_mix::ChangeFault;
 use http::StatusCode;
 
-/// The reason why a request for the gains of a run is refused. Nothing has changed, except where a variant says more.
+/// The reason why a request about the gains of a run is refused. Nothing has changed, unless a variant says more.
 #[derive(Clone, Copy, Debug, PartialEq, Eq)]
 pub(crate) enum ControlFault {
     /// The request comes from a page of another origin.
     Origin,
-    /// 200 changes were asked for in this second already.
+    /// 200 changes were requested in this second already.
     Rate,
     /// The query is not `at=T` with an integer T.
     Query,
-    /// The body is not a JSON object that asks for a change.
+    /// The body is not a JSON object with a change.
     Body,
-    /// The gains are not as many as those of the matrix, or the place is not one of the matrix.
+    /// The gains are not as many as those of the matrix, or the place is not in the matrix.
     Shape,
     /// A gain is not an integer from -1,048,576 to 1,048,576.
     Range,

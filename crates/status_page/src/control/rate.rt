@@ -6,15 +6,15 @@ ghost use Rattle.status_page.specs.ChangeRate.{allows, counted, has_passed};
 use std::time::Duration;
 
 /// The greatest number of changes in a second.
-// A fader that is moved asks for some 60 in a second, and a run answers up to 64 requests in each block. The limit
+// A fader that is moved sends some 60 changes in a second, and a run answers up to 64 requests in each block. The limit
 // keeps a client that repeats its request without a pause from taking all of the page's time.
 const MAX_CHANGES: u32 = 200;
 
 /// A second, in nanoseconds.
 const SECOND_NANOS: u128 = 1_000_000_000;
 
-/// The number of changes that were asked for in a second. The next second begins with the first change that is asked
-/// for after its end.
+/// The number of changes that were requested in a second. The next second begins with the first change that is
+/// requested after its end.
 #[derive(Clone, Copy, Debug, PartialEq, Eq)]
 pub(crate) struct ChangeRate {
     /// The time of the first change in the second.
@@ -35,14 +35,14 @@ impl ChangeRate {
         }
     }
 
-    /// Returns true if a change may be asked for at the time `now`.
+    /// Returns true if a change may be requested at the time `now`.
     pub(crate) fn allows(&self, now: Duration) -> bool
         ensures { result ≡ allows self.now now }
     {
         has_passed(self.began_at, now) || self.changes < MAX_CHANGES
     }
 
-    /// Counts a change that is asked for at the time `now`, if it may be.
+    /// Counts a change that is requested at the time `now`, if it is allowed.
     pub(crate) fn count(&mut self, now: Duration)
         ensures { self.new ≡ counted self.old now }
     {

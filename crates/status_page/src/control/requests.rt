@@ -27,7 +27,7 @@ use studio_io::{GainAction, GainRequest};
 
 impl<D: GainDesk> Control<D> {
     /// Writes the response to a request for the gains with this query. If an allocation fails, the response is 500.
-    // Not an error: the run may have been asked already.
+    // Not an error: the request may have been sent to the run already.
     pub(crate) fn show(&mut self, alloc: Global, query: Option<&str>, response: &mut Response)
         requires { IsBlank response.old }
         ensures shows { Shows D.asks D.planned self.old (option_map (λ query. query.now) query.entry) self.new
@@ -71,8 +71,8 @@ impl<D: GainDesk> Control<D> {
         }
     }
 
-    /// Asks the run for the gains in force at a time, unless the request has a fault already. After `Shown` the buffer
-    /// has them. Returns `AllocError` if an allocation fails; then the run was not asked.
+    /// Requests the gains in force at a time from the run, unless the request has a fault already. After `Shown` the
+    /// buffer has them. Returns `AllocError` if an allocation fails; then nothing was sent to the run.
     fn ask_for_gains(
         &mut self,
         at: Result<Option<i64>, ControlFault>,
@@ -93,8 +93,8 @@ impl<D: GainDesk> Control<D> {
         Ok(shown_in(answer))
     }
 
-    /// Asks the run for the change in a body, unless the body has a fault. Returns `AllocError` if an allocation fails;
-    /// then the run was not asked.
+    /// Sends the change in a body to the run, unless the body has a fault. Returns `AllocError` if an allocation fails;
+    /// then nothing was sent to the run.
     fn ask_for_change(
         &mut self,
         alloc: Global,
@@ -123,7 +123,7 @@ fn write_change(alloc: Global, reply: Result<i64, ControlFault>, response: &mut 
     }
 }
 
-/// Writes the response to a request for whose answer there was not enough memory: 500.
+/// Writes the response to a request if there was not enough memory to answer it: 500.
 fn fail(response: &mut Response)
     ensures { IsFailed response.new }
 {

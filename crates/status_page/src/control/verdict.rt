@@ -34,22 +34,22 @@ pub(crate) enum Verdict {
     Refused(ControlFault),
     /// There is no such resource.
     NoResource,
-    /// Its method is not one of the resource, which can only be read.
+    /// Its method is not a method of the resource, which can only be read.
     WrongMethod,
-    /// Its method is not one of the gains.
+    /// Its method is not a method of the gains.
     WrongGainsMethod,
-    /// It asks for a change without the token, or with another one.
+    /// It is a change without the token, or with another one.
     WithoutToken,
     /// The resource is shown.
     Show(Resource),
     /// The gains are shown.
     ShowGains,
-    /// A change of the gains is asked for.
+    /// It is a change of the gains.
     ChangeGains,
 }
 
-/// Returns what is done with a request to the page of a run whose changes need a token. `is_free` is true if another
-/// change may be asked for at this time.
+/// Returns the verdict on a request to the page of a run whose changes need a token. `is_free` is true if a further
+/// change is allowed at this time.
 pub(crate) fn verdict_of(request: &Request<Bytes>, token: &Token, is_free: bool) -> Verdict
     ensures { result ≡ verdict_of token.now is_free (head_of request.now) }
 {
@@ -62,7 +62,7 @@ pub(crate) fn verdict_of(request: &Request<Bytes>, token: &Token, is_free: bool)
     verdict_on_path(request, token, is_free)
 }
 
-/// Returns what is done with a request from an allowed origin.
+/// Returns the verdict on a request from an allowed origin.
 fn verdict_on_path(request: &Request<Bytes>, token: &Token, is_free: bool) -> Verdict
     ensures { result ≡ verdict_on_path token.now is_free (head_of request.now) }
 {
@@ -76,7 +76,7 @@ fn verdict_on_path(request: &Request<Bytes>, token: &Token, is_free: bool) -> Ve
     )
 }
 
-/// Returns what is done with a request for the gains.
+/// Returns the verdict on a request to the gains.
 fn verdict_on_gains(method: &Method, is_allowed: bool, is_free: bool) -> Verdict
     ensures { result ≡ verdict_on_gains method.now is_allowed is_free }
 {
@@ -95,7 +95,7 @@ fn verdict_on_gains(method: &Method, is_allowed: bool, is_free: bool) -> Verdict
     Verdict::ChangeGains
 }
 
-/// Returns what is done with a request for another resource than the gains.
+/// Returns the verdict on a request to another resource than the gains.
 fn verdict_on_page(resource: Option<Resource>, is_read: bool) -> Verdict
     ensures { result ≡ verdict_on_page resource is_read }
 {
@@ -120,7 +120,7 @@ fn is_own_origin(headers: &HeaderMap<HeaderValue>) -> bool
     }
 }
 
-/// Returns true if an origin is that of the pages at a host and port.
+/// Returns true if an origin is that of the pages at this host and port.
 fn is_origin_of(host: &[u8], origin: &[u8]) -> bool
     ensures { result ≡ is_origin_of host.now origin.now }
 {

@@ -397,11 +397,11 @@ fn push_pcm_blocks(text: &mut Vec<u8>, blocks: Option<u64>) -> Result<(), AllocE
     push_count_family(text, "pcm_", "blocks", PCM_BLOCKS_HELP, blocks)
 }
 
-/// The description of the metric of the blocks that raw PCM lacks.
+/// The description of the metric of the blocks that were left out of the raw PCM.
 const LEFT_OUT_HELP: &str =
     "Blocks of the mix that were left out of the raw PCM, because its reader was slow or there was none.";
 
-/// Appends the metric of the blocks that raw PCM lacks.
+/// Appends the metric of the blocks that were left out of the raw PCM.
 #[tactic(auto, unfolding(crate::specs::Metrics::left_out_family))]
 fn push_left_out(text: &mut Vec<u8>, left_out: Option<u64>) -> Result<(), AllocError>
     ensures { OnOk result (text.new.items ≡ text.old.items ++ left_out_family left_out) }

@@ -171,7 +171,7 @@ pub(crate) fn push_failed_sample(
     push_value(text, failed)
 }
 
-/// Appends the line for the state of this name, with 1 if it is the one that something is in, and 0 otherwise.
+/// Appends the line for the state with this name: 1 if it is this state, and 0 otherwise.
 #[tactic(auto, unfolding(crate::specs::Metrics::state_sample))]
 pub(crate) fn push_state_sample(
     text: &mut Vec<u8>,

@@ -361,7 +361,7 @@ fn write_pcm(writer: &mut Writer, state: PcmState) -> Result<(), AllocError>
     writer.end_object()
 }
 
-/// Writes the state of raw PCM, the number of blocks that were written, and that of those that were left out.
+/// Writes the state of raw PCM, and the numbers of blocks that were written and that were left out.
 fn write_pcm_members(writer: &mut Writer, state: PcmState) -> Result<(), AllocError>
     ensures tokens { OnOk result (writer.new.tokens ≡ writer.old.tokens ++ pcm_members state) }
     ensures before { OnOk result (writer.new.before ≡ writer.old.before) }
@@ -370,7 +370,7 @@ fn write_pcm_members(writer: &mut Writer, state: PcmState) -> Result<(), AllocEr
     write_pcm_counts(writer, state.blocks(), state.left_out())
 }
 
-/// Writes the number of blocks of raw PCM that were written, and that of those that were left out.
+/// Writes the numbers of blocks of raw PCM that were written and that were left out.
 #[tactic(auto, unfolding(crate::specs::State::pcm_count_members))]
 fn write_pcm_counts(
     writer: &mut Writer,
