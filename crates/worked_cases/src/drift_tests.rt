@@ -1,4 +1,4 @@
-//! The tests of the drift of a path's arrival margin, and of packets that repeat numbers which were heard.
+//! The tests of the drift of a path's arrival margin, and of packets that repeat numbers received in time.
 
 use rtp_stats::{ArrivalMargin, CopyTracker, Drift, MarginMinute};
 use rtp_stream::{Fate, Path, StreamClock, StreamSpec};
@@ -12,7 +12,7 @@ struct Margins {
     /// The number of seconds with packets, one of every `step` seconds from 0 on.
     count: u64,
     step: u64,
-    /// The margin of the first second, and by how much that of the next one is greater or less, in sampling instants.
+    /// The margin of the first second, and the difference from each second to the next, in sampling instants.
     start: u32,
     more: u32,
     less: u32,
@@ -131,7 +131,7 @@ const MARGINS: [Margins; 9] = [
     },
 ];
 
-/// Returns the margins of a second in which all packets had the same one.
+/// Returns the margins of a second in which all packets had the same margin.
 fn margin(second: u64, margin: u32) -> ArrivalMargin {
     ArrivalMargin {
         second,
@@ -218,8 +218,9 @@ fn new_tracker(rt: &impl Abort, alloc: Global) -> CopyTracker {
     tracker.expect(rt, "there is memory")
 }
 
-/// A sender that is started again with the same numbers repeats numbers that were heard: its packets are late, and at
-/// or below the last one that was taken. A late packet of a greater number ends the row, and so does a new epoch.
+/// A sender that is started again with the same numbers repeats numbers that were received in time: its packets are
+/// late, and at or below the last one that was taken. A late packet of a greater number ends the row, and so does a new
+/// epoch.
 #[test]
 fn late_packets_that_repeat_numbers_are_counted_in_a_row(rt: HostRuntime) {
     let mut tracker = new_tracker(&rt, rt.alloc());

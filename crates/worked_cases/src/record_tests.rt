@@ -1,5 +1,5 @@
 //! The tests of a live run's record: `record` has its octets, `octets` the calls that write and read them, `changes`
-//! those of changes of gains, and `marks` the times that its blocks give.
+//! those of changes of gains, and `marks` the times in its blocks.
 mod changes;
 mod marks;
 mod octets;

@@ -332,8 +332,8 @@ fn drops_are_read_by_the_inode(rt: HostRuntime) {
     assert_eq!(rt; drops_in(whole, 4_026_531), None);
 }
 
-/// A clock whose monotonic reading steps by so many microseconds each time, for so many readings, and then stays the
-/// same.
+/// A clock whose monotonic reading steps by this many microseconds each time, for this many readings, and then stays
+/// the same.
 #[derive(Drop)]
 struct SteppingClock {
     readings: Cell<u64>,

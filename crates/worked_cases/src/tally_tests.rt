@@ -113,7 +113,7 @@ fn a_second_tells_its_spare_times_once_it_is_over(rt: HostRuntime) {
     has_margins(&rt, tally, &SECOND_BY_SECOND);
 }
 
-/// The least arrival margin is exact. A median of more than 128 ms is given as that of the last bin.
+/// The least arrival margin is exact. A median of more than 128 ms is reported as that of the last bin.
 #[test]
 fn a_median_is_at_most_that_of_the_last_bin(rt: HostRuntime) {
     let tally = &mut new_tally(&rt, rt.alloc());
@@ -137,7 +137,7 @@ fn peaks_are_on_the_scale_of_24_bits(rt: HostRuntime) {
     assert!(rt; peaks[1] == 256);
 }
 
-/// A fate, a timestamp, the deadline that the merge gives, if any, and the deadline of the packet.
+/// A fate, a timestamp, the deadline that the merge returns, if any, and the deadline of the packet.
 type Deadline = (Fate, u32, Option<i64>, Option<i64>);
 
 /// Before the first row no packet was taken.

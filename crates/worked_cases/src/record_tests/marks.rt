@@ -1,9 +1,9 @@
-//! The opening and the close of a run, as the blocks of its record give them, and headers that give none.
+//! The opening and the close of a run, in the blocks of its record, and headers that have neither.
 use super::record::{latest_header, record};
 use pcap_file::{BlockParser, RecordMark};
 use std::process::Abort;
 
-/// The length of each block of the record, and the mark that it gives.
+/// The length of each block of the record, and its mark.
 const PARTS: [(usize, Option<RecordMark>); 5] = [
     (60, Some(RecordMark::Opened(1000))),
     (40, None),
@@ -12,7 +12,7 @@ const PARTS: [(usize, Option<RecordMark>); 5] = [
     (24, Some(RecordMark::Closed(4_295_083_334))),
 ];
 
-/// Returns the octets after the next block, if that block has this length and gives this mark.
+/// Returns the octets after the next block, if that block has this length and this mark.
 fn goes_on<'a>(
     parts: &mut BlockParser,
     rest: &'a [u8],
@@ -29,7 +29,7 @@ fn goes_on<'a>(
     }
 }
 
-/// A record gives the time at which its studio was opened and the one at which it was closed.
+/// A record has the time at which its studio was opened and the time at which it was closed.
 #[test]
 fn a_record_says_its_opening_and_its_close(rt: HostRuntime) {
     let record = record();
@@ -44,8 +44,7 @@ fn a_record_says_its_opening_and_its_close(rt: HostRuntime) {
     assert!(rt; left == Some(&[]), "five blocks, and nothing more");
 }
 
-/// A place in the header of the latest opening, the octet that is written there, and the mark that the header gives
-/// then.
+/// A place in the header of the latest opening, the octet that is written there, and the mark that the header has then.
 const CHANGES: [(usize, u8, Option<RecordMark>); 12] = [
     (0, 0x0a, Some(RecordMark::Opened(9_223_372_036_854_775_807))),
     (26, 26, Some(RecordMark::Opened(922_337_203_685_477_580))),
@@ -69,13 +68,13 @@ const CHANGES: [(usize, u8, Option<RecordMark>); 12] = [
     (67, b'n', None),
 ];
 
-/// Returns the mark that a header gives.
+/// Returns the mark of a header.
 fn mark_of(rt: &impl Abort, header: &[u8; 76]) -> Option<RecordMark> {
     let mut parts = BlockParser::open(header).expect(rt, "a header");
     parts.next(header).expect(rt, "a block").mark
 }
 
-/// A comment of another form, of another writer or of 2^63 and more gives no opening. Neither do options that are cut.
+/// A comment of another form, of another writer or of 2^63 and more is no opening. Neither are options that are cut.
 /// None of them is a fault.
 #[test]
 fn only_a_whole_number_of_ours_is_an_opening(rt: HostRuntime) {

@@ -207,7 +207,7 @@ const TIMES: [(u64, Option<u64>); 7] = [
     (885_443_715_538_059, None),
 ];
 
-/// A time is rounded up to a nanosecond. One that does not fit into 64 bits gives none.
+/// A time is rounded up to a nanosecond. A time that does not fit into 64 bits has no nanoseconds.
 #[test]
 fn times_are_rounded_up(rt: HostRuntime) {
     for (instants, want) in &TIMES {

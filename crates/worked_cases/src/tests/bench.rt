@@ -85,7 +85,7 @@ impl<W: Window> Bench<W> {
 
     /// Advances until the reading is passed, one mark a call, and tests that each slot comes at its deadline.
     pub fn tick(&mut self, rt: &impl Abort, now: i64) {
-        // The bound ends the loop if a merge never comes to the reading. No step of a case gives 1,000 marks.
+        // The bound ends the loop if a merge never comes to the reading. No step of a case has 1,000 marks.
         for _ in 0..1000u32 {
             let given = self.merge.advance(now);
             let Some(mark) = given.expect(rt, "the reading is in order") else {

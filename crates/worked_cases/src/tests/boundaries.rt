@@ -6,7 +6,7 @@ use path_merge::{Fate, Path, Stream, StreamClock, Window};
 use std::alloc::Global;
 use std::process::Abort;
 
-/// Returns the fate of a packet on the second path. If a time is given, the packet (1, 0) came before it on the first
+/// Returns the fate of a packet on the second path. If there is a time, the packet (1, 0) came before it on the first
 /// path, and the clock was read at that time.
 fn fate_on<W: Window>(
     rt: &impl Abort,

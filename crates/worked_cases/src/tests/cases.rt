@@ -35,7 +35,7 @@ fn checked(stream: Stream) -> Result<StreamSpec, SpecFault> {
     StreamSpec::of(stream)
 }
 
-/// The steps of a stream, and the fates, marks and counts that they have to give, in the words of `steps` and `words`.
+/// The steps of a stream, and the expected fates, marks and counts, in the words of `steps` and `words`.
 #[derive(Clone, Copy)]
 pub struct Case {
     /// The claim that the case shows, as a failure reports it.

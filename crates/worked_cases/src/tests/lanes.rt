@@ -126,7 +126,7 @@ impl Player {
         }
     }
 
-    /// Takes a step, and returns true if it gave the step's result.
+    /// Takes a step, and returns true if its result was the step's.
     fn gives_result(&mut self, step: Step) -> bool {
         let format = self.lane.format();
         match step {
@@ -214,7 +214,8 @@ const FROM_SILENCE: [Step; 18] = [
     Step::Refuse(Plain::End),
 ];
 
-/// A lane from 3 on takes silence, a slot of 1 to 6 at 0, a lost one and one of 7 to 12, and refuses a number that does
+/// A lane from 3 on takes silence, a slot of 1 to 6 at 0, a lost slot and a slot of 7 to 12, and refuses a number that
+/// does
 /// not follow. Its blocks begin amid the first slot, and after the end they are zeros.
 #[test]
 fn slots_are_read_from_the_middle_of_one_to_the_end(rt: HostRuntime) {
@@ -265,7 +266,7 @@ const FOLLOWERS: [Step; 17] = [
     Step::Refuse(Plain::End),
 ];
 
-/// After silence up to 3, a slot at 27, one of the next epoch and the end, a lane refuses marks of other times,
+/// After silence up to 3, a slot at 27, a slot of the next epoch and the end, a lane refuses marks of other times,
 /// numbers, epochs and streams.
 #[test]
 fn marks_that_do_not_follow_are_refused(rt: HostRuntime) {

@@ -124,8 +124,8 @@ const ORDER: [Case; 7] = [
     },
 ];
 
-/// Packets are missing, out of order, late, too early for the window or before the anchor. Each number that is due
-/// gives one slot, got or lost.
+/// Packets are missing, out of order, late, too early for the window or before the anchor. Each number that is due has
+/// one slot, got or lost.
 #[test]
 fn slots_come_in_order_at_their_deadlines(rt: HostRuntime) {
     for case in &ORDER {
@@ -218,7 +218,7 @@ const CLOCKS: [Case; 2] = [
     },
 ];
 
-/// Clock readings before and between packets give the times of silence and of slots, by the media clock and by the
+/// Clock readings before and between packets produce the times of silence and of slots, by the media clock and by the
 /// arrival clock.
 #[test]
 fn silence_is_reported_and_the_arrival_clock_followed(rt: HostRuntime) {
@@ -257,7 +257,8 @@ const CLOSES: [Case; 3] = [
     },
 ];
 
-/// A close of a merge that is empty, that holds packets or that holds none gives the slots that are held and one end,
+/// A close of a merge that is empty, that holds packets or that holds none produces the slots that are held and one
+/// end,
 /// and nothing after it.
 #[test]
 fn a_close_gives_what_is_held_and_the_end(rt: HostRuntime) {
@@ -464,7 +465,7 @@ fn a_probation_is_of_one_path_and_source(rt: HostRuntime) {
     }
 }
 
-// Tried by `check_calls` alone: `run_merge` gives no marks if a reading is out of order, and has no single `advance`.
+// Tried by `check_calls` alone: `run_merge` returns no marks if a reading is out of order, and has no single `advance`.
 const SINGLE_CALLS: [Case; 4] = [
     Case {
         shows: "four slots that are due at once come one per call, and then none",
@@ -510,8 +511,8 @@ const SINGLE_CALLS: [Case; 4] = [
     },
 ];
 
-/// Each call gives one mark, or the fault of a reading that goes back, is past 2^60 or follows a close. A close between
-/// due slots gives those that are left.
+/// Each call returns one mark, or the fault of a reading that goes back, is past 2^60 or follows a close. A close
+/// between due slots produces those that are left.
 #[test]
 fn each_call_gives_one_mark_or_its_fault(rt: HostRuntime) {
     for case in &SINGLE_CALLS {

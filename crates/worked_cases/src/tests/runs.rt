@@ -63,7 +63,7 @@ fn take_in_time<W: Window>(rt: &impl Abort, bench: &mut Bench<W>, number: u32, t
     assert!(rt; fate == Fate::Taken, "number {number}");
 }
 
-/// Advances to the deadline of a number, and tests that this gives its slot and no other mark.
+/// Advances to the deadline of a number, and tests that this returns its slot and no other mark.
 fn gives_slot<W: Window>(
     rt: &impl Abort,
     bench: &mut Bench<W>,
@@ -204,8 +204,8 @@ fn place_in(rt: &impl Abort, alloc: Global, open_at: i64, steps: &str) -> Option
     place_of_fault(alloc, spec, open_at, &events_of(rt, alloc, &spec, steps))
 }
 
-/// A run of 101 marks, whose list grows several times, is made twice: if one allocation fails, each run gives all marks
-/// or an error, and at most one gives an error.
+/// A run of 101 marks, whose list grows several times, is made twice: if one allocation fails, each run returns all
+/// marks or an error, and at most one returns an error.
 #[test]
 fn each_refused_allocation_of_a_run_is_answered(rt: HostRuntime) {
     let spec = spec_of(&rt, STREAM);
@@ -232,7 +232,7 @@ fn arrival(rt: &impl Abort, spec: &StreamSpec) -> Event {
     Event::Arrive(path, Sent::new(1, 0).packet(spec))
 }
 
-/// Returns the number of marks that a run gave, or none if an allocation failed.
+/// Returns the number of marks that a run returned, or none if an allocation failed.
 fn mark_count(rt: &impl Abort, alloc: Global, spec: StreamSpec, events: &[Event]) -> Option<usize>
     requires { All (IsEventOf spec) events.now }
 {

@@ -4,7 +4,7 @@
 //! - `advance T`: one call.
 //! - `close`: the close.
 //! - `a 1 0`: a packet's path, sequence number and timestamp. After these may come `of S`, its source if that is not 1;
-//!   `odd`, for a payload that differs from the other copies'; and `x 8`, for so many packets in sequence.
+//!   `odd`, for a payload that differs from the other copies'; and `x 8`, for this many packets in sequence.
 use path_merge::{Packet, Path, StreamSpec};
 use rtp_wire::Payload;
 use std::process::Abort;
@@ -54,7 +54,7 @@ impl Sent {
     }
 }
 
-/// Returns a payload of so many octets, which count up from 1, except for the last one.
+/// Returns a payload of this many octets, which count up from 1, except for the last one.
 pub fn payload_of(len: usize, last: u8) -> Payload {
     let mut payload = Payload::new();
     for place in 1..len {
@@ -67,7 +67,7 @@ pub fn payload_of(len: usize, last: u8) -> Payload {
 /// A step of a stream.
 #[derive(Clone, Copy)]
 pub enum Step {
-    /// So many packets in sequence arrive on a path, from this one on.
+    /// This many packets in sequence arrive on a path, from this one on.
     On(Path, Sent, u16),
     /// `advance` is called until this clock reading is passed.
     Tick(i64),
@@ -87,7 +87,7 @@ pub fn step_of(rt: &impl Abort, text: &str) -> Step {
     }
 }
 
-/// Returns the path of a word, if the word is one's name.
+/// Returns the path with this name, if there is one.
 fn path_of(word: &str) -> Option<Path> {
     match word {
         "a" => Path::new(0),
