@@ -21,7 +21,8 @@ pub(super) fn sent_by<S: Service>(
 }
 
 /// Serves a client until its connection is done.
-// Apart, so that nothing else happens while the connection is held: each step beside it would follow all its parts.
+// A function of its own, so that nothing else happens while the connection is held: each further step would follow all
+// its parts.
 fn is_served<S: Service>(
     mut connection: Connection,
     service: &mut S,

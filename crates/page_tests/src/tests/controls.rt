@@ -1,4 +1,4 @@
-//! Requests for the gains of a run and their answers, over a desk in memory.
+//! Requests to the gains of a run and their responses, over a desk in memory.
 use super::client::{sent_by, stands_alone};
 use super::desk::MemoryDesk;
 use super::sample::snapshot;
@@ -28,7 +28,7 @@ fn page(rt: &impl Abort, alloc: Global) -> ControlPage<MemoryDesk> {
     page_over(rt, alloc, MemoryDesk::new(shape))
 }
 
-/// Returns the answer of a page to a client that sends these octets and no more.
+/// Returns the response of a page to a client that sends these octets and no more.
 fn answers(
     rt: &(impl Abort + RandomSource),
     alloc: Global,
@@ -39,7 +39,7 @@ fn answers(
     sent_by(rt, alloc, new_control_connection(alloc, keys), page, octets)
 }
 
-/// A request, and the begin and the end of its answer.
+/// A request, and the begin and the end of its response.
 struct Case {
     /// The sentence of the case.
     shows: &'static str,
@@ -51,7 +51,7 @@ struct Case {
     body: &'static str,
     /// The status.
     status: &'static str,
-    /// The body of the answer.
+    /// The body of the response.
     answer: &'static str,
 }
 
@@ -372,7 +372,7 @@ fn request(rt: &impl Abort, alloc: Global, case: &Case) -> String {
     ).expect(rt, "there is memory")
 }
 
-/// Tests that the answer to a case is its own, and does not have the token in it.
+/// Tests that the response to a case is the one that it names, and does not have the token in it.
 fn is_answered(
     rt: &(impl Abort + RandomSource),
     alloc: Global,
@@ -398,7 +398,8 @@ fn gains_are_shown_and_changed(rt: HostRuntime) {
     }
 }
 
-/// A change, and its answers while it is taken, once 200 changes were asked for in a second, and after the run's end.
+/// A change, and the responses to it while it is taken, once 200 changes were requested in a second, and after the
+/// run's end.
 const CHANGE: Case = Case {
     shows: "a change is taken",
     line: "PUT /gains",
@@ -460,7 +461,7 @@ fn is_taken_at(
     assert!(rt; is_taken);
 }
 
-/// Returns true if the first answer to a request at a time is that it succeeded.
+/// Returns true if the first response to a request at a time says that it succeeded.
 fn is_taken(
     mut connection: Connection,
     page: &mut ControlPage<MemoryDesk>,
@@ -484,7 +485,7 @@ fn a_run_that_has_ended_is_not_waited_for(rt: HostRuntime) {
     is_answered(&rt, rt.alloc(), page, &SHOWN_AFTER_THE_END);
 }
 
-/// The greatest bodies, and the begin of their answers.
+/// The greatest bodies, and the begin of the responses to them.
 const LONG_BODIES: [(usize, &str); 2] = [
     (131_072, "HTTP/1.1 400 Bad Request\r\ncontent-type"),
     (131_073, "HTTP/1.1 413 "),
@@ -499,7 +500,7 @@ fn a_body_has_a_limit(rt: HostRuntime) {
     }
 }
 
-/// Tests that the answer to a body of so many octets begins so.
+/// Tests that the response to a body of this many octets begins with this text.
 fn is_long_answered(
     rt: &(impl Abort + RandomSource),
     alloc: Global,

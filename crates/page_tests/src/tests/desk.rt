@@ -58,7 +58,7 @@ impl MemoryDesk {
         }
     }
 
-    /// Sets the gains that are asked for, and returns true if they are of the matrix.
+    /// Sets the requested gains, and returns true if they are gains of the matrix.
     fn set(&mut self, action: GainAction, gains: &[i32]) -> bool {
         match action {
             GainAction::SetAll if gains.len() == 4 => {
@@ -79,7 +79,7 @@ impl MemoryDesk {
 }
 
 impl GainDesk for MemoryDesk {
-    // Nothing is claimed of this desk: its tests look at what the page answers.
+    // No clause says what this desk does: its tests look at the responses of the page.
     ghost asks = { λ old request sent outcome shown new. Unit {0} };
 
     ghost planned = { λ desk. take (min desk.count 2) desk.planned };

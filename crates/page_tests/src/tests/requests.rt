@@ -1,4 +1,4 @@
-//! Requests and their answers, octet by octet.
+//! Requests and their responses, octet by octet.
 use super::client::{sent_by, stands_alone};
 use super::sample::snapshot;
 use super::texts::STATE;
@@ -8,7 +8,7 @@ use std::hash::RandomState;
 use std::process::Abort;
 use std::random::RandomSource;
 
-/// Returns the answer of a page to a client that sends these octets and no more.
+/// Returns the response of a page to a client that sends these octets and no more.
 fn answers(
     rt: &(impl Abort + RandomSource),
     alloc: Global,
@@ -19,7 +19,7 @@ fn answers(
     sent_by(rt, alloc, new_connection(alloc, keys), page, octets)
 }
 
-/// Requests that are answered in few words.
+/// Requests with short responses.
 const SHORT: [(&str, &str); 12] = [
     (
         "GET /nothing HTTP/1.1\r\nHost: localhost\r\n\r\n",
@@ -89,7 +89,7 @@ fn requests_are_answered_octet_by_octet(rt: HostRuntime) {
     }
 }
 
-/// Tests that a page gives this answer to a client that sends a request and no more.
+/// Tests that a page sends this response to a client that sends a request and no more.
 fn is_answered(
     rt: &(impl Abort + RandomSource),
     alloc: Global,
@@ -101,7 +101,7 @@ fn is_answered(
     assert!(rt; sent.as_slice() == answer.as_bytes(), "{request}");
 }
 
-/// Returns the octets that a client gets that asks for the state and then for the page, up to the page's length.
+/// Returns the octets that are sent to a client that requests the state and then the page, up to the page's length.
 const KEPT: [&str; 3] = [
     "HTTP/1.1 200 OK\r\ncontent-type: application/json\r\ncache-control: no-store\r\n\
     x-content-type-options: nosniff\r\ncontent-length: 1134\r\n\r\n",
@@ -110,7 +110,7 @@ const KEPT: [&str; 3] = [
     x-content-type-options: nosniff\r\ncontent-length: ",
 ];
 
-/// One request after another on one connection: each has its answer whole, with the length of its body.
+/// One request after another on one connection: each has its response whole, with the length of its body.
 #[test]
 fn a_connection_is_kept(rt: HostRuntime) {
     let page = &mut Page::new(rt.alloc(), snapshot());
@@ -135,7 +135,7 @@ fn long_request(rt: &impl Abort, alloc: Global, front: &str) -> Vec<u8> {
     request
 }
 
-/// The begin of a request that is too long, and of its answer.
+/// The begin of a request that is too long, and of its response.
 const LONG: [(&str, &str); 2] = [
     ("GET / HTTP/1.1\r\nHost: localhost\r\nX: ", "HTTP/1.1 431 "),
     ("GET /", "HTTP/1.1 414 "),
@@ -150,7 +150,7 @@ fn a_long_head_is_refused(rt: HostRuntime) {
     }
 }
 
-/// Tests that the answer to a long request begins so.
+/// Tests that the response to a long request begins with this text.
 fn is_refused(
     rt: &(impl Abort + RandomSource),
     alloc: Global,

@@ -75,7 +75,7 @@ fn take_turns(server: &mut PageServer, page: &mut Page) {
     }
 }
 
-/// Tests that so many clients were answered, and so many removed.
+/// Tests that this many clients were answered, and this many removed.
 fn have_fates(rt: &impl Abort, clients: &mut [TcpStream], wanted: (u32, u32)) {
     assert!(rt; fates_of(clients) == wanted);
 }
@@ -93,7 +93,8 @@ fn serves_page(rt: &impl Abort, alloc: Global, server: &mut PageServer, clients:
     serves(rt, server, &mut Page::new(alloc, snapshot()), clients);
 }
 
-/// 70 clients at once: 64 are answered, and the others let go. Those who then do nothing are let go after 10 s.
+/// 70 clients at once: 64 are answered, and the others are disconnected. The 64 do nothing more, and are disconnected
+/// after 10 s.
 #[test]
 fn clients_are_answered_or_let_go(rt: HostRuntime) {
     let keys = RandomState::new(&rt).expect(&rt, "random octets");

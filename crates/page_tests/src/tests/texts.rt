@@ -82,7 +82,7 @@ fn is_state(rt: &impl Abort, alloc: Global, snapshot: &Snapshot, want: &str) -> 
     }
 }
 
-/// A name is escaped as JSON asks, and what isn't known is null.
+/// A name is escaped as JSON requires, and what isn't known is null.
 #[test]
 fn the_state_is_json(rt: HostRuntime) {
     let is_written = is_state(&rt, rt.alloc(), &snapshot(), STATE);
@@ -124,7 +124,7 @@ fn each_refused_allocation_of_a_text_is_answered(rt: HostRuntime) {
     one_text_succeeds(&rt, rt.alloc(), &snapshot());
 }
 
-/// Tests that of a snapshot.
+/// Tests that at most one of the two calls fails for a snapshot.
 fn one_text_succeeds(rt: &impl Abort, alloc: Global, snapshot: &Snapshot) {
     let first = is_state(rt, alloc, snapshot, STATE);
     assert!(rt; is_state(rt, alloc, snapshot, STATE) || first);
