@@ -1,8 +1,8 @@
-//! A datagram that came in, with all that a receiver knows of it.
+//! A datagram that arrived, with all that a receiver knows of it.
 
 use path_merge::Path;
 
-/// A datagram, with the path that it came on and the reading of the receiver's clock as it came, in
+/// A datagram, with the path that it arrived on and the receiver's clock reading at its arrival, in
 /// sampling instants.
 #[derive(Clone, Copy, Debug)]
 pub struct Arrival<'a> {

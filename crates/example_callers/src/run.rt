@@ -40,7 +40,7 @@ impl<T: Drop> From<AllocFailed<T>> for RunFault {
 }
 
 /// Runs a studio's workers over these datagrams: a list for each path, stream by stream and path by path.
-/// The clock of each stream gives these readings.
+/// The clock of each stream returns these readings.
 ///
 /// If the report is settled, and the sink's contents are known at the end, then the sink was passed the datagrams of
 /// exactly the ready blocks. The contents of a `MemorySink` are known if it is whole.

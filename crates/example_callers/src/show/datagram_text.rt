@@ -4,8 +4,8 @@ use anyhow::ensure;
 use std::fmt;
 use studio_io::MemorySink;
 
-/// Displays a datagram of L24 samples: the 12 octets of its header, and then its samples, with a count before equal
-/// ones in a row: `20 x 0003e8`.
+/// Displays a datagram of L24 samples: the 12 octets of its header, and then its samples. Equal samples in a row are
+/// one entry with a count, such as `20 x 0003e8`.
 #[derive(Clone, Copy)]
 struct DatagramText<'a> {
     datagram: &'a [u8],

@@ -8,7 +8,8 @@ use anyhow::{Context, ensure};
 use path_merge::{Mark, StreamSpec};
 use std::alloc::Global;
 
-/// Prints the marks of two packets, and the faults of a reading that goes back and of a path that the stream lacks.
+/// Prints the marks of two packets, and the faults of a reading that goes back and of a path that the stream does not
+/// have.
 pub(crate) fn show_receive(rt: &impl Print, alloc: Global) -> anyhow::Result<()> {
     println!(rt; "receive_stream:")?;
     let spec = stream()?;
@@ -25,7 +26,7 @@ pub(crate) fn show_receive(rt: &impl Print, alloc: Global) -> anyhow::Result<()>
     print_fault(rt, alloc, spec, &[arrival(0, c, &FIRST)])
 }
 
-/// Prints the marks that these arrivals give.
+/// Prints the marks of these arrivals.
 fn print_marks(
     rt: &impl Print,
     alloc: Global,
