@@ -77,7 +77,7 @@ fn write_datagram(datagram: &mut [u8], number: u32, frames: u32) {
 }
 
 impl Datagrams {
-    /// Returns the datagram of a number, if there is one.
+    /// Returns the datagram with this number, if there is one.
     pub(crate) fn of(&self, number: u32) -> Option<&[u8]> {
         let begin = (number as usize).wrapping_mul(self.len);
         self.octets.as_slice().get(begin..)?.get(..self.len)

@@ -60,7 +60,7 @@ fn play(rt: &HostRuntime, spec: &StudioSpec, events: &[StudioEvent]) -> anyhow::
 }
 
 /// Passes the events to an engine as `play` does.
-// The engine is lent: one that is held is followed through each `?`.
+// The engine is borrowed: an engine that is held is followed through each `?`.
 fn play_by(
     rt: &HostRuntime,
     engine: &mut Engine,
@@ -76,7 +76,7 @@ fn play_by(
     finish(&mut lines)
 }
 
-/// Passes all events to an engine, and writes the datagrams that they give.
+/// Passes all events to an engine, and writes the datagrams that it returns.
 fn take_events<W: Write>(
     engine: &mut Engine,
     events: &[StudioEvent],
@@ -88,7 +88,7 @@ fn take_events<W: Write>(
     Ok(())
 }
 
-/// Passes an event to an engine, and writes the datagrams that it gives.
+/// Passes an event to an engine, and writes the datagrams that it returns.
 fn take_event<W: Write>(
     engine: &mut Engine,
     event: &StudioEvent,

@@ -30,7 +30,7 @@ enum Arrival {
     Nothing,
 }
 
-/// Merges the datagrams of one shape, which the words OCTETS WIDTH HALVES give.
+/// Merges the datagrams of one shape, by the words OCTETS WIDTH HALVES.
 ///
 /// The first half fills the window. If there are two halves, the second is timed. Prints the shape, the picoseconds
 /// that an arrival took, or 0, and a sum over fates and marks.

@@ -68,7 +68,7 @@ fn check_of(samples: &[i32]) -> i64 {
     check
 }
 
-/// Returns so many pseudorandom numbers from a least one on, of the top bits that a shift leaves.
+/// Returns `count` pseudorandom numbers from `least` on: the top bits that are left after a shift.
 fn noise(alloc: Global, count: usize, shift: u32, least: i32) -> Option<Vec<i32>> {
     let mut numbers = vec![in alloc; 0; count].ok()?;
     let mut seed: u32 = 1;

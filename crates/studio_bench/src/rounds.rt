@@ -12,8 +12,8 @@ use studio_engine::Engine;
 /// The greatest number of octets of a datagram.
 const MAX_OCTETS: usize = 1452;
 
-/// Makes so many rounds of calls to the engine of a configuration, which the words CONFIG ROUNDS give. Prints the
-/// nanoseconds that they took, and the number of datagrams of the output.
+/// Makes rounds of calls to the engine of a configuration, by the words CONFIG ROUNDS. Prints the nanoseconds that they
+/// took, and the number of datagrams of the output.
 pub fn time_rounds(rt: &HostRuntime, words: &mut Args) -> anyhow::Result<()> {
     let Some(path) = words.next() else {
         bail!("rounds: CONFIG ROUNDS");
@@ -35,7 +35,7 @@ fn timed_at(rt: &HostRuntime, path: &str, rounds: u32) -> anyhow::Result<(u128, 
 }
 
 /// Makes rounds of calls to an engine, as `timed_at` does.
-// The engine is lent: one that is held is followed through each `?`, which took two minutes to prove.
+// The engine is borrowed: an engine that is held is followed through each `?`, which took two minutes to prove.
 fn timed(rt: &HostRuntime, engine: &mut Engine, rounds: u32) -> anyhow::Result<(u128, u64)> {
     let start = Instant::now(rt)?;
     let given = make_rounds(engine, rounds)?;
@@ -78,7 +78,7 @@ fn pass_to_all(engine: &mut Engine, octets: &[u8]) -> anyhow::Result<()> {
     Ok(())
 }
 
-/// Turns an engine to a clock reading, and returns the number of datagrams that it gave.
+/// Turns an engine to a clock reading, and returns the number of datagrams that it returned.
 fn turn_to(engine: &mut Engine, now: i64) -> anyhow::Result<u64> {
     let mut out = [0; MAX_OCTETS];
     let mut given = 0u64;
