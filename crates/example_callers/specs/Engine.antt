@@ -8,13 +8,13 @@ use Rattle.studio_engine.specs.Engine.{EngineState}
 use Rattle.studio_engine.specs.Session.{HasSession}
 use Rattle.studio_io.specs.Sinks.{Hands}
 
--- after these datagrams the engine gave more of its events, and the sink was handed exactly those
+-- after these datagrams the engine returned more, and exactly those were passed to the sink
 pub record HasSent (studio : Studio) (engine : EngineState) (events : List TraceEvent) (datagrams : List (List ℕ)) (before after : Option (List (List ℕ))) : Type 0 where
   pub more : List (List ℕ)
   pub stands : HasSession studio engine events (datagrams ++ more)
   pub handed : Hands before more after
 
--- and no other block is ready
+-- the engine's datagrams were passed to the sink until no further block was ready
 pub record HasSentReady (studio : Studio) (engine : EngineState) (events : List TraceEvent) (datagrams : List (List ℕ)) (before after : Option (List (List ℕ))) : Type 0 where
   pub sent : HasSent studio engine events datagrams before after
   pub none : is_ready studio.output (feeds_of studio events) (length (datagrams ++ sent.more)) ≡ false

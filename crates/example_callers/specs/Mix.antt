@@ -8,11 +8,11 @@ use Rattle.mix_packets.specs.Block.{block_start}
 use Rattle.studio_config.specs.Studio.{Studio}
 use Rattle.studio_mix.specs.Feed.{Feed}
 
--- a stream, and these marks after those that it gave
+-- a stream's feed with these marks added
 abbrev pub feed_with : Feed → List MarkView → Feed
 feed_with feed marks = record { stream = feed.stream; marks = feed.marks ++ marks }
 
--- two streams, and these marks after those that each gave
+-- the feeds of two streams, each with these marks added
 abbrev pub feeds_with : Feed → List MarkView → Feed → List MarkView → List Feed
 feeds_with a first b second = feed_with a first ∷ feed_with b second ∷ []
 
@@ -20,7 +20,7 @@ feeds_with a first b second = feed_with a first ∷ feed_with b second ∷ []
 abbrev pub is_final : Studio → ℕ → Feed → Bool
 is_final studio number feed = covers (cover_of (format_of feed.stream) feed.marks) (block_start studio.output (number + 1))
 
--- so many of these marks were taken: each while the block wanted more, up to one that may not follow
+-- the first `count` of these marks were taken: each while the block needed more, up to a mark that may not follow
 pub record IsTaken (studio : Studio) (number : ℕ) (feed : Feed) (marks : List MarkView) (count : ℕ) : Type 0 where
   pub wanted : (fewer : ℕ) → fewer < count → is_final studio number (feed_with feed (take fewer marks)) ≡ false
   pub stopped : count < length marks → (is_final studio number (feed_with feed (take count marks)) ≡ true)

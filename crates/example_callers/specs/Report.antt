@@ -15,7 +15,7 @@ pub record IsReportOf (studio : Studio) (trace text : List ℕ) : Type 0 where
   pub runs : session_fault_of studio events ≡ None
   pub report : IsReport studio events text
 
--- what a fault says of a trace: it is that of the trace, or of one of its events
+-- the meaning of a fault: it is that of the trace, or of one of its events
 abbrev pub IsFaultOf : Studio → List ℕ → PlayFault → Type 0
 IsFaultOf studio trace Read = Unit {0}
 IsFaultOf studio trace Memory = Unit {0}

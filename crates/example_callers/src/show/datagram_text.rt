@@ -27,7 +27,7 @@ impl<'a> fmt::Display for DatagramText<'a> {
     }
 }
 
-/// Writes a sample that comes so many times in a row.
+/// Writes a sample that comes this many times in a row.
 fn write_run<W: fmt::Write>(f: &mut fmt::Formatter<W>, sample: &[u8], times: u32) -> fmt::Result {
     match times {
         0 => return Ok(()),
