@@ -8,9 +8,9 @@
 //! 3. `write_audio`, in another thread, writes the samples to the file as they come, in order, from the
 //!    first block on. Each second of audio it renews the sizes in the header, so that a file that a
 //!    power failure cuts plays to its last second.
-//! 4. With `AudioParts` the audio goes to one file after another, of so many whole blocks each. Each has a
-//!    `bext` chunk with the time of its first sample, and no block is left out or written twice between
-//!    two of them.
+//! 4. With `AudioParts` the audio goes to one file after another, each with the same number of whole
+//!    blocks. Each has a `bext` chunk with the time of its first sample, and no block is left out or
+//!    written twice between two of them.
 //! 5. The last file ends with a whole block, whatever ended it. `AudioResult::state` returns the state of
 //!    the audio to other threads.
 //!

@@ -64,7 +64,7 @@ pub(crate) fn plan_of(output: &OutSpec, parts: Option<AudioParts>) -> PartPlan
     }
 }
 
-/// Returns the number of whole blocks in so many sampling instants, and at least 1.
+/// Returns the number of whole blocks in this many sampling instants, and at least 1.
 fn blocks_for(output: &OutSpec, instants: u64) -> u64
     ensures value { result ≡ blocks_for output.now instants }
     ensures some { 0 < result }

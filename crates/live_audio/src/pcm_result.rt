@@ -8,9 +8,9 @@ use wav_file::PcmEnd;
 pub enum PcmState {
     /// The run has no raw PCM.
     None,
-    /// It goes on. So many blocks were written, and so many left out.
+    /// It goes on. This many blocks were written, and this many left out.
     Writing(u64, u64),
-    /// It ended before the run, for this reason. So many blocks were written before.
+    /// It ended before the run, for this reason. This many blocks were written before.
     Ended(u64, PcmEnd),
 }
 

@@ -152,7 +152,7 @@ impl<'a> PcmWriter<'a> {
         Ok(blocks)
     }
 
-    /// Moves so many blocks, which are known to be in the ring, to the output, by way of a chunk of their length.
+    /// Moves this many blocks, which are known to be in the ring, to the output, by way of a chunk of their length.
     fn move_blocks<R: Wait, D: PcmOutput>(
         &mut self,
         rt: &R,

@@ -8,9 +8,9 @@ use wav_file::WavEnd;
 pub enum AudioState {
     /// The run has no WAV file.
     None,
-    /// The file goes on. It holds so many blocks.
+    /// The file goes on. It holds this many blocks.
     Writing(u64),
-    /// The file ended before the run, for this reason. It holds so many blocks.
+    /// The file ended before the run, for this reason. It holds this many blocks.
     Ended(u64, WavEnd),
 }
 

@@ -195,7 +195,7 @@ impl<'a> AudioWriter<'a> {
         }
     }
 
-    /// Writes so many blocks, which are known to be in the ring and to have room in the file, and renews the sizes if
+    /// Writes this many blocks, which are known to be in the ring and to have room in the file, and renews the sizes if
     /// they are due. Returns an error if a write fails.
     fn write_chunk<D: LiveWavFile>(
         &mut self,
@@ -227,7 +227,7 @@ impl<'a> AudioWriter<'a> {
         blocks_in(self.ring.slots().min(CHUNK_OCTETS), self.block_len)
     }
 
-    /// Moves so many blocks, which are known to be in the ring, to the file, by way of a chunk of their length.
+    /// Moves this many blocks, which are known to be in the ring, to the file, by way of a chunk of their length.
     fn move_blocks<D: LiveWavFile>(
         &mut self,
         parts: &mut WavParts,
@@ -353,7 +353,7 @@ pub(crate) fn format_of(output: &OutSpec) -> WavFormat
     }
 }
 
-/// Returns the number of whole blocks of this length in so many octets, or 0 if the length is 0.
+/// Returns the number of whole blocks of this length in this many octets, or 0 if the length is 0.
 pub(crate) fn blocks_in(octets: usize, block_len: usize) -> usize
     ensures fits { result * block_len ≤ octets }
     ensures none { result ≡ 0 → 0 < block_len → octets < block_len }
