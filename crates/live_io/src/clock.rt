@@ -87,7 +87,7 @@ impl<R: time::Clock> Clock for SystemClock<'_, R> {
 
 /// A clock by which a thread can rest.
 pub trait RestClock: Clock {
-    /// Rests for so many sampling instants at 48 kHz. The system may make the rest longer.
+    /// Rests for this many sampling instants at 48 kHz. The system may make the rest longer.
     fn rest(&mut self, instants: u32);
 }
 
@@ -112,7 +112,7 @@ pub struct RunPeriod {
 
 impl RunPeriod {
     /// Returns the period of a run of this studio, in which the system's monotonic clock read `began` at the studio's
-    /// opening time. The feeds end so many sampling instants at 48 kHz after it. If `instants` is `None`, the clock
+    /// opening time. The feeds end this many sampling instants at 48 kHz after it. If `instants` is `None`, the clock
     /// does not end them.
     pub fn new(studio: &StudioSpec, began: Option<Duration>, instants: Option<i64>) -> RunPeriod {
         let open_at = studio.open_at();

@@ -60,9 +60,9 @@ impl<'a> RecordChannel<'a> {
 pub enum RecordState {
     /// The run has no record.
     None,
-    /// The record goes on. The file holds so many datagrams.
+    /// The record goes on. The file holds this many datagrams.
     Writing(u64),
-    /// The record ended before its run, for this reason. The file holds so many datagrams.
+    /// The record ended before its run, for this reason. The file holds this many datagrams.
     Ended(u64, RecordEnd),
 }
 

@@ -8,7 +8,7 @@ const CLOCK_TAI: i32 = 11;
 
 /// The greatest difference in microseconds between two readings of the monotonic clock, one before and one after that
 /// of the other clock.
-// So a run opens at most so much late or early, also if the thread was preempted between two readings.
+// So a run opens at most this much late or early, also if the thread was preempted between two readings.
 const MOST_APART_MICROS: u64 = 100;
 
 /// The greatest number of tries to read both clocks so soon one after the other.
@@ -18,7 +18,7 @@ const MAX_TRIES: u32 = 100;
 /// The offset of TAI from the system's time of day.
 #[derive(Clone, Copy, Debug, PartialEq, Eq)]
 pub enum TaiOffset {
-    /// TAI is so many seconds ahead.
+    /// TAI is this many seconds ahead.
     Seconds(u32),
     /// The system's clock of TAI has the offset.
     System,

@@ -91,7 +91,7 @@ impl BlockProducer {
         self.put(len)
     }
 
-    /// Puts the block that says that the studio was closed so many nanoseconds after its opening.
+    /// Puts the block that says that the studio was closed this many nanoseconds after its opening.
     pub(crate) fn put_closing(&mut self, nanoseconds: u64)
         ensures puts { Puts self.old (closing_block nanoseconds) self.new }
         ensures ended { StaysEnded self.old self.new }

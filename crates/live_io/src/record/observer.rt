@@ -299,7 +299,7 @@ fn put_paths(end: &mut BlockProducer, number: u16, stream: &StreamSpec)
     put_rows(end, number, stream.paths(), description.as_slice());
 }
 
-/// Puts the descriptions of a stream's first so many paths.
+/// Puts the descriptions of the first `count` paths of a stream.
 fn put_rows(end: &mut BlockProducer, stream: u16, count: u8, description: &[u8])
     requires few { count < 5 }
     requires short { length description.now ≤ 64 }

@@ -62,8 +62,8 @@ pub struct RecordWriter<'a> {
 }
 
 impl<'a> RecordWriter<'a> {
-    /// Returns the writer from a ring to an empty file, of the record of a run with so many paths. Returns `AllocError`
-    /// if an allocation fails.
+    /// Returns the writer from a ring to an empty file, of the record of a run with this many paths. Returns
+    /// `AllocError` if an allocation fails.
     pub(crate) fn new(
         alloc: Global,
         ring: Consumer<u8>,
@@ -134,7 +134,7 @@ impl<'a> RecordWriter<'a> {
     }
 }
 
-/// Writes whole blocks, of a record of so many paths, to the end of a file of `len` octets. If a write fails, it cuts
+/// Writes whole blocks, of a record of this many paths, to the end of a file of `len` octets. If a write fails, it cuts
 /// the file behind the last whole block that was written.
 fn append_blocks<D: RecordFile>(
     file: &mut D,
@@ -158,7 +158,7 @@ fn append_blocks<D: RecordFile>(
     Err(FailedWrite { kept, is_cut })
 }
 
-/// Returns the length of a file to which so many octets are added, if 64 bits hold it.
+/// Returns the length of a file to which this many octets are added, if 64 bits hold it.
 fn end_of(len: u64, more: usize) -> Option<u64>
     ensures sum { IfSome result (λ end. end ≡ len + more) }
     ensures small { IfSome result (λ end. end < 2 ^ 64) }

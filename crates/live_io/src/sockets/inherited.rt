@@ -90,7 +90,7 @@ impl InheritedSockets {
         let mut inherited = InheritedSockets::none();
         let mut descriptor = FIRST_FD;
         for _ in 0..count {
-            // The name that sd_listen_fds_with_names(3) gives to a descriptor without one; here it is refused.
+            // The name that sd_listen_fds_with_names(3) uses for a descriptor without one; here it is refused.
             let name = names.next().unwrap_or("unknown");
             if !inherited.assign(name, streams, descriptor) {
                 return Err(fault_of(alloc, name));

@@ -53,7 +53,7 @@ fn rest_before_reading(spec: &StreamSpec) -> u32
 /// The wait that follows once a socket is empty.
 #[derive(Clone, Copy, PartialEq, Eq, Debug)]
 pub enum ReceiveWait {
-    /// A rest of so many sampling instants, since packets flow.
+    /// A rest of this many sampling instants, since packets flow.
     Rest(u32),
     /// A wait that ends with a datagram, since none came for 20 ms.
     Datagram,

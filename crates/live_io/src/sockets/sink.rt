@@ -22,7 +22,7 @@ struct Sender {
 
 impl Sender {
     /// Returns a sender to an address and port, by the inherited socket, or else by a new one at an address and a port
-    /// of the system's choice. Each of the two addresses is 127.0.0.1 if it is not given.
+    /// of the system's choice. Each of the two addresses is 127.0.0.1 if it is not configured.
     fn bind<R: Net>(
         rt: &R,
         inherited: Option<i32>,
