@@ -9,7 +9,7 @@ pub const STDERR: i32 = 2;
 /// Returns true if a read (`POLLIN`), or a write of at most 4,096 octets (`POLLOUT`), would return at once, also if it
 /// would fail. It does not wait.
 pub fn is_ready(descriptor: i32, event: i16) -> bool {
-    // 4,096 octets are PIPE_BUF: a pipe counts as ready to be written once so many fit.
+    // 4,096 octets are PIPE_BUF: a pipe counts as ready to be written once this many fit.
     let mut asked = [libc::types::pollfd {
         fd: descriptor,
         events: event,

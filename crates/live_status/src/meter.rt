@@ -22,7 +22,7 @@ pub struct Meter {
 }
 
 impl Meter {
-    /// Returns the meter of a mix in this encoding with so many channels. Channels past the eighth are ignored.
+    /// Returns the meter of a mix in this encoding with this many channels. Channels past the eighth are ignored.
     pub fn new(enc: Enc, channels: u8) -> Meter
         ensures { result.channels ≡ min channels 8 }
     {

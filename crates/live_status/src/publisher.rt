@@ -60,7 +60,7 @@ impl<E: Write + Drop> StatusPublisher<E> {
     ghost use Rattle.rtp_stats.specs.Channel.{Gives};
     ghost use Rattle.live_status.specs.Publisher.{IsBlankSnapshot, Shows, is_due_at};
 
-    /// Returns the publisher of the status of these streams and so many output channels; channels past the eighth are
+    /// Returns the publisher of the status of these streams and this many output channels; channels past the eighth are
     /// ignored. `now` is in sampling instants. Allocates all its memory, and returns `AllocError` if that fails.
     pub(crate) fn new(
         alloc: Global,
@@ -173,7 +173,7 @@ fn add_streams(snapshot: &mut Snapshot, statuses: &[StreamStatus])
     }
 }
 
-/// Adds so many output channels to a snapshot that has none.
+/// Adds this many output channels to a snapshot that has none.
 fn add_outputs(snapshot: &mut Snapshot, channels: usize)
     requires none { snapshot.old.outputs.items ≡ [] }
     requires few { channels ≤ 8 }

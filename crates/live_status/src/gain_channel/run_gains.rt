@@ -22,7 +22,7 @@ pub struct RunGains<'a, R> {
     link: &'a GainLink,
     pub(crate) requests: Consumer<RequestLetter, Global, Numbered>,
     pub(crate) answers: Producer<OutcomeLetter, Global, Numbered>,
-    /// The request that the run is to answer, if there is one.
+    /// The request that the run has to answer, if there is one.
     pub(crate) taken: Option<RequestLetter>,
     /// The times of the changes that are still to come, in memory for 64.
     pub(crate) planned: Vec<i64>,
