@@ -1,4 +1,4 @@
-//! Requests and their answers, and both texts of a snapshot.
+//! Requests and their responses, and both texts of a snapshot.
 mod client;
 mod controls;
 mod desk;

@@ -33,7 +33,7 @@ fn is_served<S: Service>(
     serve(&mut connection, service, &mut unread, sent).is_ok()
 }
 
-/// Tests that a text has at most so many octets, and that nothing in it comes from elsewhere.
+/// Tests that a text has at most this many octets, and that nothing in it comes from elsewhere.
 // The text is an argument: a constant would be followed octet by octet through each step.
 pub(super) fn stands_alone(rt: &impl Abort, text: &str, most: usize) {
     assert!(rt; text.len() <= most);

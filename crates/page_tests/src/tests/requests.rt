@@ -101,7 +101,7 @@ fn is_answered(
     assert!(rt; sent.as_slice() == answer.as_bytes(), "{request}");
 }
 
-/// Returns the octets that are sent to a client that requests the state and then the page, up to the page's length.
+/// The octets that are sent to a client that requests the state and then the page, up to the page's length.
 const KEPT: [&str; 3] = [
     "HTTP/1.1 200 OK\r\ncontent-type: application/json\r\ncache-control: no-store\r\n\
     x-content-type-options: nosniff\r\ncontent-length: 1134\r\n\r\n",

@@ -8,7 +8,7 @@ use std::net::{Net, SocketAddr, TcpStream};
 use std::process::Abort;
 use std::time::Duration;
 
-/// A request, and its answer.
+/// A request, and the response to it.
 const REQUEST: &[u8] = b"GET /nothing HTTP/1.1\r\nHost: localhost\r\n\r\n";
 
 const ANSWER: &[u8] = b"HTTP/1.1 404 Not Found\r\ncache-control: no-store\r\n\
@@ -51,7 +51,7 @@ fn fates_of(clients: &mut [TcpStream]) -> (u32, u32) {
     (answered, let_go)
 }
 
-/// Returns so many clients of a server at this address, each of which sends a request.
+/// Returns this many clients of a server at this address, each of which sends a request.
 fn clients_of(
     rt: &(impl Abort + Net<Stream = TcpStream>),
     alloc: Global,
