@@ -22,7 +22,7 @@ use rtp_stream::{
 };
 
 /// The greatest number of arrivals that are counted, 2^62.
-// An arrival after so many changes nothing, so that counts never wrap.
+// An arrival after this many changes nothing, so that counts never wrap.
 const MAX_ARRIVALS: u64 = 4_611_686_018_427_387_904;
 
 /// Returns true if the clock follows its sender, so that each arrival is judged by its path's track.
@@ -119,7 +119,7 @@ impl<V: Window> Merge<V> {
             → IsRestartStep self.old.spec self.old self.new anchor path (packet_of packet.now) result }
     {
         if follows_sender(self.spec.clock()) {
-            // A copy, for the reason given in `offer_ref`.
+            // A copy, for the reason that `offer_ref` has.
             let judged = *packet;
             return self.offer_judged(anchor, path, &judged);
         }
