@@ -57,7 +57,7 @@ pub enum ReaderFault {
     /// The first fault of the capture.
     #[error("capture {0}")]
     Capture(CaptureFault),
-    /// The record or block behind so many octets is longer than 983,040 octets, or begins behind 2^63.
+    /// The record or block behind this many octets is longer than 983,040 octets, or begins behind 2^63.
     #[error("capture octet {0}: it is too long")]
     TooLong(usize),
     /// An allocation failed.

@@ -35,7 +35,7 @@ pub trait RecordFile: Write {
     fn cut(&mut self, len: u64) -> io::Result<()>
         ensures octets { OnOk result (IsCut (Self.contents self.old) (Self.contents self.new) len) };
 
-    /// Reports that the record ends before its run, behind so many datagrams. Called once at most, at that moment.
+    /// Reports that the record ends before its run, behind this many datagrams. Called once at most, at that moment.
     fn report(&mut self, end: RecordEnd, datagrams: u64)
         ensures { Self.contents self.new ≡ Self.contents self.old };
 }

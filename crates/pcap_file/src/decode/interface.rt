@@ -46,7 +46,7 @@ pub(crate) fn read_interface(order: Endian, block: &[u8]) -> Result<Interface, C
     })
 }
 
-/// Returns the resolution that options give, or 6, for microseconds, if they give none.
+/// Returns the resolution in options, or 6, for microseconds, if they have none.
 #[tactic(auto, unfolding(crate::specs::Interface::resolution_of))]
 fn read_resolution(order: Endian, options: &[u8]) -> Result<u8, CaptureFaultKind>
     ensures { result ≡ spec.resolution_of order options.now }
@@ -58,7 +58,7 @@ fn read_resolution(order: Endian, options: &[u8]) -> Result<u8, CaptureFaultKind
     }
 }
 
-/// Returns the offset that options give, or 0 if they give none.
+/// Returns the offset in options, or 0 if they have none.
 #[tactic(auto, unfolding(crate::specs::Interface::offset_of))]
 fn read_offset(order: Endian, options: &[u8]) -> Result<i64, CaptureFaultKind>
     ensures { result ≡ spec.offset_of order options.now }

@@ -71,7 +71,7 @@ impl Section {
         if octets.len() < EMPTY_BLOCK {
             return Err(CaptureFaultKind::Truncated);
         }
-        // The order comes before the length, which a section header gives in its own order.
+        // The order comes before the length, which a section header has in its own order.
         self.order = read_order(self.order, octets)?;
         let len = read_length(self.order, octets)?;
         let packet = self.read_content(&octets[..len])?;
@@ -225,7 +225,7 @@ fn read_order(order: Endian, octets: &[u8]) -> Result<Endian, CaptureFaultKind>
     }
 }
 
-/// Returns the length of a block in octets, which it gives at its start and at its end.
+/// Returns the length of a block in octets, which is at its start and at its end.
 #[tactic(auto, unfolding(crate::specs::Section::length_of))]
 fn read_length(order: Endian, octets: &[u8]) -> Result<usize, CaptureFaultKind>
     requires { 12 ≤ length octets.now }

@@ -52,7 +52,7 @@ pub(crate) fn text_at(order: Endian, code: u16, options: &[u8]) -> &[u8]
     }
 }
 
-/// Returns the time of the opening that a comment gives, if it gives one.
+/// Returns the time of the opening in a comment, if the comment has it.
 fn opening_in(comment: &[u8]) -> Option<u64>
     ensures { result ≡ spec.opening_in comment.now }
 {

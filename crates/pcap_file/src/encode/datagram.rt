@@ -5,7 +5,7 @@ ghost use Rattle.pcap_file.specs.Times.{nanoseconds_in_64};
 use std::net::Ipv4Addr;
 
 /// The greatest length of a datagram in a record, in octets.
-// A live run receives no more: its buffer for a datagram has so many.
+// A live run receives no more: its buffer for a datagram has this length.
 pub const MAX_DATAGRAM_LEN: usize = 2_048;
 
 /// A received datagram with its time, addresses and ports. Its octets are borrowed.
@@ -27,7 +27,7 @@ pub struct RecordedDatagram<'a> {
     pub octets: &'a [u8],
 }
 
-/// Returns the first nanosecond that isn't before so many sampling instants at 48 kHz, if it fits 64 bits.
+/// Returns the first nanosecond that isn't before this many sampling instants at 48 kHz, if it fits 64 bits.
 pub fn nanoseconds_after(instants: u64) -> Option<u64>
     ensures { result ≡ nanoseconds_in_64 instants }
 {

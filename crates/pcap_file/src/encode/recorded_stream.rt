@@ -43,7 +43,7 @@ impl RecordedStream {
         text
     }
 
-    /// Returns the configuration that a description gives, if `description` returns this text for one.
+    /// Returns the configuration in a description, if `description` returns this text for it.
     pub fn of(description: &[u8]) -> Option<RecordedStream>
         ensures { IfSome result (λ stream. description.now ≡ description_of stream) }
     {
