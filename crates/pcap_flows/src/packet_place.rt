@@ -12,7 +12,7 @@ use std::io::Read;
 /// Returns the number of octets before the record or block of a UDP packet, by the packet's number from 0; none if the
 /// capture ends before it. Returns an error if an allocation or a read fails, and the capture's fault if that is before
 /// the packet.
-// A `FlowTable` is given packets without their places, which only the rare fault of one of them needs.
+// A `FlowTable` receives packets without their places, which only the rare fault of a packet needs.
 pub fn place_of_packet<R: Read>(
     alloc: Global,
     reader: &mut R,

@@ -2,7 +2,7 @@
 ghost use Rattle.std.specs.Prelude.{◌≡◌};
 ghost use Rattle.pcap_flows.specs.Clock.{clock_begun, clock_with};
 
-/// A clock of sampling instants at 48 kHz since the first time that it was given. It never goes back.
+/// A clock of sampling instants at 48 kHz since the first time that it read. It never goes back.
 #[derive(Clone, Copy)]
 pub struct CaptureClock {
     /// The first time, in nanoseconds since 1970.
@@ -12,7 +12,7 @@ pub struct CaptureClock {
 }
 
 impl CaptureClock {
-    /// Returns a clock at 0 that was given no time yet.
+    /// Returns a clock at 0 that has read no time yet.
     pub fn new() -> CaptureClock
         ensures { result ≡ clock_begun }
     {

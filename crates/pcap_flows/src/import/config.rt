@@ -113,7 +113,7 @@ fn input_total(streams: &[Stream]) -> usize {
     inputs
 }
 
-/// Appends the table of the output, with the first of so many inputs as its channels.
+/// Appends the table of the output. Its channels are the first of this many inputs.
 fn push_output(
     text: &mut String,
     alloc: Global,
@@ -132,8 +132,8 @@ fn push_output(
     text.push_str("]\n")
 }
 
-/// Returns the first stream's sampling instants per packet, or 48 if so many don't fit a packet of an output with so
-/// many channels.
+/// Returns the first stream's sampling instants per packet, or 48 if that many don't fit a packet of an output with
+/// this many channels.
 fn frames_for(streams: &[Stream], channels: usize) -> u16 {
     match streams.first() {
         Some(stream)

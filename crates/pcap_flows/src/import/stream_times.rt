@@ -49,7 +49,7 @@ impl StreamTimes {
         self.note(late, reading);
     }
 
-    /// Adds a packet that came so much later than its timestamp says.
+    /// Adds a packet that came this much later than its timestamp says.
     fn note(&mut self, late: i64, reading: u64)
         ensures { self.new ≡ spec.times_with self.old late reading }
     {
