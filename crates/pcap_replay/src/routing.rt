@@ -164,7 +164,7 @@ fn role_at(changes: RecordedChanges, streams: &[StreamSpec], place: u32) -> Pack
     role_behind(changes, streams.len(), left)
 }
 
-/// Returns what a packet is that is so many places behind all paths, of which so many streams have some.
+/// Returns the role of a packet that is `left` places behind all paths, if `streams` streams have paths.
 #[tactic(auto, unfolding(crate::specs::Routing::role_at))]
 fn role_behind(changes: RecordedChanges, streams: usize, left: u32) -> PacketRole
     ensures { result ≡ spec.role_at changes streams [] left }
