@@ -9,7 +9,7 @@ use studio_session::Cursor;
 /// The distance of lines.
 const LINE_STEP: u32 = 13;
 
-/// Returns the height of the counts of a stream with so many paths.
+/// Returns the height of the counts of a stream with this many paths.
 pub(crate) fn counts_height(paths: u8) -> u32 {
     u32::from(paths)
         .saturating_add(1)

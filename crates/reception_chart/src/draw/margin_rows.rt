@@ -18,7 +18,7 @@ const PATHS: [(&str, &str); 4] = [
     ("from_d", "d, spare"),
 ];
 
-/// Returns the height of the rows of a stream with so many paths, with their scale.
+/// Returns the height of the rows of a stream with this many paths, with their scale.
 pub(crate) fn margins_height(paths: u8) -> u32 {
     u32::from(paths)
         .saturating_mul(MARGIN_STEP)

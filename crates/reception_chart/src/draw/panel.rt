@@ -17,7 +17,7 @@ const NAME_HEIGHT: u32 = 24;
 /// The gap between panels.
 const GAP: u32 = 24;
 
-/// Returns the height of the panel of a stream with so many paths.
+/// Returns the height of the panel of a stream with this many paths.
 pub(crate) fn panel_height(paths: u8) -> u32 {
     (NAME_HEIGHT + TICKS_HEIGHT + GAP)
         .saturating_add(strip_height(paths))

@@ -19,7 +19,7 @@ const PATHS: [(&str, &str); 4] = [
     ("from_d", "from d"),
 ];
 
-/// Returns the height of the strip of a stream with so many paths: a row for each, and five more.
+/// Returns the height of the strip of a stream with this many paths: a row for each, and five more.
 pub(crate) fn strip_height(paths: u8) -> u32 {
     u32::from(paths).saturating_add(5).saturating_mul(ROW_STEP)
 }
@@ -107,7 +107,7 @@ fn heights_of(alloc: Global, paths: u8, bins: &Bins, row: usize) -> Result<Vec<u
     Ok(heights)
 }
 
-/// Returns the height of the bar for a row's count in an interval with so many packets.
+/// Returns the height of the bar for a row's count in an interval with this many packets.
 fn height_in(count: u64, packets: u64, paths: u8, row: usize) -> u8 {
     // Each packet can have a duplicate from every path but one.
     let copies = u64::from(paths).saturating_sub(1).max(1);

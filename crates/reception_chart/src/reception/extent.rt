@@ -14,7 +14,7 @@ pub struct Extent {
 }
 
 impl Extent {
-    /// Returns the extent before the first event of a stream with packets of so many sampling instants.
+    /// Returns the extent before the first event of a stream with packets of this many sampling instants.
     pub(crate) fn new(frames: u16) -> Extent {
         Extent {
             frames,
