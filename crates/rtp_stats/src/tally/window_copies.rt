@@ -121,7 +121,7 @@ pub(crate) fn note_copy(
         ≡ (if is_taken_fate fate && misses (slice_index_or entries.old (seq % length entries.old) d) on
         then count_in_64_bits (slice_index missed.old on + 1) else slice_index missed.old on) }
 {
-    // The window divides 65,536, so the low 16 bits of a number give its place.
+    // The window divides 65,536, so the place of a number follows from its low 16 bits.
     let at = usize::from(seq) % entries.len();
     let entry = entries[at];
     if is_taken(fate) {
