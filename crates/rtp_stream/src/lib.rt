@@ -7,7 +7,7 @@
 //!    datagram.
 //! 3. `receive_ref` does step 2 from the octets of the datagram. `PathCounts` counts what it returns.
 //! 4. `CountField` has the name, the description and the value of each number of `Counts`. Its lists
-//!    give the order in which reports and pages show them.
+//!    are in the order in which reports and pages show them.
 //!
 //! The rules of reception are definitions in `specs/`, over whole lists of `Event`s and unbounded
 //! numbers: anchors and epochs (`Epochs`), the copies of each number (`Copies`), the fate of an
