@@ -230,7 +230,7 @@ fn has_rows(shape: GainShape, rows: &[Value]) -> bool
     rows.len() == shape.outs() && are_rows(shape.ins(), rows)
 }
 
-/// Returns true if each of these rows has so many values.
+/// Returns true if each of these rows has this many values.
 fn are_rows(ins: usize, rows: &[Value]) -> bool
     ensures { result ≡ are_rows ins (map value_view rows.now) }
 {

@@ -272,7 +272,7 @@ fn write_gains(writer: &mut Writer, shape: GainShape, gains: &[i32]) -> Result<(
     writer.end_array()
 }
 
-/// Writes so many rows of gains.
+/// Writes this many rows of gains.
 fn write_rows(writer: &mut Writer, ins: usize, outs: usize, gains: &[i32]) -> Result<(), AllocError>
     ensures tokens { OnOk result (writer.new.tokens ≡ writer.old.tokens ++ rows_tokens (rows_of ins outs gains.now)) }
     ensures before { OnOk result (writer.new.before ≡ writer.old.before) }

@@ -55,7 +55,7 @@ impl Token {
 }
 
 /// Returns true if the octets of two lists are the same.
-// It compares all octets, wherever the first difference is. So the time of a response does not tell how many of the
+// It compares all octets, wherever the first difference is. So the time of a response does not show how many of the
 // first octets of a guess are right.
 fn is_same(given: &[u8], token: &[u8]) -> bool
     ensures { result ≡ bytes_eq given.now token.now }

@@ -46,7 +46,7 @@ pub fn new_control_connection(alloc: Global, keys: RandomState) -> Connection
     Connection::new(alloc, keys, config(MAX_CONTROL_OCTETS))
 }
 
-/// Returns the limits of a connection that takes bodies of up to so many octets.
+/// Returns the limits of a connection that takes bodies of up to this many octets.
 fn config(max_body_len: usize) -> Config
     ensures { IsGuardedUpTo max_body_len result }
 {
