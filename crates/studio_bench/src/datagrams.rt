@@ -23,8 +23,8 @@ pub(crate) fn number(words: &mut Args) -> Option<u32> {
     words.next()?.parse::<u32>().ok()
 }
 
-/// Returns a stream of L24 whose payloads have so many octets, with a window of `width` packets and the longest latency
-/// that it spans. None for other lengths than 18, 144, 288 and 1,152, or if the window is not allowed.
+/// Returns a stream of L24 whose payloads have this many octets, with a window of `width` packets and the longest
+/// latency that it spans. None for other lengths than 18, 144, 288 and 1,152, or if the window is not allowed.
 pub(crate) fn stream(octets: u32, width: u32) -> Option<StreamSpec> {
     let (channels, frames) = match octets {
         18 => (1, 6),
