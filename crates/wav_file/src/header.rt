@@ -84,7 +84,7 @@ fn is_long(more: u64, count: u64) -> bool
     riff_size(more, count) >= 4_294_967_296
 }
 
-/// Returns the number of sampling instants in so many octets.
+/// Returns the number of sampling instants in this many octets.
 fn frames_in(format: WavFormat, count: u64) -> u64
     ensures { result ≡ count / frame_length format }
 {

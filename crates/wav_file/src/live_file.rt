@@ -50,7 +50,7 @@ pub trait LiveWavFile: Write {
     fn cut(&mut self, len: u64) -> io::Result<()>
         ensures octets { OnOk result (IsCut (Self.contents self.old) (Self.contents self.new) len) };
 
-    /// Reports that the file ends before its run, behind so many blocks. Called once at most, when the file is
+    /// Reports that the file ends before its run, behind this many blocks. Called once at most, when the file is
     /// finished.
     fn report(&mut self, end: WavEnd, blocks: u64)
         ensures { Self.contents self.new ≡ Self.contents self.old };

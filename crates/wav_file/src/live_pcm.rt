@@ -40,11 +40,11 @@ pub enum PcmRoom {
 /// The output of a live run's raw PCM. Its `write` is called only while it is `Ready`, and then does not block: it may
 /// write only a part of the octets.
 pub trait PcmOutput: Write {
-    /// Returns what the output is ready for. If it is full, waits until it is not, for so many milliseconds at most.
+    /// Returns what the output is ready for. If it is full, waits until it is not, for this many milliseconds at most.
     fn room(&mut self, milliseconds: u32) -> PcmRoom
         ensures { Self.contents self.new ≡ Self.contents self.old };
 
-    /// Reports that the output ends before its run, behind so many whole blocks. Called once at most.
+    /// Reports that the output ends before its run, behind this many whole blocks. Called once at most.
     fn report(&mut self, end: PcmEnd, blocks: u64)
         ensures { Self.contents self.new ≡ Self.contents self.old };
 }

@@ -80,7 +80,7 @@ impl WavWriter {
         Ok(())
     }
 
-    /// Writes so many sampling instants of silence. Returns an error as `push` does.
+    /// Writes this many sampling instants of silence. Returns an error as `push` does.
     pub fn push_silence<W: Write>(&mut self, writer: &mut W, instants: u64) -> Result<(), WavFault>
         ensures ok { OnOk result
             (Appends (W.contents writer.old) (W.contents writer.new) (silent_octets self.old.format instants)) }
