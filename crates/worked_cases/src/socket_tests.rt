@@ -84,7 +84,7 @@ impl RestClock for TestClock {
 /// A socket under test, with a flag that says when it is to be read.
 type Retrying<'a> = RetryingSocket<'a, TestSocket, TestClock>;
 
-/// Lets so many sampling instants pass.
+/// Lets this many sampling instants pass.
 fn wait(retrying: &mut Retrying<'_>, instants: i64) {
     retrying.clock.now = retrying.clock.now.saturating_add(instants);
 }
@@ -198,7 +198,7 @@ fn a_datagram_ends_the_back_off(rt: HostRuntime) {
     }
 }
 
-/// A socket that has so many datagrams, and is then empty.
+/// A socket that has this many datagrams, and is then empty.
 #[derive(Drop)]
 struct QueueSocket {
     queued: u32,

@@ -22,7 +22,7 @@ pub(crate) fn record() -> [u8; 228] {
     ]
 }
 
-/// Returns a section header whose comment gives the latest opening time, 2^63 - 1.
+/// Returns a section header with the latest opening time, 2^63 - 1, in its comment.
 pub(crate) fn latest_header() -> [u8; 76] {
     [
         0x0a, 0x0d, 0x0d, 0x0a, 0x4c, 0, 0, 0, 0x4d, 0x3c, 0x2b, 0x1a, 1, 0, 0, 0, 0xff, 0xff,
