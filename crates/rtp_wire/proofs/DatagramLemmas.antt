@@ -10,7 +10,7 @@ use Rattle.std.proofs.lemmas.List.{take_rest, drop_more, drop_all, length-drop, 
 use Rattle.byteorder.specs.Endian.{big_number}
 use Rattle.rtp_wire.proofs.OctetsLemmas.{big_endian-octets_of_two, big_endian-octets_of_four, big_endian-range, octets_of-range_two, octets_of-range_four, take-range, range_at, range-range, length-range, big_endian-fits_two, big_endian-fits_four}
 
--- what the first octet announces
+-- the version, the padding flag, the extension flag and the number of sources in a first octet
 pub record Announces (n : ℕ) (p x : Bool) (k : ℕ) : Type 0 where
   pub version : n / 64 ≡ 2
   pub padded : (n / 32 % 2 == 1) ≡ p
@@ -242,7 +242,7 @@ IsDatagram-from_whole d octets w =
           );
     }
 
--- the same of equal headers and payloads
+-- equal headers and payloads make the same datagram
 pub IsDatagram-same : (d : List ℕ) (h h' : Head) (p p' : List ℕ) → h' ≡ h → p' ≡ p → IsDatagram d h p → IsDatagram d h' p'
 IsDatagram-same d h h' p p' e f at = subst (λ x. IsDatagram d x p') (sym e) (subst (λ x. IsDatagram d h x) (sym f) at)
 
@@ -292,7 +292,7 @@ good_padding true begin size len padding e part =
     grind (arith, nat_tests)
 good_padding false begin size len padding e part = refl
 
--- what a datagram's octets show at their places
+-- the header and the payload at their places in a datagram's octets
 pub record Places (d : List ℕ) (head : Head) (payload : List ℕ) : Type 0 where
   pub head_is : head_at d ≡ head
   pub payload_is : payload_at d ≡ payload

@@ -16,7 +16,7 @@ big_endian-take (suc n) (x ∷ xs) h =
     let moved : big_from 1 n (x ∷ xs) ≡ big_from 0 n xs = big_from-cons 0 n x xs in
     rw (len, rest, moved) refl
 
--- the same at a place
+-- the number of the octets between two places
 pub big_endian-range : (xs : List ℕ) (i j n : ℕ) → j ≡ i + n → j ≤ length xs → big_endian (slice_range xs i j) ≡ big_number n (drop i xs)
 big_endian-range xs i j n e h =
     let count : j - i ≡ n = omega arith in

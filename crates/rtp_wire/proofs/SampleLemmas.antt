@@ -29,7 +29,7 @@ back_24 (negsuc n) fits =
     let number = big_endian-octets_of_three (2 ^ 24 - suc n) (omega arith) in
     rw number (grind (arith, ints, nat_tests))
 
--- the same with 16 bits, on the scale of 24
+-- a sample of 16 bits is read back, and on the scale of 24 bits it is multiplied by 256
 twos_complement-back_16 : (v : ℤ) → FitsEncoding L16 v → twos_complement 16 (big_endian (sample_octets L16 v)) ≡ v
 twos_complement-back_16 (pos n) fits =
     let small : n < 2 ^ 15 = omega (arith, ints, fits.high) in
@@ -43,7 +43,7 @@ twos_complement-back_16 (negsuc n) fits =
 pub back_16 : (v : ℤ) → FitsEncoding L16 v → sample_value L16 (sample_octets L16 v) ≡ v *ℤ pos 256
 back_16 v fits = ap (λ z. z *ℤ pos 256) (twos_complement-back_16 v fits)
 
--- one more element at the end of what is written so far
+-- one more element after those that are written so far
 put_one : {X : Type 0} (front old : List X) (n : ℕ) (a : X) → length front ≡ n → n < length old
     → set (front ++ drop n old) n a ≡ (front ++ a ∷ []) ++ drop (n + 1) old
 put_one front old n a len h =
@@ -51,7 +51,7 @@ put_one front old n a len h =
     ∙ set_at front (get_or old n a) (drop (n + 1) old) a n len
     ∙ sym (append_assoc front (a ∷ []) (drop (n + 1) old))
 
--- one more place filled with what a function gives there
+-- one more place filled with a function's value there
 pub fill_more : {X : Type 0} (f : ℕ → X) (out old : List X) (i : ℕ) (x : X) → i < length old → x ≡ f i
     → out ≡ map f (range_with_len 0 i) ++ drop i old
     → set out i x ≡ map f (range_with_len 0 (i + 1)) ++ drop (i + 1) old
@@ -61,7 +61,7 @@ fill_more f out old i x h e before =
     ∙ ap (λ y. (map f (range_with_len 0 i) ++ y ∷ []) ++ drop (i + 1) old) e
     ∙ ap (λ r. r ++ drop (i + 1) old) (sym (map-range_with_len_more f 0 i i (omega arith)))
 
--- what is read at an index of a filled list
+-- the element at an index of a filled list
 filled_from : {X : Type 0} (f : ℕ → X) (rest : List X) (a n k : ℕ) → k < n → slice_get (map f (range_with_len a n) ++ rest) k ≡ Some (f (a + k))
 filled_from f rest a zero k h = absurd (omega arith)
 filled_from f rest a (suc n) zero h = let e : a + 0 ≡ a = omega arith in rw e refl
@@ -177,7 +177,7 @@ pub samples_of-at : (enc : Enc) (octets : List ℕ) (rest r : List ℤ) (count k
 samples_of-at enc octets rest r count k e same h =
     ap (λ x. slice_get x k) e ∙ filled_at (sample_at enc octets) rest (sample_count enc octets) k (omega arith)
 
--- two's complement of so many bits lies in its range
+-- a number in two's complement lies in the range of its bits
 twos_24 : (n : ℕ) → n < 2 ^ 24 → FitsEncoding L24 (twos_complement 24 n)
 twos_24 n h = elim (cases_lt n (2 ^ 23)) [
   | inl low ↦ record { low = grind (arith, ints, nat_tests); high = grind (arith, ints, nat_tests) }
