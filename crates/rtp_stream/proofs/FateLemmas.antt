@@ -45,7 +45,7 @@ shift_is number next frames counted next_high low high few is =
     let instants : to_z w64 (of_z w64 counted) ≡ pos frames = omega (arith, ints, is, few) in
     record { low = small.0; high = small.1; is = ap (λ z. z *ℤ to_z w64 (of_z w64 counted)) steps ∙ ap (λ z. (pos number -ℤ pos next) *ℤ z) instants }
 
--- the place, told by the tests
+-- the place of a packet, by the results of the tests
 pub place_is : (spec : Stream) (a : Anchor) (next : ℕ) (packet : Packet) (number : ℕ) (t g l h : Bool) → number ≡ extended_number packet next → nat_eq packet.ssrc a.source ≡ t → is_on_grid spec a number packet.ts ≡ g → nat_lt number next ≡ l → nat_lt number (next + spec.window) ≡ h → (if not t then Err WrongSource else if not g then Err OffGrid else if l then Err Late else if not h then Err Ahead else Ok number) ≡ place_of spec a next packet
 place_is spec a next packet number t g l h is et eg el eh =
     let g_is : is_on_grid spec a (extended_number packet next) packet.ts ≡ g = subst (λ n. is_on_grid spec a n packet.ts ≡ g) is eg in
@@ -53,6 +53,6 @@ place_is spec a next packet number t g l h is et eg el eh =
     let h_is : nat_lt (extended_number packet next) (next + spec.window) ≡ h = subst (λ n. nat_lt n (next + spec.window) ≡ h) is eh in
     ap {B = Result ℕ Fate} (λ n. if not t then Err WrongSource else if not g then Err OffGrid else if l then Err Late else if not h then Err Ahead else Ok n) is ∙ rw (et, g_is, l_is, h_is) refl
 
--- why a packet is no first one, told by the tests
+-- the reason why a packet may not be the first, by the results of the tests
 pub reach_fault_is : (spec : Stream) (time media : ℤ) (late ahead : Bool) → int_le media (time -ℤ pos spec.latency) ≡ late → int_le (time -ℤ pos spec.latency +ℤ pos (spec.window * spec.frames)) media ≡ ahead → (if late then Some Late else if ahead then Some Ahead else None) ≡ reach_fault_of spec time media
 reach_fault_is spec time media late ahead is_late is_ahead = rw (is_late, is_ahead) refl

@@ -23,7 +23,7 @@ stream clock = record { enc = L24; channels = 1; frames = 6; pt = 96; ssrc = Non
 abbrev packet : ℕ → Packet
 packet k = record { seq = k + 1; ts = k * 6; ssrc = 1; payload = record { items = [] } }
 
--- so many on a path, one after the other
+-- this many packets on a path, one after the other
 abbrev packets : ℕ → ℕ → ℕ → List Event
 packets path k zero = []
 packets path k (suc count) = Arrive path (packet k) ∷ packets path (suc k) count
@@ -54,7 +54,7 @@ four_late_ones_on_each_path : fate_of (stream Follow) (pos 0) (late_for_good 4 +
 unfolding anchor_of anchors_of anchors_from copies_of copies_of_all at_places standings_from
 four_late_ones_on_each_path = refl
 
--- numbers that were heard, late on another path or sent again, open none
+-- numbers that were heard, late on another path or sent again, open no epoch
 abbrev heard_again : ℕ → List Event
 heard_again path = packets 0 0 8 ++ Tick (pos 100) ∷ packets path 0 7
 

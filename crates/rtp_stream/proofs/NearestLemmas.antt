@@ -34,7 +34,7 @@ pub rem_bounds : (m : ℕ) (z : ℤ) → 0 < m → (pos 0 ≤ℤ int_rem_euclid 
 rem_bounds m (pos a) some = (omega (arith, ints), omega (arith, ints, mod-lt a some))
 rem_bounds m (negsuc a) some = (omega (arith, ints), omega (arith, ints, mod-lt a some))
 
--- a number leaves itself where it is a remainder
+-- a number that is less than the modulus is its own remainder
 pub rem_small : (m s : ℕ) → s < m → int_rem_euclid (pos s) (pos m) ≡ pos s
 rem_small m s h = ap pos (mod-eq_of_lt h)
 

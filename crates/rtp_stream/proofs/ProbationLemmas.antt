@@ -1,4 +1,4 @@
--- A count of the packets in sequence tells whether the last eight are.
+-- A count of the packets in sequence shows whether the last eight are in sequence.
 use Rattle.std.proofs.Common.{◌≡◌, ℕ, zero, suc, ◌+◌, ◌-◌, ◌%◌, ◌^◌, ◌<◌, ◌≤◌, Bool, true, false, ◌&&◌, List, [], ◌∷◌, ◌++◌, length, drop, Option, Some, None, refl, sym, ap, subst, ◌∙◌, arith, append_assoc, append-nil, if◌then◌else◌, length-append}
 use Rattle.std.specs.Prelude.{nat_eq, nat_le, nat_lt, slice_index_or, slice_set}
 use Rattle.std.proofs.lemmas.Bool.Decides.{nat_tests}
@@ -82,12 +82,12 @@ probation_from-push stream p (x ∷ heard) one = probation_from-push stream (pro
 pub probation_of-push : (stream : Stream) (heard : List (Bool × Packet)) (one : Bool × Packet) → probation_of stream (heard ++ one ∷ []) ≡ probation_after stream (probation_of stream heard) one
 probation_of-push stream heard one = probation_from-push stream no_probation heard one
 
--- what comes next follows the last
+-- the expected packet follows the last packet
 abbrev Expects : Stream → Probation → Option (Bool × Packet) → Type 0
 Expects stream p None = p.count ≡ 0
 Expects stream p (Some (off, last)) = 0 < p.count → (p.source ≡ last.ssrc) × (p.seq ≡ (last.seq + 1) % 2 ^ 16) × (p.ts ≡ (last.ts + stream.frames) % 2 ^ 32)
 
--- the count tells of the last so many, up to eight
+-- the count is that of the last packets that are in sequence, up to eight
 record IsCounted (stream : Stream) (p : Probation) (heard : List (Bool × Packet)) : Type 0 where
   few : p.count ≤ 8
   expects : Expects stream p (last_of heard)
@@ -127,7 +127,7 @@ module _ (stream : Stream) (heard : List (Bool × Packet)) (p : Probation) (c : 
           never true false = refl
           never false b = refl
 
-  -- one that is off
+  -- one more packet that is off
   is_off : IsCounted stream (probation_after stream p (true, packet)) (heard ++ (true, packet) ∷ [])
   is_off = record { few = few_then (is_expected p packet) (nat_lt p.count 8) refl; expects = rw (last_of-push heard (true, packet)) (λ h. (refl, refl, refl)); tells = told }
     where
@@ -213,7 +213,7 @@ counted stream = by_last (λ heard. IsCounted stream (probation_of stream heard)
     step heard (false, packet) c = rw (probation_of-push stream heard (false, packet)) (not_off stream heard (probation_of stream heard) c packet)
     step heard (true, packet) c = rw (probation_of-push stream heard (true, packet)) (is_off stream heard (probation_of stream heard) c packet)
 
--- so a probation is complete where the count says so
+-- a probation is complete exactly if the count says so
 pub complete_is : (stream : Stream) (heard : List (Bool × Packet)) → completes_probation stream heard ≡ is_complete (probation_of stream heard)
 complete_is stream heard = (counted stream heard).tells 8 (omega arith)
 

@@ -52,7 +52,8 @@ marks_by_full_numbers : marks_by_number stream anchor (pos 0) sent ≡ got 13107
 unfolding sent_copies_after sent_marks_after
 marks_by_full_numbers = refl
 
--- two replays from before the first packet's cycle: sequence number 1 again, of 131,072 numbers before it, and the farthest number within reach
+-- two replays from before the first packet's cycle: sequence number 1 again, of 131,072 numbers before it, and the
+-- farthest number within reach
 abbrev first_base : Anchor
 first_base = record { epoch = 0; number = 65537; timestamp = 0; media = pos 0; source = 1 }
 
@@ -69,7 +70,8 @@ marks_of_a_replay : marks_by_number stream first_base (pos 0) replayed ≡ got 6
 unfolding sent_copies_after sent_marks_after
 marks_of_a_replay = refl
 
--- by the arrival clock, eight replays in sequence off the grid are taken for a restart: so the law has to ask for one epoch
+-- by the arrival clock, eight replays in sequence off the grid are taken for a restart: so the law has to require one
+-- epoch
 abbrev arrival_stream : Stream
 arrival_stream = record { enc = L24; channels = 1; frames = 6; pt = 96; ssrc = None; clock = Arrival; latency = 12; window = 8; paths = 2 }
 

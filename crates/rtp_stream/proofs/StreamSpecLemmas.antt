@@ -8,7 +8,7 @@ use Rattle.rtp_stream.specs.declared.stream_spec.Stream.{Stream}
 use Rattle.rtp_stream.specs.StreamSpecFacts.{IsStream, HasNoFault, first_fault, format_of, is_window, packets_fault_of, times_fault_of}
 use Rattle.rtp_wire.specs.PacketTime.{is_packet_time}
 
--- where a chain of tests finds nothing, each test fails
+-- if a chain of tests finds nothing, each test fails
 none_of_four : {A : Type 0} (a b c d : Bool) (w x y z : A) → (if a then Some w else if b then Some x else if c then Some y else if d then Some z else None) ≡ None → (a ≡ false) × (b ≡ false) × (c ≡ false) × (d ≡ false)
 none_of_four false false false false w x y z e = (refl, refl, refl, refl)
 none_of_four true b c d w x y z e = cc

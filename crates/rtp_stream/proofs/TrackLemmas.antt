@@ -1,4 +1,5 @@
--- The bits of a path's track tell how many of its last 64 arrivals were astray, and how many beyond; and how an arrival stands by its place.
+-- The bits of a path's track show how many of its last 64 arrivals were astray, and how many beyond; and the standing
+-- of an arrival by its place.
 use Rattle.std.proofs.Common.{◌≡◌, ℕ, zero, suc, ◌+◌, ◌*◌, ◌%◌, ◌^◌, ◌<◌, ◌≤◌, Bool, true, false, cond, not, ◌&&◌, ◌||◌, max, List, [], ◌∷◌, ◌++◌, length, map, take, reverse, count_by, Result, Ok, Err, refl, sym, ap, subst, ◌∙◌, arith, if◌then◌else◌}
 use Rattle.std.specs.Prelude.{count_ones, nat_eq, nat_le, nat_lt, slice_index_or, slice_set}
 use Rattle.std.proofs.lemmas.Bool.Decides.{nat_tests}
@@ -97,7 +98,7 @@ end-push : (standings : List Standing) (s : Standing) → end_of_standings (stan
 end-push [] s = omega arith
 end-push (x ∷ standings) s = omega (arith, end-push standings s)
 
--- what a track keeps of its path's arrivals
+-- the track of a path's arrivals
 pub record IsTracked (t : Track) (standings : List Standing) : Type 0 where
   pub astray : t.astray ≡ mask_l (map is_astray (take 64 (reverse standings)))
   pub early : t.early ≡ mask_l (map is_beyond (take 64 (reverse standings)))
@@ -115,7 +116,7 @@ tracked = by_last (λ standings. IsTracked (track_of standings) standings) (reco
           end = ap (λ e. max e s.end) before.end ∙ sym (end-push standings s);
         })
 
--- so it tells whether many were astray, or beyond, and where the copies in time end
+-- the track shows whether many arrivals were astray, or beyond, and where the copies in time end
 pub astray_is : (standings : List Standing) → is_often (track_of standings).astray ≡ are_many is_astray standings
 astray_is standings = ap is_often (tracked standings).astray ∙ ap (nat_le 8) (ones-mask_l is_astray (take 64 (reverse standings)))
 

@@ -59,7 +59,8 @@ taken_before_its_deadline : fate_of (stream (Media 0)) (pos 0) wrapped 0 (packet
 unfolding anchor_of anchors_of anchors_from copies_of copies_of_all at_places
 taken_before_its_deadline = refl
 
--- each fate of an arrival after one packet, number 65537 at 0: its number has that packet, and the window ends before 65545
+-- each fate of an arrival after one packet, number 65537 at 0: its number has that packet, and the window ends before
+-- 65545
 abbrev first : List Event
 first = Arrive 0 (packet 1 0 (1 ∷ [])) ∷ []
 
@@ -99,7 +100,8 @@ after_a_close : fate_of (stream (Media 0)) (pos 0) (first ++ Close ∷ []) 0 (pa
 unfolding anchor_of anchors_of anchors_from copies_of copies_of_all at_places
 after_a_close = refl
 
--- a first packet at 100 has to have its deadline, 12 past its media time, after 100, and eight packets of 6 from there on in reach
+-- a first packet at 100 has to have its deadline, 12 past its media time, after 100, and eight packets of 6 from there
+-- on in reach
 first_at_its_deadline : fate_of (stream (Media 0)) (pos 100) [] 0 (packet 1 88 (1 ∷ [])) ≡ Late
 unfolding anchor_of anchors_of anchors_from copies_of copies_of_all at_places
 first_at_its_deadline = refl
@@ -120,7 +122,7 @@ reach_by_an_offset : fate_of (stream (Media 1000)) (pos 100) [] 0 (packet 1 1088
 unfolding anchor_of anchors_of anchors_from copies_of copies_of_all at_places
 reach_by_an_offset = refl
 
--- of two unlike copies of a number the first is handed on, and each arrival is counted once
+-- of two copies of a number with different payloads the first is passed on, and each arrival is counted once
 abbrev unlike_copies : List Event
 unlike_copies = first ++ Arrive 1 (packet 1 0 (1 ∷ [])) ∷ Arrive 1 (packet 1 0 (2 ∷ [])) ∷ Tick (pos 12) ∷ []
 
@@ -142,12 +144,12 @@ split_reading : marks_of (stream (Media 0)) (pos 0) (first ++ Tick (pos 18) ∷ 
 unfolding marks_of marks_from anchor_of anchors_of anchors_from copies_of copies_of_all at_places
 split_reading = refl
 
--- a Quiet follows a Quiet where it tells more, and the opening time tells nothing
+-- a Quiet follows a Quiet if its time is later, and at the opening time there is none
 quiet_after_quiet : marks_of (stream (Media 0)) (pos 0) (Tick (pos 0) ∷ Tick (pos 5) ∷ Tick (pos 5) ∷ Tick (pos 6) ∷ []) ≡ quiet (negsuc 6) ∷ quiet (negsuc 5) ∷ []
 unfolding marks_of marks_from anchor_of anchors_of anchors_from copies_of copies_of_all at_places
 quiet_after_quiet = refl
 
--- silence is told before the first deadline too, and not after it
+-- there is a Quiet before the first deadline too, and none after it
 quiet_before_the_first_slot : marks_of (stream (Media 0)) (pos 0) (first ++ Tick (pos 11) ∷ Tick (pos 12) ∷ Tick (pos 13) ∷ []) ≡ quiet (negsuc 0) ∷ got 65537 (pos 0) (1 ∷ []) ∷ []
 unfolding marks_of marks_from anchor_of anchors_of anchors_from copies_of copies_of_all at_places
 quiet_before_the_first_slot = refl
@@ -158,7 +160,8 @@ arrival_clock : marks_of (stream Arrival) (pos 0) (Tick (pos 1000) ∷ Arrive 0 
 unfolding marks_of marks_from anchor_of anchors_of anchors_from copies_of copies_of_all at_places
 arrival_clock = refl
 
--- a close gives the slots up to the last packet held, and the end; a second close and what comes after give nothing
+-- a close produces the slots up to the last packet held, and the end; a second close and what comes after produce
+-- nothing
 abbrev closing : List Event
 closing = Arrive 0 (packet 1 0 (1 ∷ [])) ∷ Arrive 0 (packet 3 12 (3 ∷ [])) ∷ Close ∷ []
 
