@@ -1,4 +1,4 @@
--- After a close nothing more is handed on.
+-- After a close no more marks are produced.
 use Rattle.std.proofs.Common.{◌≡◌, Bool, true, false, List, [], ◌∷◌, ◌++◌, Some, ℤ, refl, sym, ap, ◌∙◌, append-nil, append_assoc, if◌then◌else◌}
 use Rattle.path_merge.proofs.CloseLemmas.{marks_of-close}
 use Rattle.path_merge.proofs.HistoryLemmas.{by_last_event, copies_of_all-tick, is_closed-append, marks_in, marks_in-push, marks_of-in}
@@ -37,7 +37,7 @@ module _ (stream : Stream) (open_at : ℤ) where
       ∙ sym (marks_of-in stream open_at events)
   marks_of-closed events Close shut = marks_of-close stream open_at events ∙ rw shut (append-nil (marks_of stream open_at events))
 
-  -- and any more
+  -- more events after a close add no mark
   pub nothing_more : (events more : List Event) → is_closed events ≡ true → marks_of stream open_at (events ++ more) ≡ marks_of stream open_at events
   nothing_more events more shut = by_last_event (λ more. marks_of stream open_at (events ++ more) ≡ marks_of stream open_at events) (ap (marks_of stream open_at) (append-nil events)) (λ more event before.
       ap (marks_of stream open_at) (sym (append_assoc events more (event ∷ [])))

@@ -11,7 +11,7 @@ use Rattle.rtp_stream.specs.declared.stream_spec.Stream.{Stream}
 use Rattle.rtp_stream.specs.declared.anchor.Anchor.{Anchor}
 use Rattle.rtp_wire.specs.PacketTime.{is_packet_time}
 
--- what holds of each packet time
+-- what is shown of each packet time holds for all
 packet_time_cases : (P : ℕ → Type 0) → P 6 → P 12 → P 16 → P 48 → P 192 → (frames : ℕ) → is_packet_time frames ≡ true → P frames
 packet_time_cases P p6 p12 p16 p48 p192 frames is = by_6 (nat_eq frames 6) refl
   where
@@ -69,7 +69,7 @@ one_number stream anchor m n time same less more stamps =
     let rest : int_rem_euclid (pos anchor.timestamp +ℤ (m -ℤ pos anchor.number) *ℤ pos stream.frames) (pos 4294967296) ≡ int_rem_euclid (pos anchor.timestamp +ℤ (n -ℤ pos anchor.number) *ℤ pos stream.frames) (pos 4294967296) = sym (size_is _ (rem_bounds 4294967296 _ (omega arith)).0) ∙ ap pos stamps ∙ size_is _ (rem_bounds 4294967296 _ (omega arith)).0 in
     packet_time_cases IsOneNumber one_6 one_12 one_16 one_48 one_192 stream.frames time m n anchor.timestamp anchor.number (a.1 + b.0) (b.1 + a.0) (low_m.1 + low_n.0) (low_n.1 + low_m.0) (omega (arith, ints, a.2, b.2, rest)) (omega (arith, ints, low_m.2, low_n.2, same)) less more
 
--- so another number is off the grid
+-- another number with the same low bits is off the grid
 pub off_grid : (stream : Stream) (anchor : Anchor) (m : ℕ) (n : ℤ) → is_packet_time stream.frames ≡ true → int_rem_euclid (pos m) (pos 65536) ≡ int_rem_euclid n (pos 65536) → pos m <ℤ (n +ℤ pos 67108864) → n <ℤ (pos m +ℤ pos 67108864) → (pos m ≡ n → ⊥) → is_on_grid stream anchor m (timestamp_in_step stream anchor n) ≡ false
 off_grid stream anchor m n time same less more other = by_stamp (nat_eq (timestamp_in_step stream anchor n) (timestamp_in_step stream anchor (pos m))) refl
   where

@@ -1,4 +1,4 @@
--- The anchors of a history, one by one: their places, their epochs, and what an arrival that makes one has.
+-- The anchors of a history, one by one: their places, their epochs, and the packets that make them.
 use Rattle.std.proofs.Common.{◌≡◌, ℕ, zero, suc, ◌+◌, ◌*◌, ◌^◌, ◌<◌, ◌≤◌, Bool, true, false, ◌&&◌, ◌||◌, List, [], ◌∷◌, ◌++◌, length, Option, Some, None, ℤ, pos, ◌+ℤ◌, ◌-ℤ◌, ◌≤ℤ◌, ◌<ℤ◌, refl, sym, ap, ◌∙◌, arith, append-nil, length-append, if◌then◌else◌}
 use Rattle.std.specs.Prelude.{nat_eq, nat_le, nat_lt}
 use Rattle.std.proofs.Math.Nat.{mod-lt}
@@ -64,7 +64,7 @@ pub record HasEpochs (stream : Stream) (anchors : List (ℕ × Anchor)) : Type 0
   pub own : IsOwn (anchor_in (last_of anchors)) anchors
   pub later : (epoch : ℕ) → limit_of stream (anchor_in (last_of anchors)) ≤ epoch → anchor_with epoch anchors ≡ None
 
--- so many numbers, and the next one
+-- one number more, at the end
 numbers_from-next : (n count : ℕ) → numbers_from n (suc count) ≡ numbers_from n count ++ (n + count) ∷ []
 numbers_from-next n zero = let same : n ≡ n + 0 = omega arith in ap (λ m. m ∷ []) same
 numbers_from-next n (suc count) =
@@ -101,7 +101,7 @@ complete_small stream heard off packet completes = by_off off (sym (complete_is 
     by_off false e = cc
     by_off true e = by_tests (probation_of stream heard) (nat_eq packet.ssrc (probation_of stream heard).source) _ _ refl refl (probation_small stream heard) _ e
 
--- and so has one that shows a sender astray
+-- a packet that shows its sender to be astray has 16 and 32 bits too
 slip_small : (stream : Stream) (open_at : ℤ) (place : ℕ) (a : Anchor) (events : List Event) (path : ℕ) (packet : Packet) → is_slip stream open_at place a events path packet ≡ true → (packet.seq < 65536) × (packet.ts < 4294967296)
 slip_small stream open_at place a events path packet = by_tests (is_following stream.clock) (nat_lt packet.seq (2 ^ 16)) (nat_lt packet.ts (2 ^ 32)) _ refl refl
   where
@@ -111,7 +111,7 @@ slip_small stream open_at place a events path packet = by_tests (is_following st
     by_tests true false t r es et e = cc
     by_tests true true false r es et e = cc
 
--- what an anchor has that a packet makes after another one
+-- the facts of an anchor that a packet makes after another anchor
 pub record Restarts (stream : Stream) (open_at : ℤ) (events : List Event) (path : ℕ) (packet : Packet) (place : ℕ) (a b : Anchor) : Type 0 where
   pub not_back : media_time_of stream a (next_number stream a (time_of open_at events)) ≤ℤ b.media
   pub all_given : end_of_copies (copies_since stream open_at place a events) ≤ next_number stream a (time_of open_at events)
@@ -121,7 +121,7 @@ abbrev pub Follows : Stream → ℤ → List Event → ℕ → Packet → Option
 Follows stream open_at events path packet None b = Unit {0}
 Follows stream open_at events path packet (Some (place, a)) b = Restarts stream open_at events path packet place a b
 
--- what an anchor has that a packet makes
+-- the facts of an anchor that a packet makes
 pub record IsMade (stream : Stream) (open_at : ℤ) (events : List Event) (path : ℕ) (packet : Packet) (old : Option (ℕ × Anchor)) (b : Anchor) : Type 0 where
   pub early : (time_of open_at events -ℤ pos stream.latency) <ℤ b.media
   pub within : b.media <ℤ (time_of open_at events -ℤ pos stream.latency +ℤ pos (stream.window * stream.frames))

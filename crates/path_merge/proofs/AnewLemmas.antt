@@ -1,4 +1,4 @@
--- A merge that begins anew at a packet that opens an epoch.
+-- A merge that begins again at a packet that opens an epoch.
 use Rattle.std.proofs.Common.{◌≡◌, ℕ, zero, suc, ◌+◌, ◌-◌, ◌*◌, ◌^◌, ◌<◌, ◌≤◌, Bool, true, false, ◌&&◌, List, [], ◌∷◌, Some, ℤ, pos, ◌+ℤ◌, ◌-ℤ◌, ◌*ℤ◌, ◌≤ℤ◌, ◌<ℤ◌, refl, sym, ap, subst, ◌∙◌, arith, if◌then◌else◌, unsigned_abs, ⊎_elim}
 use Rattle.std.specs.Prelude.{IsSome, int_le, int_lt, nat_eq, nat_le, nat_lt}
 use Rattle.std.specs.Int.{int_rem_euclid}
@@ -30,7 +30,7 @@ use Rattle.rtp_stream.specs.declared.fate.Fate.{Fate}
 use Rattle.rtp_stream.specs.declared.fate.Fate.TheVariants.{Restarted}
 use Rattle.rtp_stream.specs.declared.packet.Packet.{Packet}
 
--- before the anchor's deadline it is itself next due
+-- before the anchor's deadline the anchor's number is due next
 pub next_number-fresh : (spec : Stream) (a : Anchor) (time : ℤ) → 0 < spec.frames → (time -ℤ pos spec.latency) <ℤ a.media → next_number spec a time ≡ a.number
 next_number-fresh spec a time some early =
     let none : a.number - a.number ≡ 0 = omega arith in
@@ -64,7 +64,7 @@ own_timestamp stream packet epoch media small =
     let expected : expected_timestamp stream (made_by packet epoch media) (65536 + packet.seq) ≡ packet.ts = ap (λ z. unsigned_abs (int_rem_euclid z (pos (2 ^ 32)))) step ∙ ap unsigned_abs (rem_small (2 ^ 32) packet.ts small) in
     ap (nat_eq packet.ts) expected ∙ itself_eq packet.ts
 
--- it is an in-time copy of itself
+-- the packet of an anchor is an in-time copy of the anchor's number
 pub own_copy : (stream : Stream) (time : ℤ) (packet : Packet) (epoch : ℕ) (media : ℤ) → 0 < stream.frames → 0 < stream.window → packet.seq < 65536 → packet.ts < 2 ^ 32 → (time -ℤ pos stream.latency) <ℤ media → copies_under stream time true (Some (made_by packet epoch media)) packet ≡ (65536 + packet.seq, packet) ∷ []
 own_copy stream time packet epoch media some wide seq ts after =
     let next : next_number stream (made_by packet epoch media) time ≡ 65536 + packet.seq = next_number-fresh stream (made_by packet epoch media) time some after in
@@ -98,7 +98,7 @@ pub record HoldsOne (counts : Tally) (media : ℤ) : Type 0 where
   pub slots_given : pos (counts.got + counts.lost) ≤ℤ (media +ℤ pos (2 ^ 33))
   pub taken_are : counts.taken ≡ counts.got + 1
 
--- a merge that begins at a packet, and holds it alone, is sound
+-- a merge that begins at a packet, and holds nothing else, is sound
 pub sound_anew : (m : MergeState) (media media' : ℤ) (packet : Packet) (epoch : ℕ) (g h : FinMap nat_cmp Packet) (counts : Tally) (probations' : List Probation) (tracks' : List Track) → IsSound m media → Fits m.spec packet → packet.seq < 65536 → packet.ts < 2 ^ 32 → (m.time -ℤ pos m.spec.latency) <ℤ media' → media' <ℤ (m.time -ℤ pos m.spec.latency +ℤ pos (m.spec.window * m.spec.frames)) → IsEmpty g → ((n : ℕ) → get h n ≡ (if nat_eq n (65536 + packet.seq) then Some packet else get g n)) → epoch ≡ counts.restarts → HoldsOne counts media' → IsSound (record m { anchor = Some (made_by packet epoch media'); base = 65536 + packet.seq; held = h; counts = counts; probations = probations'; tracks = tracks' }) media'
 sound_anew m media media' packet epoch g h counts probations' tracks' s fits seq ts after before empty put epoch_is holds = record {
   spec_ok = s.spec_ok;
@@ -157,7 +157,7 @@ sound_anew m media media' packet epoch g h counts probations' tracks' s fits seq
     here : (n : ℕ) → IsSome (get h n) → get h n ≡ Some packet
     here n some_n = (by_eq n (nat_eq n (65536 + packet.seq)) refl some_n).1
 
--- a merge that holds nothing, and begins anew at a packet, stays sound
+-- a merge that holds nothing, and begins again at a packet, stays sound
 pub sound_restart : (m : MergeState) (media media' : ℤ) (path : ℕ) (packet : Packet) (a b : Anchor) (g h : FinMap nat_cmp Packet) (base' size' : ℕ) (counts' : Tally) (probations' : List Probation) (tracks' : List Track) → IsSound m media → m.anchor ≡ Some a → m.closed ≡ false → m.counts.arrived < 2 ^ 62 → Fits m.spec packet → packet.seq < 65536 → packet.ts < 2 ^ 32 → IsEmpty m.held → GoesOn m.spec m.time media media' → b ≡ made_by packet (a.epoch + 1) media' → IsEmpty g → ((n : ℕ) → get h n ≡ (if nat_eq n (65536 + packet.seq) then Some packet else get g n)) → base' ≡ 65536 + packet.seq → size' ≡ m.size → counts' ≡ with_fate m.counts path Restarted → IsSound (record m { anchor = Some b; base = base'; size = size'; held = h; counts = counts'; probations = probations'; tracks = tracks' }) media'
 sound_restart m media media' path packet a b g h base' size' counts' probations' tracks' s is_a open_yet room fits seq ts none_held first is_b empty put is_base is_size is_counts =
     rw (is_b, is_base, is_size, is_counts) (sound_anew m media media' packet (a.epoch + 1) g h (with_fate m.counts path Restarted) probations' tracks' s fits seq ts first.after first.before empty put (omega (arith, counts.restarts, an.epoch_is)) (record {
@@ -200,6 +200,6 @@ restart_step m path packet a b g h base' size' counts' fresh untracked is_b empt
   changed = rw (is_b, is_base, is_size, is_counts) refl;
 }
 
--- what was heard before doesn't show
+-- a restart does not depend on the probations and tracks before it
 pub restart_heard : (m : MergeState) (heard : List Probation) (noted : List Track) (new : MergeState) (a : Anchor) (path : ℕ) (packet : Packet) (fate : Fate) → IsRestartStep m.spec (record m { probations = heard; tracks = noted }) new a path packet fate → IsRestartStep m.spec m new a path packet fate
 restart_heard m heard noted new a path packet fate step = record { fate_is = step.fate_is; held = step.held; probations = step.probations; tracks = step.tracks; changed = step.changed }

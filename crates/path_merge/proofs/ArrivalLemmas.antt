@@ -50,7 +50,7 @@ module _ (stream : Stream) (open_at : ℤ) (some : 0 < stream.frames) (events : 
   copies_at-later : AllLaterThan stream open_at events (copies_at stream open_at events (Arrive path packet))
   copies_at-later = rw (anchor_of-push stream open_at events (Arrive path packet)) (copies_under-later (room_in_force stream open_at (last_of (anchors_of stream open_at (events ++ Arrive path packet ∷ []))) events) (time_of open_at events) (is_counting events) (anchor_of stream open_at events) (anchor_made stream open_at events (Arrive path packet)) (made_next stream open_at events (Arrive path packet)))
 
-  -- an arrival changes no mark, also one that opens an epoch
+  -- an arrival changes no mark, even if it opens an epoch
   pub marks_of-arrive : marks_of stream open_at (events ++ Arrive path packet ∷ []) ≡ marks_of stream open_at events
   marks_of-arrive =
       marks_of-in stream open_at (events ++ Arrive path packet ∷ [])
@@ -60,7 +60,7 @@ module _ (stream : Stream) (open_at : ℤ) (some : 0 < stream.frames) (events : 
       ∙ marks_in-more stream open_at some (copies_of_all stream open_at events) (copies_at stream open_at events (Arrive path packet)) events well_timed open_yet copies_at-later
       ∙ sym (marks_of-in stream open_at events)
 
--- what an arrival may change
+-- the parts of a merge that an arrival may change
 pub record IsArrivalStep (stream : Stream) (open_at : ℤ) (old new : MergeState) (events : List Event) (event : Event) : Type 0 where
   pub spec : new.spec ≡ old.spec
   pub time : new.time ≡ old.time

@@ -57,7 +57,7 @@ module _ (stream : Stream) (open_at : ℤ) where
   between_due None copies t u some from le = All-nil (λ mark. IsDue stream open_at u mark.kind)
   between_due (Some a) copies t u some from le = run_due a copies t u (next_number stream a t) (next_number stream a u - next_number stream a t) some from (omega arith) (omega (arith, next_number-rises stream a t u some le))
 
-  -- what a reading gives
+  -- the marks of a clock reading are due by it
   given_due : (given : List MarkView) (u : ℤ) (run : List MarkView) → AreDue u run → AreDue u (slots_or_quiet stream open_at given u run)
   given_due given u (mark ∷ run) due = due
   given_due given u [] due = by_test (is_quiet_new stream open_at given (u -ℤ pos stream.latency)) refl
@@ -69,7 +69,7 @@ module _ (stream : Stream) (open_at : ℤ) where
           let past = both (int_lt (open_at -ℤ pos stream.latency) (u -ℤ pos stream.latency)) (is_past_quiets (u -ℤ pos stream.latency) given) new.1 in
           All-cons (λ mark. IsDue stream open_at u mark.kind) (quiet_mark stream (u -ℤ pos stream.latency)) [] (record { after = grind (arith, ints, past.0); not_after = omega (arith, ints) }) (All-nil (λ mark. IsDue stream open_at u mark.kind))
 
-  -- before every slot silence is told to the time
+  -- before the first slot, the last Quiet reaches the time minus the latency
   abbrev IsTold : ℤ → Bool → Option MarkKind → Type 0
   IsTold time slotted None = (slotted ≡ false) × (time ≡ open_at)
   IsTold time slotted (Some (Slot epoch number media body)) = slotted ≡ true
@@ -101,7 +101,7 @@ module _ (stream : Stream) (open_at : ℤ) where
       past (Quiet until) d = grind (arith, ints, d.not_after, lt)
       past End d = refl
 
-  -- so silence is new to it
+  -- so a later clock reading produces a new Quiet before the first slot
   quiet_new : (t u : ℤ) (marks : List MarkView) → t <ℤ u → open_at ≤ℤ t → AreDue t marks → has_slot marks ≡ false → is_quiet_new stream open_at marks (u -ℤ pos stream.latency) ≡ true
   quiet_new t u marks lt from due none =
       let started : int_lt (open_at -ℤ pos stream.latency) (u -ℤ pos stream.latency) ≡ true = grind (arith, ints, lt, from) in

@@ -1,4 +1,4 @@
--- The start of a merge, its close, and what is left then.
+-- The start of a merge, its close, and the marks that are left then.
 use Rattle.path_merge.proofs.EpochLemmas.{anchor_is, copies_of-since, heard_of-close, no_anchors, standings_of-close}
 use Rattle.rtp_stream.specs.PathTrack.{no_track, track_at, track_of}
 use Rattle.rtp_stream.specs.Standing.{standings_on}

@@ -1,4 +1,4 @@
--- The marks that are left after a close, and the one that a drain takes of them.
+-- The marks that are left after a close, and the mark that a drain takes of them.
 use Rattle.path_merge.proofs.EpochLemmas.{deaf_anchor, deaf_copies, deaf_copies_all}
 use Rattle.path_merge.proofs.HistoryLemmas.{copies_of-with, anchor_of-close, by_last_event, copies_of-close, events_until_close-close, events_until_close-closed, is_closed-append, marks_in, marks_in-push, marks_of-in, time_of-append}
 use Rattle.path_merge.proofs.AnewLemmas.{itself_eq}
@@ -69,7 +69,7 @@ slots_from-length : (stream : Stream) (a : Anchor) (copies : List (ℕ × Packet
 slots_from-length stream a copies n zero = refl
 slots_from-length stream a copies n (suc count) = omega (arith, slots_from-length stream a copies (suc n) count)
 
--- what was given, and what is left, of a closed history
+-- the events before a history's close: its marks are theirs, and then those of the close
 pub record IsClosedAt (stream : Stream) (open_at : ℤ) (events before : List Event) : Type 0 where
   pub well_timed : is_well_timed open_at before ≡ true
   pub open_yet : is_closed before ≡ false
@@ -148,7 +148,7 @@ module _ (stream : Stream) (open_at : ℤ) (m : MergeState) (media : ℤ) (s : I
   dropped_is : drop k (marks_of stream open_at events) ≡ drop (k - length (marks_of stream open_at (events_until_close events))) (slots_at_close stream (copies_of stream open_at (events_until_close events)) (anchor_of stream open_at (events_until_close events)) (time_of open_at (events_until_close events)) ++ end_mark stream ∷ [])
   dropped_is = ap (λ n. drop n (marks_of stream open_at events)) k_is ∙ ap (drop (length (marks_of stream open_at (events_until_close events)) + (k - length (marks_of stream open_at (events_until_close events))))) closing.marks ∙ drop-append-add (marks_of stream open_at (events_until_close events)) (slots_at_close stream (copies_of stream open_at (events_until_close events)) (anchor_of stream open_at (events_until_close events)) (time_of open_at (events_until_close events)) ++ end_mark stream ∷ []) (k - length (marks_of stream open_at (events_until_close events)))
 
-  -- whether the End is past is told by what was taken of the rest
+  -- the End was taken exactly if it is among the marks taken after the close
   ended_is : m.ended ≡ has_end (take (k - length (marks_of stream open_at (events_until_close events))) (slots_at_close stream (copies_of stream open_at (events_until_close events)) (anchor_of stream open_at (events_until_close events)) (time_of open_at (events_until_close events)) ++ end_mark stream ∷ []))
   ended_is =
       let none : has_end (marks_of stream open_at (events_until_close events)) ≡ false = rw (marks_of-in stream open_at (events_until_close events)) (no_end_yet stream open_at some_frames (copies_of_all stream open_at (events_until_close events)) (events_until_close events) closing.well_timed closing.open_yet) in
@@ -157,7 +157,7 @@ module _ (stream : Stream) (open_at : ℤ) (m : MergeState) (media : ℤ) (s : I
   length_is : length (marks_of stream open_at events) ≡ length (marks_of stream open_at (events_until_close events)) + length (slots_at_close stream (copies_of stream open_at (events_until_close events)) (anchor_of stream open_at (events_until_close events)) (time_of open_at (events_until_close events)) ++ end_mark stream ∷ [])
   length_is = ap length closing.marks ∙ length-append (marks_of stream open_at (events_until_close events)) _
 
-  -- what is left, where the stream is anchored
+  -- the marks that are left, if the stream is anchored
   module _ (a : Anchor) (is_a : m.anchor ≡ Some a) where
     anchor_is : anchor_of stream open_at (events_until_close events) ≡ Some a
     anchor_is = sym closing.anchor ∙ sym at.anchor ∙ is_a
@@ -201,7 +201,7 @@ module _ (stream : Stream) (open_at : ℤ) (m : MergeState) (media : ℤ) (s : I
     pub none_left : m.ended ≡ true → drop k (marks_of stream open_at events) ≡ []
     none_left ended = dropped_is ∙ ap (drop (k - length (marks_of stream open_at (events_until_close events)))) rest_is ∙ here.none (sym (ap (λ l. has_end (take (k - length (marks_of stream open_at (events_until_close events))) l)) rest_is) ∙ sym ended_is ∙ ended)
 
-  -- what is left, where it is not: the End alone
+  -- the mark that is left if the stream is not anchored: the End alone
   module _ (is_none : m.anchor ≡ None) where
     no_anchor_is : anchor_of stream open_at (events_until_close events) ≡ None
     no_anchor_is = sym closing.anchor ∙ sym at.anchor ∙ is_none
@@ -226,7 +226,7 @@ module _ (stream : Stream) (open_at : ℤ) (m : MergeState) (media : ℤ) (s : I
   first_is : (n : ℕ) → m.base ≤ n → get m.held n ≡ first_copy stream open_at events n
   first_is n le = let past : nat_lt n m.base ≡ false = grind (arith, nat_tests, le) in at.held n ∙ rw past refl
 
-  -- the slot of the base, where a packet is held there or later
+  -- the next mark is the slot of the base, if a packet is held there or later
   pub slot_next : (a : Anchor) → m.anchor ≡ Some a → m.ended ≡ false → HoldsMore m → (rest : List MarkView) × (drop k (marks_of stream open_at events) ≡ slot_mark m.spec a m.base (body_of (get m.held m.base)) ∷ rest)
   slot_next a is_a unended holds =
       let last_is : first_copy stream open_at events holds.last ≡ get m.held holds.last = sym (first_is holds.last holds.from_base) in
@@ -239,7 +239,7 @@ module _ (stream : Stream) (open_at : ℤ) (m : MergeState) (media : ℤ) (s : I
             ∙ ap (λ o. slot_mark m.spec a m.base (body_of o) ∷ slots_from stream a (copies_of stream open_at events) (suc m.base) (end_of_copies (copies_of stream open_at events) - suc m.base) ++ end_mark stream ∷ []) (sym (first_is m.base (omega arith))),
       )
 
-  -- the End, where none is
+  -- the next mark is the End, if no packet is held
   pub end_next : m.ended ≡ false → (e : ℕ) → e ≤ m.base → ((n : ℕ) → IsSome (get m.held n) → n < e) → drop k (marks_of stream open_at events) ≡ end_mark stream ∷ []
   end_next unended e high past_all = by_anchor m.anchor refl
     where
@@ -266,7 +266,7 @@ module _ (stream : Stream) (open_at : ℤ) (m : MergeState) (media : ℤ) (s : I
   shut_now : is_closed events ≡ true
   shut_now = sym at.closed ∙ shut
 
-  -- a mark that a drain gives
+  -- the mark of a drain
   pub drains_slot : (new : MergeState) (a : Anchor) → m.anchor ≡ Some a → m.ended ≡ false → HoldsMore m → IsLeftStep m new → Drains stream open_at new events k (Some (slot_mark m.spec a m.base (body_of (get m.held m.base))))
   drains_slot new a is_a unended holds step =
       let next = slot_next a is_a unended holds in

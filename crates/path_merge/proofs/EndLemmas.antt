@@ -1,4 +1,4 @@
--- No copy in time since an anchor is past the end of the arrivals that stand under it.
+-- No copy in time since an anchor is past the end of the standings under it.
 use Rattle.std.proofs.Common.{◌≡◌, ℕ, zero, suc, ◌+◌, ◌<◌, ◌≤◌, max, Bool, true, false, ◌&&◌, ◌||◌, List, [], ◌∷◌, ◌++◌, length, Option, Some, None, ℤ, pos, ◌+ℤ◌, ◌-ℤ◌, ◌<ℤ◌, refl, sym, ap, subst, ◌∙◌, arith, append-nil, if◌then◌else◌, unsigned_abs}
 use Rattle.std.specs.Prelude.{nat_eq}
 use Rattle.std.specs.Int.{int_rem_euclid}
@@ -102,12 +102,12 @@ first_number packet =
     whole seq = omega (arith, ints)
 
 module _ (stream : Stream) (open_at : ℤ) (some : 0 < stream.frames) where
-  -- the packet opens an epoch, where another one is in force
+  -- the packet opens an epoch after another one
   abbrev pub Reopens : List Event → ℕ → Packet → Option (ℕ × Anchor) → Type 0
   Reopens events path packet None = Unit {0}
   Reopens events path packet (Some (place, a)) = can_restart stream open_at place a events path packet ≡ true
 
-  -- what an anchor has of its packet
+  -- the anchor of a packet that opens an epoch
   pub record IsOpener (events : List Event) (path : ℕ) (packet : Packet) (old : Option (ℕ × Anchor)) (b : Anchor) : Type 0 where
     pub number : b.number ≡ 65536 + packet.seq
     pub stamp : b.timestamp ≡ packet.ts
@@ -154,7 +154,7 @@ module _ (stream : Stream) (open_at : ℤ) (some : 0 < stream.frames) where
       by_counting true counts None made = by_first counts (can_anchor stream (time_of open_at events) packet) refl made
       by_counting true counts (Some (place, a)) made = by_next place a counts (can_restart stream open_at place a events path packet) refl made
 
-  -- no copy in time since the anchor is past the end of what stands under it
+  -- no copy in time since the anchor is past the end of the standings under it
   abbrev pub EndsWithin : Option (ℕ × Anchor) → List Event → Type 0
   EndsWithin None events = Unit {0}
   EndsWithin (Some (place, a)) events =

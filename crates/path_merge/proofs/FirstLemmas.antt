@@ -50,7 +50,7 @@ lt-not_le a b = by_test (int_le b a) refl
     by_test true e = grind (arith, ints, e)
     by_test false e = grind (arith, ints, e)
 
--- a packet is taken as the first exactly where it may be one
+-- a packet is taken as the first exactly if it may be the first
 pub taken-can_anchor : (stream : Stream) (time : ℤ) (packet : Packet) → is_taken_fate (first_fate stream time packet) ≡ can_anchor stream time packet
 taken-can_anchor stream time packet =
     let low = lt-not_le (time -ℤ pos stream.latency) (first_media_time stream.clock packet.ts time) in
@@ -90,7 +90,7 @@ module _ (stream : Stream) (open_at : ℤ) (m : MergeState) (media : ℤ) (s : I
   still_open : is_closed events ≡ false
   still_open = sym at.closed ∙ open_yet
 
-  -- nothing was held or given yet
+  -- nothing was held or produced yet
   none_held : IsUnanchored m
   none_held = subst (λ o. IsAnchoredOrNot m media o) unanchored s.anchored
 
@@ -110,7 +110,7 @@ module _ (stream : Stream) (open_at : ℤ) (m : MergeState) (media : ℤ) (s : I
       by_count : (n : ℕ) → n < 2 ^ 62 → (if not (nat_lt n (2 ^ 62)) then CountersFull else first_fate stream m.time packet) ≡ first_fate stream m.time packet
       by_count n h = let yes : nat_lt n (2 ^ 62) ≡ true = grind (arith, nat_tests, h) in rw yes refl
 
-  -- the anchor after it
+  -- the anchor after the arrival
   last_after : last_of (anchors_of stream open_at (events ++ Arrive path packet ∷ [])) ≡ (if can_anchor stream m.time packet then Some (length events, anchor_from stream m.time packet) else None)
   last_after = last-push stream open_at events (Arrive path packet) ∙ ap (or_else _) no_last ∙ rw (hearing, no_last, ← at.time) (by_test (can_anchor stream m.time packet))
     where
@@ -191,7 +191,7 @@ module _ (stream : Stream) (open_at : ℤ) (m : MergeState) (media : ℤ) (s : I
     ended = ap (λ (x : MergeState). x.ended) step.changed;
   })
 
--- a merge that takes its first packet, and one that refuses it, stay sound
+-- a merge that takes its first packet, or refuses it, stays sound
 pub sound_refused : (m : MergeState) (media : ℤ) (path : ℕ) (fate : Fate) (counts' : Tally) (probations' : List Probation) → IsSound m media → m.counts.arrived < 2 ^ 62 → is_taken_fate fate ≡ false → counts' ≡ with_fate m.counts path fate → IsSound (record m { counts = counts'; probations = probations' }) media
 sound_refused m media path fate counts' probations' s room untaken is_counts = rw is_counts (record {
   spec_ok = s.spec_ok;

@@ -1,4 +1,4 @@
--- A full number is recovered from its 16 bits, and counts as it was sent.
+-- A full number is recovered from its 16 bits, and the packet counts as it was sent.
 use Rattle.std.proofs.Common.{◌≡◌, ℕ, ◌+◌, ◌<◌, ◌≤◌, Bool, true, false, ◌&&◌, List, [], ◌∷◌, ℤ, pos, ◌+ℤ◌, ◌-ℤ◌, ◌≤ℤ◌, ◌<ℤ◌, ⊎_elim, inl, inr, ◌⊎◌, unsigned_abs, refl, sym, ap, ◌∙◌, arith, if◌then◌else◌}
 use Rattle.std.specs.Prelude.{int_le, int_lt, nat_eq, nat_le, nat_lt}
 use Rattle.std.specs.Int.{int_rem_euclid}
@@ -25,7 +25,7 @@ low_bits_are z = sym (size_is (int_rem_euclid z (pos 65536)) (rem_bounds 65536 z
 low_bits_small : (z : ℤ) → low_bits_of z < 65536
 low_bits_small z = omega (arith, ints, low_bits_are z, (rem_bounds 65536 z (omega arith)).1)
 
--- a number that lies within half a cycle of another is the nearest to it with its low bits
+-- a number within half a cycle of another is the nearest to it with its low bits
 pub number_recovered : (next : ℕ) (z : ℤ) → IsNear 32768 next z → nearest_number 32768 (low_bits_of z) (pos next) ≡ z
 number_recovered next z near =
     let nearest : IsNearest 32768 (low_bits_of z) (pos next) z = record { low_bits = low_bits_are z; not_below = near.0; below = near.1 } in
@@ -45,7 +45,7 @@ lt_same a b = by_test (nat_lt a b) refl
     by_test true is = let lt : a < b = grind (arith, nat_tests, is) in sym (grind (arith, ints, lt))
     by_test false is = let le : b ≤ a = grind (arith, nat_tests, is) in sym (grind (arith, ints, le))
 
--- the copy that an arrival gives, if it counts
+-- the copy of an arrival, if it counts
 abbrev pub one_copy : Bool → ℕ → Packet → List (ℕ × Packet)
 one_copy b n packet = if b then (n, packet) ∷ [] else []
 
@@ -53,7 +53,7 @@ one_copy b n packet = if b then (n, packet) ∷ [] else []
 abbrev is_within : Stream → ℕ → ℤ → Bool
 is_within stream next number = int_le (pos next) number && int_lt number (pos (next + stream.window))
 
--- what is received counts exactly as what was sent
+-- a packet counts as received exactly as it does as sent
 abbrev pub CountsAsSent : Stream → Anchor → ℕ → SentPacket → Type 0
 CountsAsSent stream anchor next packet =
     one_copy (is_in_time stream anchor next (wire_packet stream anchor packet)) (extended_number (wire_packet stream anchor packet) next) (wire_packet stream anchor packet)
@@ -86,7 +86,7 @@ module _ (stream : Stream) (anchor : Anchor) where
       ap (λ b. one_copy b (extended_number (wire_packet stream anchor packet) next) (wire_packet stream anchor packet)) in_time
       ∙ ap (λ n. one_copy (is_within stream next packet.number) n (wire_packet stream anchor packet)) number
 
-  -- farther away it is no copy in time, neither as sent nor as received: its timestamp is that of another number
+  -- farther away a packet is no copy in time, neither as sent nor as received: its timestamp is that of another number
   pub far_counts : is_packet_time stream.frames ≡ true → stream.window ≤ 16384 → (next : ℕ) (packet : SentPacket) → 65536 ≤ next → IsNear 33554432 next packet.number → CountsAsSent stream anchor next packet
   far_counts time narrow next packet some far = by_reach (int_le (pos next -ℤ pos 32768) packet.number) (int_lt packet.number (pos next +ℤ pos 32768)) refl refl
     where

@@ -24,7 +24,7 @@ use Rattle.rtp_stream.specs.declared.mark.MarkKind.{MarkKind}
 use Rattle.rtp_stream.specs.declared.mark.MarkKind.TheVariants.{End, Quiet, Slot}
 use Rattle.rtp_stream.specs.declared.packet.Packet.{Packet}
 
--- the slots that an event gives, by their epoch and number
+-- the slots of an event, by their epoch and number
 between_names : (stream : Stream) (copies : List (ℕ × Packet)) (o : Option Anchor) (from to : ℤ) → slot_names (slots_between stream copies o from to) ≡ slots_reached stream o from to
 between_names stream copies None from to = refl
 between_names stream copies (Some a) from to = run_names stream a copies (next_number stream a from) (next_number stream a to - next_number stream a from)

@@ -33,7 +33,7 @@ never_both : (a b : Bool) → (a || b) ≡ false → (a ≡ false) × (b ≡ fal
 never_both false b e = (refl, e)
 never_both true b e = absurd (cc)
 
--- with the end, all were taken
+-- if the end was taken, all marks were
 end_last : (xs : List MarkView) (last : MarkView) (k : ℕ) → has_end xs ≡ false → has_end (take k (xs ++ last ∷ [])) ≡ true → length (xs ++ last ∷ []) ≤ k
 end_last xs last zero none e = absurd (false≢true e)
 end_last [] last (suc k) none e = omega arith
@@ -65,7 +65,7 @@ given_all m e stream open_at events k some h = by_closed m.closed refl
 pub given_all_yet : (m : MergeState) → m.closed ≡ false → HasGivenAll m
 given_all_yet m open_yet stream open_at events k some h = h.all_given (sym h.closed ∙ open_yet)
 
--- where none is left, all were given
+-- if no mark is left, all marks were returned
 pub given_all_left : (m : MergeState) → next_left m ≡ None → HasGivenAll m
 given_all_left m none = by_tests m.closed m.ended refl refl none
   where

@@ -1,4 +1,4 @@
--- An arrival that is heard, by the probation and the track that the code computes.
+-- An arrival that counts, by the probation and the track that the code computes.
 use Rattle.std.proofs.Common.{◌≡◌, ℕ, ◌≤◌, Bool, true, false, ◌&&◌, ◌||◌, List, Option, Some, None, ℤ, refl, sym, ap, ◌∙◌, arith, if◌then◌else◌}
 use Rattle.std.specs.Prelude.{nat_eq}
 use Rattle.path_merge.specs.MergeState.{MergeState}

@@ -54,7 +54,7 @@ other_tags : (z : Anchor) (copies : List (ℕ × Packet)) (epoch : ℕ) → nat_
 other_tags z [] epoch other = refl
 other_tags z (x ∷ xs) epoch other = rw other (other_tags z xs epoch other)
 
--- a packet that goes on from an epoch is in step with it
+-- a packet that continues the numbers of an epoch is in step with it
 on_both : (x y : Bool) → (x && y) ≡ true → (not x || not y) ≡ false
 on_both true true e = refl
 on_both true false e = cc
@@ -74,7 +74,7 @@ module _ (stream : Stream) (open_at : ℤ) (some : 0 < stream.frames) where
       ∙ ap (λ t. nat_eq packet.ssrc a.source && is_on_grid stream a (extended_number packet next) t) stamp)
       ∙ go)
 
-  -- each later epoch begins past all that was heard in the one before, if its numbers go on
+  -- each later epoch begins past all that was heard in the epoch before, if the sender's numbers go on
   abbrev pub PastFrom : List Event → Anchor → List (ℕ × Anchor) → Type 0
   PastFrom events a [] = Unit {0}
   PastFrom events a ((place, b) ∷ later) =
@@ -189,7 +189,7 @@ module _ (stream : Stream) (open_at : ℤ) (some : 0 < stream.frames) where
 
   -- the slots of a history, mark by mark
   module _ (events : List Event) (shift : ℕ → ℤ) where
-    -- on the way through the spans, at this number of an anchor's epoch: all that was heard is below this limit
+    -- at this number of an anchor's epoch, all numbers that were heard so far are below this limit
     record IsAt (limit : ℤ) (a : Anchor) (later : List (ℕ × Anchor)) (n : ℕ) (far : ℤ) : Type 0 where
       shifts : (epoch : ℕ) → a.epoch ≤ epoch → shift epoch ≡ shift_from stream open_at events epoch far a later
       epochs : a.epoch ∷ epochs_in later ≡ numbers_from a.epoch (suc (length later))
@@ -274,7 +274,7 @@ module _ (stream : Stream) (open_at : ℤ) (some : 0 < stream.frames) where
     walk [] = λ limit a later n count far at names all. tt
     walk (mark ∷ marks) = walk_more mark marks (walk marks)
 
-    -- without an anchor no slot is heard
+    -- without slots no number is heard
     none_heard : (limit : ℤ) (marks : List MarkView) → slot_names marks ≡ [] → RisesFrom limit (heard_among shift marks)
     none_heard limit [] none = tt
     none_heard limit (mark ∷ marks) none = by_kind mark.kind none (none_heard limit marks)

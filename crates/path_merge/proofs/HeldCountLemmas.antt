@@ -41,7 +41,7 @@ held_count-last h n (suc count) =
     let last = ap (λ k. held_count h (suc n) count + (if is_some (get h k) then 1 else 0)) later in
     omega (arith, rest, last)
 
--- the front is taken
+-- the number of packets held after the one at the base was taken
 pub held_count-taken : (g h : FinMap nat_cmp Packet) (base size : ℕ) → 0 < size → get g (base + size) ≡ None → ((n : ℕ) → get h n ≡ (if nat_eq n base then None else get g n)) → held_count g base size ≡ (if is_some (get g base) then 1 else 0) + held_count h (base + 1) size
 held_count-taken g h base zero some beyond taken = absurd (omega (arith, some))
 held_count-taken g h base (suc size) some beyond taken =
@@ -76,7 +76,7 @@ held_count-put g h packet number base (suc size) low high none put = by_first (�
         let one = ap (λ (o : Option Packet). (if is_some o then 1 else 0) + held_count h (suc base) size) now in
         omega (arith, rest, one)
 
--- the counts with a slot of what the base has
+-- the counts after one more slot, with the packet at the base if there is one
 pub record SlotCounts (t u : Tally) (o : Option Packet) : Type 0 where
   pub restarts : u.restarts ≡ t.restarts
   pub arrived : u.arrived ≡ t.arrived

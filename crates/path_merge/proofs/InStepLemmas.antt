@@ -16,7 +16,7 @@ use Rattle.rtp_stream.specs.declared.fate.Fate.{Fate}
 use Rattle.rtp_stream.specs.declared.fate.Fate.TheVariants.{Ahead, Late, OffGrid, WrongSource}
 use Rattle.rtp_stream.specs.declared.packet.Packet.{Packet}
 
--- it is in step
+-- a packet with a place is in step
 pub placed_in_step : (stream : Stream) (room : ℕ) (a : Anchor) (next : ℕ) (packet : Packet) (number : ℕ) → Ok number ≡ place_of (in_room stream room) a next packet → is_off stream a next packet ≡ false
 placed_in_step stream room a next packet number is = by_tests (nat_eq packet.ssrc a.source) (is_on_grid stream a (extended_number packet next) packet.ts) (nat_lt (extended_number packet next) next) (nat_lt (extended_number packet next) (next + room)) is
   where
@@ -31,7 +31,7 @@ module _ (m : MergeState) (a : Anchor) (path : ℕ) (packet : Packet) (plain : i
   room_whole = rw plain refl
 
   module _ (on : is_off m.spec a m.base packet ≡ false) where
-    -- it opens no epoch
+    -- a packet in step opens no epoch
     pub in_step_stays : opens_epoch m a path packet ≡ false
     in_step_stays =
         ap (λ off. is_some (if is_source_wanted m.spec.ssrc packet.ssrc && (is_complete (probation_heard m.spec (probation_at m.probations path) off packet) || is_slip_by m.spec a m.base m.tracks path packet) then epoch_media m a packet else None)) on

@@ -124,7 +124,7 @@ marks_gained stream open_at some events (Arrive path packet) well_timed = ([], a
 marks_gained stream open_at some events (Tick u) well_timed = (_, marks_of-tick stream open_at events u (well_timed_tick open_at events u well_timed).open_yet)
 marks_gained stream open_at some events Close well_timed = (_, marks_of-close stream open_at events)
 
--- what is given stays
+-- marks that were produced do not change
 pub marks_stay : (stream : Stream) (open_at : ℤ) → 0 < stream.frames → (events more : List Event) → is_well_timed open_at (events ++ more) ≡ true → take (length (marks_of stream open_at events)) (marks_of stream open_at (events ++ more)) ≡ marks_of stream open_at events
 marks_stay stream open_at some events = by_last_event (λ more. is_well_timed open_at (events ++ more) ≡ true → take (length (marks_of stream open_at events)) (marks_of stream open_at (events ++ more)) ≡ marks_of stream open_at events)
     (λ well_timed. ap (λ l. take (length (marks_of stream open_at events)) (marks_of stream open_at l)) (append-nil events) ∙ take_all (marks_of stream open_at events) _ refl)

@@ -24,7 +24,7 @@ use Rattle.rtp_stream.specs.declared.mark.MarkKind.{MarkKind}
 use Rattle.rtp_stream.specs.declared.mark.MarkKind.TheVariants.{End, Quiet, Slot}
 use Rattle.rtp_stream.specs.declared.packet.Packet.{Packet}
 
--- what a close adds
+-- the marks with those of a close are a mark list
 closed_listed : (stream : Stream) (o : Option Anchor) (time : ℤ) (held : ℕ) (copies : List (ℕ × Packet)) (marks : List MarkView) → 0 < stream.frames → IsShaped stream o time held marks → is_mark_list (format_of stream) (marks ++ (slots_at_close stream copies o time ++ end_mark stream ∷ [])) ≡ true
 closed_listed stream o time held copies marks some shaped =
     is_mark_list_after-append (format_of stream) None marks (slots_at_close stream copies o time ++ end_mark stream ∷ [])

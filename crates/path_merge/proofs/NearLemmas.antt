@@ -25,7 +25,7 @@ on_grid_completes_none : (stream : Stream) (heard : List (Bool × Packet)) (pack
 on_grid_completes_none stream heard packet = complete_is stream (heard ++ (false, packet) ∷ []) ∙ ap is_complete (probation_of-push stream heard (false, packet))
 
 module _ (stream : Stream) (open_at : ℤ) (plain : is_following stream.clock ≡ false) (before : List Event) (path : ℕ) (packet : Packet) (place : ℕ) (a : Anchor) (on : is_off stream a (next_number stream a (time_of open_at before)) packet ≡ false) (within : place < length before) (counts : is_counting before ≡ true) where
-  -- so it opens no epoch
+  -- a packet on the grid opens no epoch
   opens_none : can_restart stream open_at place a before path packet ≡ false
   opens_none = by_wanted (is_source_wanted stream.ssrc packet.ssrc) refl (continues_media_time stream (time_of open_at before) a packet) (is_all_given stream open_at place a before)
     where

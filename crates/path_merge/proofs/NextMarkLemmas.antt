@@ -1,4 +1,4 @@
--- The mark that a merge gives next, against what it is after it.
+-- The mark that a merge returns next, compared with the mark of its history.
 use Rattle.std.proofs.Common.{◌≡◌, ℕ, zero, suc, ◌+◌, ◌<◌, ◌≤◌, Bool, true, false, Option, Some, None, IsSome, List, ℤ, pos, ◌-ℤ◌, ◌≤ℤ◌, ◌<ℤ◌, refl, sym, ap, subst, ◌∙◌, arith, if◌then◌else◌}
 use Rattle.std.specs.Prelude.{int_le, is_some, nat_eq}
 use Rattle.std.specs.Ordering.{nat_cmp}
@@ -74,7 +74,7 @@ held_some h n (suc count) some = by_first (is_some (get h n)) refl (held_some h 
         let later = rest (ap (λ k. nat_eq k 0) same ∙ some) in
         (later.0, omega (arith, later.1), later.2)
 
--- none are held
+-- no packet is held
 held_none : (h : FinMap nat_cmp Packet) (n count : ℕ) → held_count h n count ≡ 0 → (k : ℕ) → n ≤ k → k < n + count → IsSome (get h k) → ⊥
 held_none h n zero none k low high some = absurd (omega (arith, low, high))
 held_none h n (suc count) none k low high some = by_first (is_some (get h n)) refl (λ rest later. held_none h (suc n) count rest k later (omega (arith, high)) some) none
@@ -106,7 +106,7 @@ left_more m a is = by_anchor m.anchor refl is
     by_anchor None e is = cc
     by_anchor (Some b) e is = by_test b (nat_eq (held_count m.held m.base m.spec.window) 0) e refl is
 
--- what is held lies within the window's width of the base
+-- what is held is within the window's width of the base
 in_width : (m : MergeState) (media : ℤ) (a : Anchor) → IsAnchored m media a → (n : ℕ) → IsSome (get m.held n) → n < m.base + m.spec.window
 in_width m media a an n some = omega (arith, an.held_high n some, an.next_low)
 
@@ -136,7 +136,7 @@ left_none_is m media a an is_a below =
     let none : nat_eq (held_count m.held m.base m.spec.window) 0 ≡ true = grind (arith, nat_tests, count) in
     rw (is_a, none)
 
--- the next mark, by the tests that tell it
+-- the next mark, by the results of the tests
 pub next_is : (m : MergeState) (now : ℤ) (o : Option Anchor) → anchor_due m now ≡ o → next_mark m now ≡ slot_or_quiet m now o
 next_is m now o is = ap (slot_or_quiet m now) is
 
@@ -164,7 +164,7 @@ drains_end_left stream open_at m media s events k at shut unended none =
     subst (λ o. Drains stream open_at (record m { ended = true }) events k o) (sym (left_mark_is m None shut unended none))
     (end_mark_is stream open_at (record m { ended = true }) events k m.spec at.spec (drains_end stream open_at m media s events k at shut unended m.base (omega arith) (left_none m media s none)))
 
--- time passes, and a Quiet is given where the reading tells new silence
+-- the time moves, and a Quiet is produced if it is later than the last one
 pub time_passes_quiet : (m : MergeState) (now t' q' : ℤ) → is_quiet_due (no_slot_of m.counts) m.quiet (now -ℤ pos m.spec.latency) ≡ true → t' ≡ now → q' ≡ now -ℤ pos m.spec.latency → IsTimeStep m.spec m (record m { time = t'; quiet = q' }) now (no_slot_of m.counts) (quiet_next m now)
 time_passes_quiet m now t' q' tells is_t is_q = record { changed = (time_step_gives m now t' q' (now -ℤ pos m.spec.latency) (no_slot_of m.counts) tells is_t is_q refl).changed; mark = refl }
 

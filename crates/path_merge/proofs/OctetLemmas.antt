@@ -21,7 +21,7 @@ one_more (suc m) (s ∷ a) (t ∷ b) la lb = by_test (nat_eq s t) (one_more m a 
 pub same_more : (m k : ℕ) (a b : List ℕ) → suc m ≡ k → m < length a → m < length b → bytes_eq (take k a) (take k b) ≡ (bytes_eq (take m a) (take m b) && nat_eq (slice_index_or a m 0) (slice_index_or b m 0))
 same_more m k a b is la lb = subst (λ k. bytes_eq (take k a) (take k b) ≡ (bytes_eq (take m a) (take m b) && nat_eq (slice_index_or a m 0) (slice_index_or b m 0))) is (one_more m a b la lb)
 
--- where they are the same up to a place, the rest decides
+-- if two lists are the same up to a place, the rest decides
 pub same_rest : (m : ℕ) (a b : List ℕ) → bytes_eq (take m a) (take m b) ≡ true → bytes_eq (drop m a) (drop m b) ≡ bytes_eq a b
 same_rest zero a b same = refl
 same_rest (suc m) [] [] same = refl

@@ -1,4 +1,4 @@
--- An offer under an anchor takes the history on, whether it opens an epoch or not.
+-- An offer under an anchor extends the history, whether it opens an epoch or not.
 use Rattle.std.proofs.Common.{◌≡◌, ℕ, ◌^◌, ◌<◌, ◌≤◌, Bool, true, false, not, ◌&&◌, List, [], ◌∷◌, ◌++◌, length, Option, Some, None, Result, Ok, Err, ℤ, refl, sym, ap, subst, ◌∙◌, arith, append-nil, if◌then◌else◌}
 use Rattle.std.specs.Prelude.{nat_eq, nat_lt}
 use Rattle.std.specs.FinMap.{get}
@@ -177,7 +177,7 @@ module _ (stream : Stream) (open_at : ℤ) (m : MergeState) (media : ℤ) (s : I
   tracked_before : (on : ℕ) → on < 4 → track_at m.tracks on ≡ track_of (standings_on on (standings_since stream open_at place a events))
   tracked_before on few_on = was_track stream open_at m media s open_yet events k at room a is_a place last path packet few_paths on few_on
 
-  -- by the tests of an arrival that may be judged
+  -- the standings on the other paths stay the same
   on_other : (on : ℕ) → nat_eq path on ≡ false → standings_on on (standings_since stream open_at place a events ++ standings_at stream a open_at (standings_since stream open_at place a events) events (Arrive path packet)) ≡ standings_on on (standings_since stream open_at place a events)
   on_other on apart = by_test (is_following stream.clock && (is_counting events && is_source_wanted stream.ssrc packet.ssrc)) (standing_after stream a (next_number stream a (time_of open_at events)) (standings_since stream open_at place a events) path packet) refl
     where
@@ -268,7 +268,7 @@ module _ (m new : MergeState) (a : Anchor) (path : ℕ) (packet : Packet) (fate 
       (λ e step. ap is_counted_fate step.puts.fate_is ∙ counts_at (in_room m.spec (room_by m.spec a m.base m.tracks)) a m.base packet (get m.held))
       (λ e step. ap is_counted_fate step.fate_is)
 
-  -- it takes the history on, with the fate of the definition
+  -- an offer extends the history, with the fate of the definition
   pub offers_anchored : (stream : Stream) (open_at : ℤ) (media : ℤ) → IsSound m media → m.closed ≡ false → (events : List Event) (k : ℕ) → HasHistory stream open_at m events k → m.counts.arrived < 2 ^ 62 → m.anchor ≡ Some a → path < 4 → packet.seq < 65536 → packet.ts < 2 ^ 32 → Offers stream open_at new events k path packet fate
   offers_anchored stream open_at media s open_yet events k at room is_a few_paths seq ts = by_last (last_of (anchors_of stream open_at events)) refl (sym (anchor_is stream open_at events) ∙ sym at.anchor ∙ is_a)
     where

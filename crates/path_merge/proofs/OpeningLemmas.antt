@@ -26,7 +26,7 @@ module _ (m : MergeState) (media : ℤ) (a : Anchor) (s : IsSound m media) (is_a
   pub nothing_held : holds_nothing m ≡ true → IsEmpty m.held
   nothing_held none n = no_packet (get m.held n) (λ some. absurd (grind (arith, nat_tests, none, some_held n some)))
 
-  -- one past the greatest number that is held tells it
+  -- nothing is held exactly if the end of what is held is at most the base
   pub nothing_is : (e : ℕ) → ((n : ℕ) → m.base ≤ n → IsSome (get m.held n) → n < e) → (m.base < e → IsSome (get m.held (e - 1))) → holds_nothing m ≡ nat_le e m.base
   nothing_is e past_all reached = ⊎_elim
       (λ lt. let some : 0 < held_count m.held m.base m.spec.window = some_held (e - 1) (reached lt) in grind (arith, nat_tests, some, lt))
@@ -40,7 +40,7 @@ epoch_media_is m a packet none reach is_none in_reach = rw (is_none, in_reach) r
 pub epoch_media_none : (m : MergeState) (a : Anchor) (packet : Packet) → holds_nothing m ≡ false → None ≡ epoch_media m a packet
 epoch_media_none m a packet some = rw some refl
 
--- what holds where a packet opens an epoch
+-- the facts of a packet that opens an epoch
 pub record Opens (m : MergeState) (a : Anchor) (packet : Packet) (media : ℤ) : Type 0 where
   pub nothing : holds_nothing m ≡ true
   pub media_is : media ≡ restart_media_time m.spec.clock packet.ts m.time (media_time_of m.spec a m.base)

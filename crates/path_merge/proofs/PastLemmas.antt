@@ -25,7 +25,7 @@ use Rattle.rtp_stream.specs.declared.fate.Fate.TheVariants.{Ahead, Closed, Count
 use Rattle.rtp_stream.specs.declared.fate.Put.TheVariants.{Double, Unlike}
 use Rattle.rtp_stream.specs.declared.packet.Packet.{Packet}
 
--- only what opens an epoch has the fate of it
+-- only an arrival that opens an epoch has the fate Restarted
 put_never : (o : Option Packet) (packet : Packet) → fate_of_put (put_answer o packet) ≡ Restarted → ⊥
 put_never None packet e = cc
 put_never (Some first) packet e = by_same (bytes_eq first.payload.items packet.payload.items) e
@@ -60,7 +60,7 @@ opens_by_fate stream open_at events path packet = by_tests (is_closed events) (n
     by_tests false false o e = cc
     by_tests true r o e = cc
 
--- what stands astray is past what both the end and the number due next are past
+-- an arrival that is astray has a number of at least the limit, if neither the end nor the number due next is below it
 astray_past : (limit end next n : ℕ) (off l e b r : Bool) → nat_le end n ≡ e → nat_le next n ≡ b → limit ≤ end → limit ≤ next → ((not off && (l && e)) || (not off && (b && r))) ≡ true → limit ≤ n
 astray_past limit end next n true l e b r is_e is_b low high is = cc
 astray_past limit end next n false true true b r is_e is_b low high is = let le : end ≤ n = grind (arith, nat_tests, is_e) in omega (arith, low, le)
@@ -69,13 +69,13 @@ astray_past limit end next n false false e true r is_e is_b low high is = let le
 astray_past limit end next n false true false false r is_e is_b low high is = cc
 astray_past limit end next n false false e false r is_e is_b low high is = cc
 
--- a number is past all that was heard under an anchor
+-- this number is past all numbers that were heard under an anchor
 pub record IsPast (a : Anchor) (copies : List (ℕ × Packet)) (n : ℕ) : Type 0 where
   pub from_anchor : a.number ≤ n
   pub past : end_of_copies copies ≤ n
 
 module _ (stream : Stream) (open_at : ℤ) (some : 0 < stream.frames) (events : List Event) (path : ℕ) (packet : Packet) (place : ℕ) (a : Anchor) where
-  -- a packet in step completes no probation, so it opens an epoch only where its sender is astray
+  -- a packet in step completes no probation, so it opens an epoch only if its sender is astray
   slips : place < length events → is_counting events ≡ true → is_off stream a (next_number stream a (time_of open_at events)) packet ≡ false → is_source_wanted stream.ssrc packet.ssrc ≡ true → (completes_probation stream (heard_since stream open_at place a (events ++ Arrive path packet ∷ []) path) || is_slip stream open_at place a events path packet) ≡ true → is_slip stream open_at place a events path packet ≡ true
   slips within counts on wanted either = sym (ap (λ c. c || is_slip stream open_at place a events path packet) none) ∙ either
     where

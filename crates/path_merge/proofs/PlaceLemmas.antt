@@ -1,4 +1,4 @@
--- The place of a packet, or why it has none, and the fate at it.
+-- The place of a packet, or the reason why it has none, and the fate at it.
 use Rattle.std.proofs.Common.{◌≡◌, ℕ, ◌+◌, ◌*◌, ◌<◌, ◌≤◌, Bool, true, false, not, Option, Some, None, Result, Ok, Err, ℤ, pos, ◌+ℤ◌, ◌-ℤ◌, refl, sym, ap, subst, arith, if◌then◌else◌}
 use Rattle.std.specs.Prelude.{nat_eq, nat_lt, nat_le, int_le, bytes_eq}
 use Rattle.std.proofs.lemmas.Bool.Decides.{nat_tests}
@@ -59,7 +59,7 @@ fault_in (Ok number) = Taken
 fault_in (Err fault) = fault
 
 module _ (stream : Stream) (a : Anchor) (next : ℕ) (packet : Packet) where
-  -- what the four tests come to
+  -- the result of the four tests
   abbrev place_by : (source grid low high : Bool) → Result ℕ Fate
   place_by source grid low high = if not source then Err WrongSource else if not grid then Err OffGrid else if low then Err Late else if not high then Err Ahead else Ok (extended_number packet next)
 
@@ -97,7 +97,7 @@ module _ (stream : Stream) (a : Anchor) (next : ℕ) (packet : Packet) where
       by_place (Err fault) is = (has_no_place fault is).counted
       by_place (Ok number) is = put_counted (put_answer (first number) packet)
 
--- and so does that of a first one
+-- the fate of a packet that would be the first is counted too
 pub first_counts : (stream : Stream) (time : ℤ) (packet : Packet) → is_counted_fate (first_fate stream time packet) ≡ true
 first_counts stream time packet = by_tests (not (is_source_wanted stream.ssrc packet.ssrc)) (int_le (first_media_time stream.clock packet.ts time) (time -ℤ pos stream.latency)) (int_le (time -ℤ pos stream.latency +ℤ pos (stream.window * stream.frames)) (first_media_time stream.clock packet.ts time))
   where

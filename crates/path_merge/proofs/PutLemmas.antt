@@ -1,4 +1,4 @@
--- A packet that is put: what it leaves of the model's invariant, of what is held, and of the counts.
+-- A packet that is put: the invariant of the model, what is held, and the counts after it.
 use Rattle.std.proofs.Common.{◌≡◌, ℕ, ◌+◌, ◌^◌, ◌<◌, ◌≤◌, Bool, true, false, ◌&&◌, Option, Some, None, Ok, Err, IsSome, ℤ, refl, sym, ap, subst, ◌∙◌, arith, if◌then◌else◌}
 use Rattle.std.specs.Prelude.{nat_eq, bytes_eq, List}
 use Rattle.std.specs.Ordering.{nat_cmp}

@@ -66,7 +66,7 @@ module _ (stream : Stream) (open_at : ℤ) (m : MergeState) (events : List Event
   still : IsOpen open_at way.so_far
   still = record { well_timed = way.stands.well_timed; open_yet = sym way.stands.closed ∙ open_yet }
 
-  -- so far it is as if the reading were of its time
+  -- so far the history has the effect of a reading of the merge's time
   there : IsAlike stream open_at way.so_far (events ++ Tick m.time ∷ [])
   there =
       let time : time_of open_at way.so_far ≡ m.time = sym way.stands.time in

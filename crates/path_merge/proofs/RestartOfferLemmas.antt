@@ -113,7 +113,7 @@ pub standings_on-other : (on : ℕ) (standings : List Standing) (s : Standing) �
 standings_on-other on [] s apart = rw apart refl
 standings_on-other on (x ∷ standings) s apart = ap (λ l. if nat_eq x.path on then x ∷ l else l) (standings_on-other on standings s apart)
 
--- the same on each of four paths
+-- the emptying of a stream is the same if it is the same on each of four paths
 pub empties_same : (a : Anchor) (next : ℕ) (e f : ℕ → Bool) (n o : ℕ → ℕ) → ((path : ℕ) → path < 4 → e path ≡ f path) → ((path : ℕ) → path < 4 → n path ≡ o path) → empties a next e n ≡ empties a next f o
 empties_same a next e f n o early ends =
     let e0 = early 0 (omega arith) in
@@ -164,7 +164,7 @@ module _ (stream : Stream) (open_at : ℤ) (m : MergeState) (media : ℤ) (s : I
     pub next_is : m.base ≡ next_number stream a m.time
     next_is = rw at.spec at (anchored_at m media m.anchor a is_a s.anchored).next_open open_yet
 
-    -- the merge tells whether it does
+    -- the merge's probation and track show whether the arrival opens an epoch
     pub heard_here : is_source_wanted stream.ssrc packet.ssrc ≡ true → heard_since stream open_at place a (events ++ Arrive path packet ∷ []) path ≡ heard_since stream open_at place a events path ++ (is_off stream a m.base packet, packet) ∷ []
     heard_here wanted =
         heard_of-push stream open_at (Some (place, a)) events (Arrive path packet) path (subst (WithinLength (length events)) last (place_within stream open_at events))
@@ -178,7 +178,7 @@ module _ (stream : Stream) (open_at : ℤ) (m : MergeState) (media : ℤ) (s : I
         ∙ ap (λ p. is_complete (probation_after stream p (is_off stream a m.base packet, packet))) (sym (at.probation path few_paths ∙ ap (λ o. probation_of stream (heard_of stream open_at o events path)) last))
         ∙ sym (rw wanted refl)
 
-    -- how arrivals stand since the anchor, and what the tracks keep of it
+    -- the standings since the anchor, and the tracks that keep them
     abbrev standings_now : List Standing
     standings_now = standings_since stream open_at place a events
 
@@ -265,7 +265,7 @@ module _ (stream : Stream) (open_at : ℤ) (m : MergeState) (media : ℤ) (s : I
         by_tests false c c' g g' r r' z same is_g is_r = in_order false g r z ∙ ap (λ b. r && (b && false)) is_g ∙ ap (λ b. b && (g' && false)) is_r
         by_tests true c c' g g' r r' z same is_g is_r = in_order c g r z ∙ ap (λ b. r && (g && b)) (same refl) ∙ ap (λ b. r && (b && c')) is_g ∙ ap (λ b. b && (g' && c')) is_r
 
-    -- what is known where it does
+    -- the facts if the arrival opens an epoch
     module _ (opens : can_restart stream open_at place a events path packet ≡ true) (seq : packet.seq < 65536) (ts : packet.ts < 2 ^ 32) where
       abbrev media_then : ℤ
       media_then = restart_media_time stream.clock packet.ts m.time (media_time_of stream a m.base)
@@ -293,7 +293,7 @@ module _ (stream : Stream) (open_at : ℤ) (m : MergeState) (media : ℤ) (s : I
           ∙ ap (λ r. copies_under (in_room stream r) (time_of open_at events) (is_counting events) (Some (restart_from stream m.time a m.base packet)) packet) (room_made stream open_at (restart_from stream m.time a m.base packet) events)
           ∙ rw (← at.time, hears room) (own_copy (in_room stream stream.window) m.time packet (a.epoch + 1) (restart_media_time stream.clock packet.ts m.time (media_time_of stream a m.base)) some_frames (rw at.spec at (some_window m.spec s.spec_ok)) seq ts first.after)
 
-      -- no slot of it yet
+      -- the new epoch has no slot yet
       none_yet : slot_count (a.epoch + 1) (marks_of stream open_at events) ≡ 0
       none_yet = none_above (a.epoch + 1) (marks_of stream open_at events) (subst (λ o. AllSlotsBelow (limit_of stream o) (marks_of stream open_at events)) (sym at.anchor ∙ is_a) (rw (marks_of-in stream open_at events) (slots_below stream open_at some_frames (copies_of_all stream open_at events) events at.well_timed shut)))
 
@@ -303,7 +303,7 @@ module _ (stream : Stream) (open_at : ℤ) (m : MergeState) (media : ℤ) (s : I
           by_count : (n : ℕ) → n < 2 ^ 62 → (if not (nat_lt n (2 ^ 62)) then CountersFull else Restarted) ≡ Restarted
           by_count n h = let yes : nat_lt n (2 ^ 62) ≡ true = grind (arith, nat_tests, h) in rw yes refl
 
-      -- so the merge stands at the history with the arrival, in the new epoch
+      -- the merge has the history with the arrival, in the new epoch
       pub stands_restart : (new : MergeState) (fate : Fate) → IsRestartStep stream m new a path packet fate → HasHistory stream open_at new (events ++ Arrive path packet ∷ []) k
       stands_restart new fate step = stands_after_arrival stream open_at some_frames m new events k path packet at open_yet (few room) (record {
         spec = ap (λ (x : MergeState). x.spec) step.changed;

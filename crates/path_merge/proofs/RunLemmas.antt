@@ -104,7 +104,7 @@ all_false true b c x y z e = cc
 all_false false true c x y z e = cc
 all_false false false true x y z e = cc
 
--- what no fault means
+-- a clock reading without a fault is in order
 pub no_fault : (time : ℤ) (closed : Bool) (now : ℤ) → clock_fault_of time closed now ≡ None → (time ≤ℤ now) × (now ≤ℤ pos (2 ^ 60)) × (closed ≡ false)
 no_fault time closed now e =
     let tests = all_false (int_lt now time) (int_lt (pos (2 ^ 60)) now) closed WentBack TooFar ClockClosed e in
@@ -128,7 +128,7 @@ module _ (stream : Stream) (open_at : ℤ) (old new : MergeState) (now : ℤ) (e
       let all : marks ++ option_to_list mark ≡ marks_of stream open_at (events ++ Tick now ∷ []) = ap (λ l. l ++ option_to_list mark) before.all ∙ sym step.gained ∙ ap (λ t. marks_of stream open_at (so_far ++ Tick t ∷ [])) stop ∙ same.marks in
       record { stands = rw (length-append marks (option_to_list mark)) (stands_alike stream open_at new (so_far ++ Tick now ∷ []) (events ++ Tick now ∷ []) (length marks + length (option_to_list mark)) same (subst (λ t. HasHistory stream open_at new (so_far ++ Tick t ∷ []) (length marks + length (option_to_list mark))) stop step.stands)); all = all }
 
--- where the time goes with a slot, and with another mark
+-- the time after a slot, and after another mark
 pub moves_by_slot : (old new : MergeState) (now : ℤ) (mark : MarkView) → is_slot mark.kind ≡ true → Moves old new now (Some mark) → (old.time <ℤ new.time) × (new.time ≤ℤ now) × (new.closed ≡ old.closed)
 moves_by_slot old new now mark slot moves = subst (MovesBy old new now) slot moves
 
@@ -166,7 +166,7 @@ drained_all stream open_at new events k marks drains all =
     zero_more : (n : ℕ) → n ≡ n + 0
     zero_more n = omega arith
 
--- what each event gives
+-- the marks of each event
 pub given_offered : (stream : Stream) (open_at : ℤ) (new : MergeState) (events : List Event) (marks : List MarkView) (path : ℕ) (packet : Packet) (answer : Fate) → marks ≡ marks_of stream open_at events → Offers stream open_at new events (length marks) path packet answer → HasGiven stream open_at new (events ++ Arrive path packet ∷ []) marks
 given_offered stream open_at new events marks path packet answer all offers = record { stands = offers.stands; all = all ∙ sym offers.kept }
 

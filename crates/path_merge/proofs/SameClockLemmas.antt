@@ -1,4 +1,4 @@
--- A history in which no arrival is behind or beyond is by the clock `Follow` what it is by the clock `Arrival`.
+-- A history in which no arrival is behind or beyond has the same fates and marks by the clocks `Follow` and `Arrival`.
 use Rattle.std.proofs.Common.{◌≡◌, ℕ, zero, suc, ◌+◌, ◌-◌, ◌^◌, Bool, true, false, not, ◌&&◌, ◌||◌, List, [], ◌∷◌, ◌++◌, length, take, drop, reverse, count_by, Option, Some, None, ℤ, pos, ◌-ℤ◌, refl, sym, ap, subst, ◌∙◌, arith, append_assoc, append-nil, if◌then◌else◌}
 use Rattle.std.specs.Prelude.{nat_le, nat_lt, nat_eq}
 use Rattle.std.proofs.lemmas.List.{reverse-append}
@@ -27,7 +27,7 @@ use Rattle.rtp_stream.specs.declared.fate.Fate.TheVariants.{Closed, CountersFull
 use Rattle.rtp_stream.specs.declared.packet.Packet.{Packet}
 use Rattle.rtp_stream.specs.declared.track.Standing.{Standing}
 
--- none of a list, of its parts, and of it the other way round
+-- no standing of a list is astray; so it is with its parts, and with the list in reverse
 none-append : (xs ys : List Standing) → NoneAstray xs → NoneAstray ys → NoneAstray (xs ++ ys)
 none-append [] ys p q = q
 none-append (x ∷ xs) ys p q = (p.0, none-append xs ys p.1 q)
@@ -62,7 +62,7 @@ count_none (x ∷ xs) p =
 few_early : (path : ℕ) (xs : List Standing) → NoneAstray xs → are_many is_beyond (standings_on path xs) ≡ false
 few_early path xs p = ap (nat_le 8) (count_none (take 64 (reverse (standings_on path xs))) (none-take 64 (reverse (standings_on path xs)) (none-reverse (standings_on path xs) (none-on path xs p))))
 
--- so the window has its room
+-- if none is astray, the window has its room
 room_calm : (stream : Stream) (a : Anchor) (next : ℕ) (xs : List Standing) → NoneAstray xs → room_after stream a next xs ≡ stream.window
 room_calm stream a next xs p =
     let e0 = few_early 0 xs p in
@@ -159,7 +159,7 @@ module _ (stream : Stream) (open_at : ℤ) where
             ap (λ l. continues_media_time (by_clock Arrival stream) (time_of open_at events) a packet && (nat_le (end_of_copies l) (next_number stream a (time_of open_at events)) && (completes_probation (by_clock Follow stream) (heard_since (by_clock Follow stream) open_at place a (events ++ Arrive path packet ∷ []) path) || is_slip (by_clock Follow stream) open_at place a events path packet))) (since_same events same place a last)
             ∙ ap (λ b. continues_media_time (by_clock Arrival stream) (time_of open_at events) a packet && (is_all_given (by_clock Arrival stream) open_at place a events && b)) (ap (λ b. completes_probation (by_clock Follow stream) (heard_since (by_clock Follow stream) open_at place a (events ++ Arrive path packet ∷ []) path) || b) (no_slip place a last counts wanted) ∙ ap (λ l. completes_probation (by_clock Follow stream) l || false) (heard_same place a (events ++ Arrive path packet ∷ []) path) ∙ sequence_same (heard_since (by_clock Arrival stream) open_at place a (events ++ Arrive path packet ∷ []) path))
 
-    -- so it makes the same anchor
+    -- so the arrival makes the same anchor
     made_same : anchors_at (by_clock Follow stream) open_at (anchors_of (by_clock Follow stream) open_at events) events (Arrive path packet) ≡ anchors_at (by_clock Arrival stream) open_at (anchors_of (by_clock Arrival stream) open_at events) events (Arrive path packet)
     made_same =
         by_counting (is_counting events) refl (last_of (anchors_of (by_clock Follow stream) open_at events)) refl

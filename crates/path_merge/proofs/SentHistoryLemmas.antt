@@ -31,7 +31,7 @@ with_epoch-append : (a : Anchor) (xs ys : List (ℕ × Packet)) → with_epoch (
 with_epoch-append a [] ys = refl
 with_epoch-append a (x ∷ xs) ys = ap (λ l. (a.epoch, x) ∷ l) (with_epoch-append a xs ys)
 
--- those of an epoch are all of them, or none
+-- the copies of an epoch are all of these, or none
 copies_in-tags : (epoch : ℕ) (a : Anchor) (copies : List (ℕ × Packet)) → copies_in epoch (with_epoch (Some a) copies) ≡ (if nat_eq a.epoch epoch then copies else [])
 copies_in-tags epoch a [] = none (nat_eq a.epoch epoch)
   where
@@ -57,7 +57,7 @@ module _ (stream : Stream) (open_at : ℤ) where
       let joined : anchors_of stream open_at (events ++ (more ++ event ∷ [])) ≡ anchors_of stream open_at (events ++ more) ++ anchors_at stream open_at (anchors_of stream open_at (events ++ more)) (events ++ more) event = ap (anchors_of stream open_at) (sym (append_assoc events more (event ∷ []))) ∙ anchors_of-push stream open_at (events ++ more) event in
       omega (arith, before, ap length joined, length-append (anchors_of stream open_at (events ++ more)) (anchors_at stream open_at (anchors_of stream open_at (events ++ more)) (events ++ more) event)))
 
-  -- and after a close there are no more
+  -- after a close there are no more anchors
   pub anchors_closed : (events more : List Event) → is_closed events ≡ true → anchors_of stream open_at (events ++ more) ≡ anchors_of stream open_at events
   anchors_closed events more shut = by_last_event (λ more. anchors_of stream open_at (events ++ more) ≡ anchors_of stream open_at events) (ap (anchors_of stream open_at) (append-nil events)) (λ more event before. ap (anchors_of stream open_at) (sym (append_assoc events more (event ∷ []))) ∙ one (events ++ more) event (closed_stays events more shut) ∙ before) more
     where
@@ -111,7 +111,7 @@ module _ (stream : Stream) (open_at : ℤ) where
       either old None high before = before
       either old (Some a) high before = high
 
-  -- so is every number that is due under it
+  -- every number that is due under the anchor is at least 65,536
   next_high : (events : List Event) (anchor : Anchor) → anchor_of stream open_at events ≡ Some anchor → (at : ℤ) → 65536 ≤ next_number stream anchor at
   next_high events anchor is at = let high = by_last (last_of (anchors_of stream open_at events)) (last_high events) (sym (anchor_is stream open_at events) ∙ is) in omega (arith, high)
     where
@@ -119,7 +119,7 @@ module _ (stream : Stream) (open_at : ℤ) where
       by_last None high e = cc
       by_last (Some (place, a)) high e = subst (λ found. IfSome found (λ b. 65536 ≤ b.number)) e high
 
-  -- an event that opens no epoch, nor any after it, leaves the anchors
+  -- if an event and those after it open no epoch, the event leaves the anchors as they are
   anchors_stay : (before : List Event) (event : Event) (rest : List Event) → OpensNoEpoch stream open_at before (event ∷ rest) → anchors_of stream open_at (before ++ event ∷ []) ≡ anchors_of stream open_at before
   anchors_stay before event rest none =
       let push = anchors_of-push stream open_at before event in
@@ -136,7 +136,7 @@ module _ (stream : Stream) (open_at : ℤ) where
       omega (arith, whole, ap length (anchors_stay before event rest none), none)
 
 module _ (stream : Stream) (anchor : Anchor) (open_at : ℤ) where
-  -- after these events, what is received of the rest is what was sent
+  -- after these events, the copies of the rest are those that were sent
   abbrev IsRecovered : List Event → List SentEvent → Type 0
   IsRecovered before after = at_places (copies_at stream open_at) before (wire_history stream anchor after) ≡ with_epoch (Some anchor) (sent_copies_after stream anchor open_at before after)
 
@@ -151,7 +151,7 @@ module _ (stream : Stream) (anchor : Anchor) (open_at : ℤ) where
       ∙ ap (λ l. with_epoch (Some anchor) (sent_copies_at stream anchor open_at before event) ++ l) rest
       ∙ sym (with_epoch-append anchor (sent_copies_at stream anchor open_at before event) (sent_copies_after stream anchor open_at (before ++ wire_event stream anchor event ∷ []) after))
 
-  -- nothing is heard after a close
+  -- an arrival after a close is no copy
   closed_first : (before : List Event) (event : SentEvent) → is_closed before ≡ true → copies_at stream open_at before (wire_event stream anchor event) ≡ with_epoch (Some anchor) (sent_copies_at stream anchor open_at before event)
   closed_first before (Ticks u) shut = refl
   closed_first before Closes shut = refl
@@ -177,13 +177,13 @@ module _ (stream : Stream) (anchor : Anchor) (open_at : ℤ) where
   pub base_high : (time : ℤ) (packet : Packet) → anchor ≡ anchor_from stream time packet → (at : ℤ) → 65536 ≤ next_number stream anchor at
   base_high time packet is at = let own = ap (λ (a : Anchor). a.number) is in omega (arith, own)
 
-  -- the anchor stays in force where the received history has one epoch
+  -- the anchor stays in force if the received history has one epoch
   base_stays : (before : List Event) (event : Event) (rest : List Event) (place : ℕ) → anchors_of stream open_at before ≡ (place, anchor) ∷ [] → IsOneEpoch stream open_at ((before ++ event ∷ []) ++ rest) → anchors_of stream open_at (before ++ event ∷ []) ≡ (place, anchor) ∷ []
   base_stays before event rest place is one =
       let push : anchors_of stream open_at (before ++ event ∷ []) ≡ (place, anchor) ∷ anchors_at stream open_at (anchors_of stream open_at before) before event = anchors_of-push stream open_at before event ∙ ap (λ l. l ++ anchors_at stream open_at (anchors_of stream open_at before) before event) is in
       push ∙ ap (λ l. (place, anchor) ∷ l) (nil_of_length (anchors_at stream open_at (anchors_of stream open_at before) before event) (omega (arith, ap length push, anchors_grow stream open_at (before ++ event ∷ []) rest, one)))
 
-  -- the marks of the rest, after these events and the marks that they gave, where these are the copies of all that was sent
+  -- the marks of the rest, after these events and their marks, if these are the copies of all that was sent
   module _ (copies : List (ℕ × Packet)) where
     abbrev IsMarked : List MarkView → List Event → List SentEvent → Type 0
     IsMarked given before after = marks_from stream open_at (with_epoch (Some anchor) copies) given before (wire_history stream anchor after) ≡ sent_marks_after stream anchor open_at copies given before after
@@ -201,7 +201,7 @@ module _ (stream : Stream) (anchor : Anchor) (open_at : ℤ) where
         ap (λ l. marks_from stream open_at (with_epoch (Some anchor) copies) (given ++ l) (before ++ wire_event stream anchor event ∷ []) (wire_history stream anchor after)) first
         ∙ rest (given ++ marks_under stream open_at (anchor_after anchor before) copies given before (wire_event stream anchor event))
 
-    -- before the anchor, under it, and after a close
+    -- the marks of an event before the anchor, under it, and after a close
     marked_unanchored : (given : List MarkView) (before : List Event) (event : Event) → anchors_of stream open_at before ≡ [] → arrival_count before ≡ 0 → IsMarkedAt given before event
     marked_unanchored given before event is none =
         let no_anchor : anchor_of stream open_at before ≡ None = anchor_is stream open_at before ∙ ap (λ l. anchor_in (last_of l)) is in
@@ -313,7 +313,7 @@ module _ (stream : Stream) (anchor : Anchor) (open_at : ℤ) where
   pub marks_recovered : IsStream stream → is_following stream.clock ≡ false → (sent : List SentEvent) → BeginsWith stream anchor open_at sent → IsWithinReach stream anchor 33554432 open_at sent → IsOneEpoch stream open_at (wire_history stream anchor sent) → marks_of stream open_at (wire_history stream anchor sent) ≡ marks_by_number stream anchor open_at sent
   marks_recovered ok plain = marks_within plain 33554432 (far_counts stream anchor ok.packet_time ok.narrow)
 
-  -- in every epoch, what is received under its anchor counts under the numbers that it was sent as
+  -- in every epoch, packets under its anchor count with the numbers that they were sent with
   pub epoch_recovered : IsStream stream → is_following stream.clock ≡ false → (before : List Event) (sent : List SentEvent) → anchor_of stream open_at before ≡ Some anchor → is_closed before ≡ false → IsWithinReach stream anchor 33554432 (time_of open_at before) sent → OpensNoEpoch stream open_at before (wire_history stream anchor sent) → copies_of_all stream open_at (before ++ wire_history stream anchor sent) ≡ copies_of_all stream open_at before ++ with_epoch (Some anchor) (sent_copies_after stream anchor open_at before sent)
   unfolding copies_of_all
   epoch_recovered ok plain before sent is still within none =

@@ -56,7 +56,7 @@ module _ (stream : Stream) (first : Anchor) where
       let product = ap (λ z. z *ℤ pos stream.frames) whole ∙ split_product ((pos a.number +ℤ far) -ℤ pos first.number) ((n -ℤ far) -ℤ pos a.number) stream.frames in
       ap unsigned_abs (rem_same 4294967296 (pos first.timestamp +ℤ (n -ℤ pos first.number) *ℤ pos stream.frames) (pos a.timestamp +ℤ ((n -ℤ far) -ℤ pos a.number) *ℤ pos stream.frames) apart.1 apart.0 (omega arith) (omega (arith, ints, apart.2, own, product)))
 
-  -- so its packet in step has it
+  -- so a packet in step has its sender's number
   pub recovered : IsStream stream → (a : Anchor) (far : ℤ) (next : ℕ) (packet : SentPacket) → IsCarried stream first a far → 65536 ≤ next → IsNear 33554432 next (packet.number -ℤ far) → is_off stream a next (wire_packet stream first packet) ≡ false → pos (extended_number (wire_packet stream first packet) next) ≡ packet.number -ℤ far
   recovered bounds a far next packet carried high near on =
       let bits = rem_bounds 65536 packet.number (omega arith) in

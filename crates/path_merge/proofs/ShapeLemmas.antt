@@ -32,7 +32,7 @@ use Rattle.rtp_stream.specs.declared.packet.Packet.{Packet}
 use Rattle.rtp_wire.specs.declared.encoding.Enc.{Enc}
 use Rattle.rtp_wire.specs.declared.encoding.Enc.TheVariants.{L16, L24}
 
--- the last of what came before and of these marks
+-- the last of these marks, or the last mark before them
 abbrev pub last_after : Option MarkKind → List MarkView → Option MarkKind
 last_after last [] = last
 last_after last (mark ∷ marks) = last_after (Some mark.kind) marks
@@ -92,7 +92,8 @@ pub record IsBeforeNext (stream : Stream) (a : Anchor) (time : ℤ) (epoch n : �
   pub next : suc n ≡ next_number stream a time
   pub media_is : media ≡ media_time_of stream a n
 
--- the last slot is of the epoch before, and ends before this one, but not by a window; this one's own packet is still held
+-- the last slot is of the epoch before, and ends before this one, but not by a window; this one's own packet is still
+-- held
 pub record IsEpochBefore (stream : Stream) (a : Anchor) (time : ℤ) (held : ℕ) (epoch : ℕ) (media : ℤ) : Type 0 where
   pub epoch_is : a.epoch ≡ epoch + 1
   pub next : next_number stream a time ≡ a.number
@@ -100,7 +101,8 @@ pub record IsEpochBefore (stream : Stream) (a : Anchor) (time : ℤ) (held : ℕ
   pub within : a.media <ℤ (media +ℤ pos stream.frames +ℤ pos (stream.window * stream.frames))
   pub own_held : a.number < held
 
--- where the last mark stands, of an open history whose copies end here; a Quiet is not past the silence so far
+-- the last mark of an open history whose copies end here may be followed by the next slot; a Quiet is at most the time
+-- minus the latency
 abbrev pub StandsLast : Stream → Option Anchor → ℤ → ℕ → Option MarkKind → Type 0
 StandsLast stream o time held None = Unit {0}
 StandsLast stream None time held (Some (Slot epoch n m body)) = ⊥
@@ -112,7 +114,7 @@ pub record IsShaped (stream : Stream) (o : Option Anchor) (time : ℤ) (held : �
   pub listed : is_mark_list (format_of stream) marks ≡ true
   pub last : StandsLast stream o time held (last_after None marks)
 
--- a slot may follow where the last mark stands
+-- a slot may follow the last mark
 pub slot_follows : (stream : Stream) (a : Anchor) (time : ℤ) (held : ℕ) (last : Option MarkKind) (body : Body) → 0 < stream.frames → StandsLast stream (Some a) time held last → can_follow stream.frames last (Slot a.epoch (next_number stream a time) (media_time_of stream a (next_number stream a time)) body) ≡ true
 slot_follows stream a time held None body some stands = refl
 slot_follows stream a time held (Some (Slot epoch n m b)) body some (inl stands) =
@@ -179,7 +181,7 @@ quiet_follows stream o time until held (Some (Quiet u)) stands l = l.1
 quiet_follows stream None time until held (Some End) stands l = absurd stands
 quiet_follows stream (Some a) time until held (Some End) stands l = absurd stands
 
--- the end may follow where the last mark stands
+-- the end may follow the last mark
 pub end_follows : (frames : ℕ) (last : Option MarkKind) → OfLast (λ kind. is_end kind ≡ false) last → can_follow frames last End ≡ true
 end_follows frames None l = refl
 end_follows frames (Some (Slot e n m b)) l = refl
@@ -197,7 +199,7 @@ pub run_no_end : (stream : Stream) (a : Anchor) (copies : List (ℕ × Packet)) 
 run_no_end stream a copies n zero = tt
 run_no_end stream a copies n (suc count) = (refl, run_no_end stream a copies (suc n) count)
 
--- later, where no deadline came
+-- the number next due is the same at both times
 same_next : Stream → Option Anchor → ℤ → ℤ → Type 0
 same_next stream None t u = Unit {0}
 same_next stream (Some a) t u = next_number stream a u ≡ next_number stream a t
@@ -271,7 +273,7 @@ module _ (stream : Stream) (open_at : ℤ) where
   stands_held None time held more (Some End) le stands = stands
   stands_held (Some a) time held more (Some End) le stands = stands
 
-  -- a new anchor, where nothing is held that had no slot
+  -- a new anchor, opened while nothing is held that had no slot
   stands_opened : 0 < stream.frames → (events : List Event) (path : ℕ) (packet : Packet) (old : Option (ℕ × Anchor)) (b : Anchor) (last : Option MarkKind) → IsMade stream open_at events path packet old b → StandsLast stream (anchor_in old) (time_of open_at events) (end_of_copies (since_of stream open_at old events)) last → StandsLast stream (Some b) (time_of open_at events) (end_of_copies (copies_since stream open_at (length events) b (events ++ Arrive path packet ∷ []))) last
   stands_opened some events path packet old b None made stands = tt
   stands_opened some events path packet None b (Some (Slot e n m body)) made stands = absurd stands
@@ -324,7 +326,7 @@ module _ (stream : Stream) (open_at : ℤ) (some : 0 < stream.frames) where
           let before : StandsLast stream (anchor_in (last_of (anchors_of stream open_at events))) (time_of open_at events) (end_of_copies (since_of stream open_at (last_of (anchors_of stream open_at events)) events)) (last_after None marks) = subst (λ o. StandsLast stream o (time_of open_at events) (end_of_copies (since_of stream open_at (last_of (anchors_of stream open_at events)) events)) (last_after None marks)) (anchor_is stream open_at events) (subst (λ l. StandsLast stream (anchor_of stream open_at events) (time_of open_at events) (end_of_copies l) (last_after None marks)) (copies_of-since stream open_at events) shaped.last) in
           rw (anchor, time, copies) (record { listed = shaped.listed; last = stands_opened stream open_at some events path packet (last_of (anchors_of stream open_at events)) b (last_after None marks) made before })
 
-  -- the marks of an open history are a mark list, and its last mark stands where the next may follow
+  -- the marks of an open history are a mark list, which the next mark may follow
   pub shaped_open : (copies : List (ℕ × (ℕ × Packet))) (events : List Event) → is_well_timed open_at events ≡ true → is_closed events ≡ false → IsShapedAt events (marks_in stream open_at copies events)
   shaped_open copies = by_open_event stream open_at some (λ events. IsShapedAt events (marks_in stream open_at copies events))
       (rw (marks_in-none stream open_at copies, no_anchor_yet stream open_at) (record { listed = refl; last = tt }))

@@ -1,4 +1,4 @@
--- The packets that a ring of slots holds, and those that a put, a take and a move leave of it.
+-- The packets in a ring of slots, and those that are left after a put, a take and a move.
 use Rattle.rtp_stream.specs.Grid.{first_with}
 use Rattle.std.proofs.Common.{◌≡◌, ℕ, zero, suc, ◌+◌, ◌-◌, ◌*◌, ◌^◌, ◌<◌, ◌≤◌, max, Bool, true, false, ◌&&◌, List, ◌++◌, length, replicate, if◌then◌else◌, Option, Some, None, IsSome, refl, sym, ap, subst, ◌∙◌, arith}
 use Rattle.std.specs.Prelude.{nat_eq, nat_lt, nat_le, slice_index_or, slice_set}
@@ -11,7 +11,7 @@ use Rattle.path_merge.proofs.SortedLemmas.{get_entries}
 use Rattle.path_merge.specs.SlotWindow.{IsRing, SlotRing, numbered, packets_from, packets_in, place_at, slot_at}
 use Rattle.rtp_stream.specs.declared.packet.Packet.{Packet}
 
--- a number's packet, if it stands in the ring
+-- a number's packet, if it is in the ring
 abbrev pub slot_of : SlotRing → ℕ → Option Packet
 slot_of ring n = if nat_le ring.base n && nat_lt n (ring.base + length ring.slots) then slot_at ring.slots (place_at ring.front (length ring.slots) (n - ring.base)) else None
 
@@ -56,7 +56,7 @@ found_from slots front base distance (suc count) n =
     first_numbered n (base + distance) (slot_at slots (place_at front (length slots) distance)) (packets_from slots front base (suc distance) count)
     ∙ found_step slots front base distance count n _ (found_from slots front base (suc distance) count n) (nat_eq (base + distance) n) refl (slot_at slots (place_at front (length slots) distance)) refl
 
--- what a window's map holds
+-- the packets in the map of a window
 pub held_is : (ring : SlotRing) (n : ℕ) → get (from_entries {R = nat_cmp} (packets_in ring)) n ≡ slot_of ring n
 held_is ring n =
     let low : ring.base + 0 ≡ ring.base = omega arith in
@@ -84,7 +84,7 @@ module _ (ring : SlotRing) (r : IsRing ring) where
           let same = place_apart ring.front (length ring.slots) d distance r.front lt' lt places in
           absurd (grind (arith, nat_tests, same, b))
 
-  -- a packet that is put where its slot is free
+  -- a packet that is put, if its slot is free
   module _ (distance : ℕ) (lt : distance < length ring.slots) (packet : Packet) where
     pub put_ring : IsRing (record ring { slots = slice_set ring.slots (place_at ring.front (length ring.slots) distance) (Some packet); span = max ring.span (distance + 1) })
     put_ring = record {
@@ -136,7 +136,7 @@ module _ (ring : SlotRing) (r : IsRing ring) where
             let other : nat_eq n (ring.base + distance) ≡ false = grind (arith, nat_tests, is, lt) in
             ap (λ b. if b then Some packet else None) (sym other)
 
-  -- the slots as seen from the next front, when the front's is emptied
+  -- the slots, counted from the next front, after the slot of the front was emptied
   pub next_slot : (d : ℕ) → d < length ring.slots → slot_at (slice_set ring.slots ring.front None) (place_at (place_at ring.front (length ring.slots) 1) (length ring.slots) d) ≡ (if nat_lt (d + 1) (length ring.slots) then slot_at ring.slots (place_at ring.front (length ring.slots) (d + 1)) else None)
   next_slot d inside =
       ap (slot_at (slice_set ring.slots ring.front None)) (place_next ring.front (length ring.slots) d r.front r.broad inside)
@@ -153,7 +153,7 @@ module _ (ring : SlotRing) (r : IsRing ring) where
           let here : nat_eq ring.front ring.front ≡ true = grind (arith, nat_tests) in
           slot_set ring.slots ring.front ring.front None r.front ∙ ap (λ b. if b then None else slot_at ring.slots ring.front) here
 
-  -- the front is taken
+  -- the ring after its front was taken
   pub take_ring : ring.base < 2 ^ 62 → IsRing (record ring { base = ring.base + 1; front = place_at ring.front (length ring.slots) 1; span = ring.span - 1; slots = slice_set ring.slots ring.front None })
   take_ring few = record {
     front = rw same (place_inside ring.front (length ring.slots) 1 r.front r.broad);
@@ -222,13 +222,13 @@ module _ (ring : SlotRing) (r : IsRing ring) where
       let here : ring.base - ring.base ≡ 0 = omega arith in
       ap (λ b. if b then slot_at ring.slots (place_at ring.front (length ring.slots) (ring.base - ring.base)) else None) inside ∙ ap (λ d. slot_at ring.slots (place_at ring.front (length ring.slots) d)) here ∙ ap (slot_at ring.slots) (place_first ring.front (length ring.slots) r.front)
 
-  -- a number's slot lies its distance after the front's
+  -- a number's slot is as far after the front as the number is after the base
   pub slot_here : (n : ℕ) → ring.base ≤ n → n < ring.base + length ring.slots → slot_of ring n ≡ slot_at ring.slots (place_at ring.front (length ring.slots) (n - ring.base))
   slot_here n low high =
       let inside : (nat_le ring.base n && nat_lt n (ring.base + length ring.slots)) ≡ true = grind (arith, nat_tests, low, high) in
       ap (λ b. if b then slot_at ring.slots (place_at ring.front (length ring.slots) (n - ring.base)) else None) inside
 
-  -- where the end is
+  -- numbers with packets are before the end
   pub past_end : (n : ℕ) → IsSome (slot_of ring n) → n < ring.base + ring.span
   past_end n some = by_test (nat_le ring.base n && nat_lt n (ring.base + length ring.slots)) refl some
     where
@@ -256,7 +256,7 @@ module _ (ring : SlotRing) (r : IsRing ring) where
       let here : ring.base + ring.span - 1 - ring.base ≡ ring.span - 1 = omega (arith, some) in
       subst IsSome (sym (slot_here (ring.base + ring.span - 1) (omega (arith, some)) (omega (arith, some, r.within)) ∙ ap (λ d. slot_at ring.slots (place_at ring.front (length ring.slots) d)) here)) (r.reached some)
 
-  -- an empty ring may stand anywhere
+  -- an empty ring may move to any base
   module _ (none : (n : ℕ) → slot_of ring n ≡ None) where
     pub all_free : (i : ℕ) → slot_at ring.slots i ≡ None
     all_free i = by_test (nat_lt i (length ring.slots)) refl
@@ -318,7 +318,7 @@ made_slot width n = by_test (nat_le 0 n && nat_lt n (0 + length (replicate width
     by_test true = slot_none width _
     by_test false = refl
 
--- where a number of the window stands
+-- the place of a number of the window
 pub put_place : (ring seen : SlotRing) (number : ℕ) → ring ≡ seen → seen.base ≤ number → number < seen.base + length seen.slots → (ring.base ≤ number) × (number - ring.base < length ring.slots) × (ring.base + (number - ring.base) ≡ number)
 put_place ring seen number same low high =
     let base = ap (λ (x : SlotRing). x.base) same in

@@ -1,4 +1,4 @@
--- The packets that are found in a numbered list, and those that an edit of it leaves.
+-- The packets in a list sorted by number, and those that are left after a change of it.
 use Rattle.rtp_stream.specs.Grid.{first_with}
 use Rattle.std.proofs.Common.{◌≡◌, ℕ, zero, suc, ◌+◌, ◌<◌, ◌≤◌, List, [], ◌∷◌, ◌++◌, length, take, drop, get_or, if◌then◌else◌, Some, None, IsSome, refl, ap, subst, ◌∙◌, arith}
 use Rattle.std.specs.Prelude.{nat_eq, true, false, insert}
@@ -25,7 +25,7 @@ pub higher : (low high high' : ℕ) (l : List (ℕ × Packet)) → IsWithin low 
 higher low high high' [] w le = tt
 higher low high high' ((n, p) ∷ l) w le = (w.0, omega (arith, w.1), higher (suc n) high high' l w.2 le)
 
--- what is found is in the range
+-- a packet that is found has a number in the range
 pub found_within : (low high n : ℕ) (l : List (ℕ × Packet)) → IsWithin low high l → IsSome (first_with n l) → (low ≤ n) × (n < high)
 found_within low high n [] w some = grind arith
 found_within low high n ((m, p) ∷ l) w some = grind (arith, nat_tests, w.0, w.1, found_within (suc m) high n l w.2)
@@ -61,7 +61,7 @@ found_placed n k p ((m, q) ∷ front) back f = grind (arith, nat_tests, f.0, fou
 pub found_at : (n : ℕ) (p : Packet) (front back : List (ℕ × Packet)) → AllBelow n front → first_with n (front ++ (n, p) ∷ back) ≡ Some p
 found_at n p front back f = grind (arith, nat_tests, found_placed n n p front back f)
 
--- the one at its place is the first with its number
+-- the packet at a number's place is the first with this number
 pub found_by_place : (n i : ℕ) (e : ℕ × Packet) (l : List (ℕ × Packet)) → i < length l → AllBelow n (take i l) → e ≡ get_or l i e → e.0 ≡ n → first_with n l ≡ Some e.1
 found_by_place n zero e [] lt f is num = absurd (omega arith)
 found_by_place n (suc i) e [] lt f is num = absurd (omega arith)
@@ -99,7 +99,7 @@ front_taken base high e ((m, p) ∷ l) w num is =
     let rest : IsWithin (suc base) high l = subst (λ k. IsWithin (suc k) high l) same w.2 in
     (grind (arith, nat_tests), rest, (λ n. grind (arith, nat_tests, none_below (suc base) high n l rest)), omega arith)
 
--- where the first isn't there
+-- if the first packet does not have the base's number, no packet has it
 pub front_absent : (base high : ℕ) (l : List (ℕ × Packet)) → IsWithin base high l → starts_with_number base l ≡ false → (first_with base l ≡ None) × IsWithin (suc base) high l × ((n : ℕ) → first_with n l ≡ (if nat_eq n base then None else first_with n l))
 front_absent base high [] w other = (refl, tt, λ n. grind (arith, nat_tests))
 front_absent base high ((m, p) ∷ l) w other =

@@ -36,7 +36,7 @@ from_first m media a open_yet an = omega (arith, an.next_open open_yet)
 pub time_before_deadline : (m : MergeState) (media : ℤ) (a : Anchor) → 0 < m.spec.frames → m.closed ≡ false → IsAnchored m media a → m.time <ℤ deadline_of m.spec a m.base
 time_before_deadline m media a some open_yet an = by_lt_z m.time (deadline_of m.spec a m.base) (λ lt. lt) (λ ge. absurd (omega (arith, due_before_next m.spec a m.time m.base some (from_first m media a open_yet an) ge, an.next_open open_yet)))
 
--- what is held after the front was taken
+-- the packets that are held after the front was taken
 kept : (g h : FinMap nat_cmp Packet) (base n : ℕ) (packet : Packet) → get h n ≡ (if nat_eq n base then None else get g n) → get h n ≡ Some packet → get g n ≡ Some packet
 kept g h base n packet taken is = by_test (nat_eq n base) taken
   where
@@ -204,7 +204,7 @@ sound_left_is m media a h base' size' counts' media' s is_a shut holds held is_b
 pub sound_time_is : (m : MergeState) (media t' now quiet : ℤ) → IsSound m media → m.closed ≡ false → m.time ≤ℤ now → now ≤ℤ pos (2 ^ 60) → IsBeforeDeadline m.spec m.anchor m.base now → t' ≡ now → IsSound (record m { time = t'; quiet = quiet }) media
 sound_time_is m media t' now quiet s open_yet not_back not_far early is_t = rw is_t (sound_time m media now quiet s open_yet not_back not_far early)
 
--- the step of a time that gives a Quiet, and of one that gives none
+-- the step of a time with a Quiet, and without one
 pub time_step_gives : (m : MergeState) (now t' q' u' : ℤ) (no_slot : Bool) → is_quiet_due no_slot m.quiet (now -ℤ pos m.spec.latency) ≡ true → t' ≡ now → q' ≡ now -ℤ pos m.spec.latency → u' ≡ now -ℤ pos m.spec.latency → IsTimeStep m.spec m (record m { time = t'; quiet = q' }) now no_slot (Some (quiet_mark m.spec u'))
 time_step_gives m now t' q' u' no_slot gives is_t is_q is_u = rw (is_t, is_q, is_u) (record { changed = rw gives; mark = rw gives })
 
@@ -267,7 +267,7 @@ media_small m media a s is_a =
     (cases_lt a.number (next_number m.spec a m.time)) in
     (an.media_is, omega (arith, ints, an.media_is, from, an.bounds.media_low), omega (arith, ints, an.media_is, from, product, extra_product, up), s.spec_ok.few_frames)
 
--- so is its number
+-- the base is small too
 pub base_small : (m : MergeState) (media : ℤ) (a : Anchor) → IsSound m media → m.anchor ≡ Some a → (a.number ≤ m.base) × (m.base ≤ 2 ^ 61)
 base_small m media a s is_a =
     let an = anchored_at m media m.anchor a is_a s.anchored in
@@ -277,7 +277,7 @@ base_small m media a s is_a =
     let many : (m.base - a.number) * 1 ≤ (m.base - a.number) * m.spec.frames = mul-le-mul_left (m.base - a.number) s.spec_ok.some_frames in
     (first, omega (arith, ints, t.0, t.2, from, many, an.bounds.media_low, an.bounds.first_high))
 
--- where the base has a packet, fewer were got than taken
+-- if the base has a packet, fewer packets were got than taken
 pub room_for_got : (m : MergeState) (media : ℤ) (a : Anchor) → IsSound m media → m.anchor ≡ Some a → is_got_body (body_of (get m.held m.base)) ≡ true → m.counts.got < m.counts.taken
 room_for_got m media a s is_a got =
     let an = anchored_at m media m.anchor a is_a s.anchored in

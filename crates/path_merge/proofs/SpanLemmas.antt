@@ -87,7 +87,7 @@ module _ (stream : Stream) (open_at : ℤ) where
       by_test true = omega arith
       by_test false = omega arith
 
-  -- what one more event adds to the last span
+  -- the numbers that one more event adds to the last span
   abbrev added_span : List Event → Event → Option (ℕ × Anchor) → List (ℕ × ℕ)
   added_span events event None = []
   added_span events event (Some (place, a)) = names_from a.epoch (span_end stream open_at events a) (span_end stream open_at (events ++ event ∷ []) a - span_end stream open_at events a)
@@ -111,7 +111,7 @@ module _ (stream : Stream) (open_at : ℤ) where
       ap (λ t. names_from a.epoch a.number (next_number stream a t - a.number) ++ spans_of stream open_at (events ++ event ∷ []) ((place', a') ∷ rest)) (earlier_time events event place' within.1.0)
       ∙ ap (λ l. names_from a.epoch a.number (next_number stream a (time_of open_at (take place' events)) - a.number) ++ l) (spans_stay events event same ((place', a') ∷ rest) within.1)
 
-  -- a new anchor has no slot yet, and ends the span before it where that stands
+  -- a new anchor has no slot yet, and the span before it ends at the number due next
   spans_open : (events : List Event) (event : Event) (b : Anchor) → is_closed events ≡ false → span_end stream open_at (events ++ event ∷ []) b ≡ b.number → (anchors : List (ℕ × Anchor)) → AllWithin (length events) anchors → spans_of stream open_at (events ++ event ∷ []) (anchors ++ (length events, b) ∷ []) ≡ spans_of stream open_at events anchors
   spans_open events event b still fresh [] within =
       let none : span_end stream open_at (events ++ event ∷ []) b - b.number ≡ 0 = omega (arith, fresh) in

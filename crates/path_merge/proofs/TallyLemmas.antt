@@ -48,7 +48,7 @@ tally-slot fates given mark Lost eg el = slots_counted_as fates given mark _ _ (
 pub tally-other : (fates : List (ℕ × Fate)) (given : List MarkView) (mark : MarkView) → is_got mark.kind ≡ false → is_lost mark.kind ≡ false → tally_of_fates fates (given ++ mark ∷ []) ≡ tally_of_fates fates given
 tally-other fates given mark eg el = slots_counted_as fates given mark _ _ (none_more (λ m. is_got m.kind) given mark eg) (none_more (λ m. is_lost m.kind) given mark el)
 
--- and perhaps one
+-- the counts do not change with a Quiet
 pub tally-quiet : (fates : List (ℕ × Fate)) (given : List MarkView) (stream : Stream) (c : Bool) (u : ℤ) → tally_of_fates fates (given ++ option_to_list (if c then Some (quiet_mark stream u) else None)) ≡ tally_of_fates fates given
 tally-quiet fates given stream true u = tally-other fates given (quiet_mark stream u) refl refl
 tally-quiet fates given stream false u = ap (tally_of_fates fates) (append-nil given)

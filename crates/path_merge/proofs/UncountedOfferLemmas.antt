@@ -1,4 +1,4 @@
--- An offer to a closed or full merge isn't counted: it joins the history, and changes nothing else.
+-- An offer to a closed or full merge isn't counted: it is added to the history, and changes nothing else.
 use Rattle.std.proofs.Common.{◌≡◌, ℕ, ◌^◌, ◌≤◌, Bool, true, false, List, [], ◌∷◌, ◌++◌, length, None, ℤ, refl, sym, ap, ◌∙◌, arith, append-nil, if◌then◌else◌}
 use Rattle.std.specs.Prelude.{nat_lt}
 use Rattle.std.proofs.lemmas.Bool.Decides.{nat_tests}

@@ -6,7 +6,7 @@ use Rattle.path_merge.specs.Merge.{HasHistory}
 use Rattle.path_merge.specs.Steps.{marks_left}
 use Rattle.path_merge.proofs.event_list.drain_to.Given as goal
 
--- what was appended are the marks given
+-- the marks that were appended are those that the drain returned
 abbrev pub invariant-drains : goal.invariant-drains
 invariant-drains g l = (stream : Stream) (open_at : ℤ) (events : List Event) (k : ℕ) → HasHistory stream open_at l.fn.merge events k → l.fn.marks.items ≡ take k (marks_of stream open_at events)
     → (j : ℕ) × HasHistory stream open_at l.merge events j × (l.marks.items ≡ take j (marks_of stream open_at events))

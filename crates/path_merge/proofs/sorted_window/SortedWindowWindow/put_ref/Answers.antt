@@ -12,7 +12,7 @@ use Rattle.path_merge.proofs.SortedLemmas.{get_entries, IsPut, put_in_gap, found
 use Rattle.path_merge.proofs.sorted_window.SortedWindowWindow.put_ref.Goals as goal
 use Rattle.path_merge.proofs.sorted_window.SortedWindowWindow.put_ref.Goals.{After-insert, then-eq, else-eq}
 
--- what the insertion does
+-- the effect of the insertion
 is_put : (c : After-insert) → IsPut c.self.inside.base (c.self.inside.base + c.self.inside.size) c.args.number (packet_of c.args.packet) c.self.inside.packets.items (insert c.self.inside.packets.items c.in-Err.at (c.args.number, (packet_of c.args.packet)))
 is_put c =
     let base = ap (λ (h : SortedPackets). h.base) c.self.view_is in
@@ -39,7 +39,7 @@ returns-in-Err-clause-answer c = ap (λ o. put_answer o (packet_of c.args.packet
 pub returns-in-Err-clause-held : goal.returns-in-Err-clause-held
 returns-in-Err-clause-held c n = rw (new_items c, ← c.self.view_is) (simp get_entries ((is_put c).held n))
 
--- what a put answers where a packet is held
+-- the result of a put if a packet is held
 answer_of : (o : Option Packet) (q p : Packet) (xs ys : List ℕ) (b : Bool) → o ≡ Some q → xs ≡ q.payload.items → ys ≡ p.payload.items → b ≡ bytes_eq xs ys → put_answer o p ≡ (if b then Double else Unlike)
 answer_of o q p xs ys b found is_q is_p is_b = rw (found, is_b, is_q, is_p)
 
