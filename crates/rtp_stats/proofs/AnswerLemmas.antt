@@ -68,7 +68,7 @@ module _ (path parity second : ℕ) (offers : List Offer) (s : MarginSecond) (ha
   pub median_of : (spare : ArrivalMargin) → IsSpareOf s second spare → length (spares_in path second offers) < 2 ^ 32 → IsMedian (spares_in path second offers) spare.median
   median_of spare of few = median_is (spares_in path second offers) s (same_spares of.second) few spare.median of.median of.middle
 
-  -- where there is nothing of the second before this reading, no packet came in it
+  -- if nothing is kept of the second before this reading, no packet came in it
   pub none_is : (now : ℤ) → second_of now ≡ suc second → second % 2 ≡ parity → IsLatest now offers → (s.second ≡ second → s.count ≡ 0) → spares_in path second offers ≡ []
   none_is now next even latest none = ⊎_elim
       (λ less. none_yet path parity second s.second offers even less has.latest)
@@ -93,7 +93,7 @@ module _ (path parity second : ℕ) (offers : List Offer) (s : MarginSecond) (ha
           let some : 0 < s.count = has.begun (omega (arith, two, even)) in
           absurd (omega (arith, count, zero, some))
 
--- the second that is asked for
+-- the second before this reading
 module _ (path second k : ℕ) (now : ℤ) (offers : List Offer) (seconds : List MarginSecond) (s : MarginSecond) (has : HasSeconds offers seconds) (is : second ≡ second_of now) (some : second ≢ 0) (place : k ≡ place_of path (second - 1)) (few : k < 8) (read : s ≡ slice_index_or seconds k s) where
   held : HasSecond path ((second - 1) % 2) offers s
   held =

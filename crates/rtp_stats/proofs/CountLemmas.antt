@@ -22,11 +22,11 @@ and_false false b e = refl
 pub offers_of-first : (test : Fate → Bool) (path : ℕ) (o : Offer) (offers : List Offer) → offers_of test path (o ∷ offers) ≡ cond (nat_eq o.path path && test o.fate) 1 0 + offers_of test path offers
 offers_of-first test path o offers = sum_by-cons {X = Offer} (λ x. cond (nat_eq x.path path && test x.fate) 1 0) o offers
 
--- counters of what stays the same
+-- counters of numbers that stay the same
 pub counts_kept : (f g : ℕ → ℕ) (numbers : List ℕ) → ((p : ℕ) → p < 4 → g p ≡ f p) → AreCounts f numbers → AreCounts g numbers
 counts_kept f g numbers same are = record { four = are.four; each = λ p few. are.each p few ∙ ap count_in_64_bits (sym (same p few)) }
 
--- and with one more at a path
+-- counters with one more at a path
 pub counts_more : (f g : ℕ → ℕ) (numbers : List ℕ) (at : ℕ) → at < 4 → g at ≡ f at + 1 → ((p : ℕ) → p < 4 → p ≢ at → g p ≡ f p) → AreCounts f numbers → AreCounts g (one_more at numbers)
 counts_more f g numbers at few one others are = record {
   four = length-set numbers at (count_in_64_bits (slice_index numbers at + 1)) ∙ are.four;
@@ -49,7 +49,7 @@ counts_more f g numbers at few one others are = record {
         let other : p ≢ at = eqb-false p at is in
         get_or-set_other numbers at p (count_in_64_bits (slice_index numbers at + 1)) 0 other ∙ are.each p lt ∙ ap count_in_64_bits (sym (others p lt other))
 
--- one more offer, of which a test says yes or no
+-- one more offer, which may pass a test
 pub fate_counted : (test : Fate → Bool) (o : Offer) (offers : List Offer) (numbers : List ℕ) → o.path < 4 → (b : Bool) → test o.fate ≡ b → AreCounts (λ p. offers_of test p offers) numbers → AreCounts (λ p. offers_of test p (o ∷ offers)) (if b then one_more o.path numbers else numbers)
 fate_counted test o offers numbers few true is are = counts_more (λ p. offers_of test p offers) (λ p. offers_of test p (o ∷ offers)) numbers o.path few one others are
   where

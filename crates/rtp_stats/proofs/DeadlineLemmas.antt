@@ -1,4 +1,4 @@
--- Timestamps in step tell deadlines.
+-- The deadlines of packets whose timestamps are in step.
 use Rattle.std.proofs.Common.{◌≡◌, ℕ, ◌^◌, ◌<◌, ◌≤◌, Bool, true, false, ℤ, pos, negsuc, neg_ℤ, ◌+ℤ◌, ◌-ℤ◌, ◌*ℤ◌, ◌≤ℤ◌, sym, ap, subst, ◌∙◌, arith, w64, to_z, of_z, Option, Some, None, MatchOption, unwrap_or, if◌then◌else◌}
 use Rattle.std.specs.Prelude.{unsigned_abs}
 use Rattle.std.specs.Int.{int_rem_euclid, saturate_signed}
@@ -22,7 +22,7 @@ saturate_short (negsuc n) low high = ap negsuc (let small : n < 2 ^ 62 = omega (
 size_is : (z : ℤ) → pos 0 ≤ℤ z → pos (unsigned_abs z) ≡ z
 size_is z h = omega (arith, ints, h)
 
--- what a timestamp is before it wraps
+-- a timestamp before it wraps
 abbrev stamp_of : Stream → Anchor → ℕ → ℤ
 stamp_of stream anchor number = pos anchor.timestamp +ℤ (pos number -ℤ pos anchor.number) *ℤ pos stream.frames
 
@@ -48,7 +48,7 @@ stamp_nearest stream anchor before number near =
 deadlines_apart : (stream : Stream) (anchor : Anchor) (before number : ℕ) → (deadline_of stream anchor before +ℤ (pos number -ℤ pos before) *ℤ pos stream.frames) ≡ deadline_of stream anchor number
 deadlines_apart stream anchor before number = let media = shifted stream anchor before number in omega (arith, ints, media)
 
--- a deadline and a timestamp tell another
+-- the deadline of a packet, from a known deadline and both timestamps
 pub deadline_told : (stream : Stream) (anchor : Anchor) (before number ts0 ts : ℕ) (at near : ℤ) → IsDeadlineOf stream anchor before (record { ts = ts0; at = at }) → is_on_grid stream anchor number ts ≡ true → IsNearby stream before number → IsShortTime (deadline_of stream anchor number) → ((n : ℤ) → IsNearest (2 ^ 31) ts (pos ts0) n → n ≡ near) → saturate_signed w64 (at +ℤ (near -ℤ pos ts0)) ≡ deadline_of stream anchor number
 deadline_told stream anchor before number ts0 ts at near known grid nearby short only =
     let stamp : ts ≡ expected_timestamp stream anchor number = eqb-true ts (expected_timestamp stream anchor number) grid in
@@ -58,7 +58,7 @@ deadline_told stream anchor before number ts0 ts at near known grid nearby short
     let sum : (at +ℤ (near -ℤ pos ts0)) ≡ deadline_of stream anchor number = let apart = deadlines_apart stream anchor before number in let at_is = known.at in omega (arith, ints, is, apart, at_is) in
     ap (saturate_signed w64) sum ∙ saturate_short (deadline_of stream anchor number) short.low short.high
 
--- what is held is what is known
+-- the deadline that is kept is the known one
 pub held_is : (known : Bool) (ts : ℕ) (at : ℤ) (now : Option KnownDeadline) (k : KnownDeadline) → known ≡ true → (if known then Some (record { ts = ts; at = at }) else None) ≡ now → now ≡ Some k → ◌≡◌ {A = KnownDeadline} (record { ts = ts; at = at }) k
 held_is known ts at now k is view some = inside (record { ts = ts; at = at }) k (sym (ap (λ b. if b then Some (record { ts = ts; at = at }) else None) is) ∙ view ∙ some)
   where

@@ -15,7 +15,7 @@ earlier = second 0 100 ∷ second 1 110 ∷ second 2 120 ∷ second 3 130 ∷ se
 fast : drift_of 10 3072 earlier ≡ Some (record { ppm = pos 208; left = 288 })
 fast = refl
 
--- ten seconds in each of which they come 10 later; the least margin, 910, is used up in 91
+-- ten seconds in each of which packets come 10 later; the least margin, 910, is used up in 91
 abbrev later : List ArrivalMargin
 later = second 0 1000 ∷ second 1 990 ∷ second 2 980 ∷ second 3 970 ∷ second 4 960 ∷ second 5 950 ∷ second 6 940 ∷ second 7 930 ∷ second 8 920 ∷ second 9 910 ∷ []
 
@@ -36,7 +36,8 @@ steady = second 0 480 ∷ second 1 480 ∷ second 2 480 ∷ second 3 480 ∷ sec
 none_at_all : drift_of 10 3072 steady ≡ Some (record { ppm = pos 0; left = year })
 none_at_all = refl
 
--- one second of ten that is 10 more: a slope of 450 / 825, which is 11.4 parts in a million, and 2,582 * 825 / 450 seconds
+-- one second of ten that is 10 more: a slope of 450 / 825, which is 11.4 parts in a million, and 2,582 * 825 / 450
+-- seconds
 abbrev one_more : List ArrivalMargin
 one_more = second 0 480 ∷ second 1 480 ∷ second 2 480 ∷ second 3 480 ∷ second 4 480 ∷ second 5 480 ∷ second 6 480 ∷ second 7 480 ∷ second 8 480 ∷ second 9 490 ∷ []
 
@@ -50,7 +51,7 @@ gaps = second 0 100 ∷ second 2 110 ∷ second 4 120 ∷ second 6 130 ∷ secon
 with_gaps : drift_of 20 3072 gaps ≡ Some (record { ppm = pos 104; left = 576 })
 with_gaps = refl
 
--- a minute after the first of ten it is of the minute still, and in the next second it isn't
+-- a minute after the first of ten seconds that second is in the minute still, and in the next second it isn't
 still_ten : drift_of 60 3072 earlier ≡ Some (record { ppm = pos 208; left = 288 })
 still_ten = refl
 

@@ -45,7 +45,7 @@ none_of_no_path (suc (suc (suc zero))) = refl
 none_of_no_path (suc (suc (suc (suc p)))) = refl
 
 module _ (window place : ℕ) (o : Offer) (offers : List Offer) where
-  -- what an offer leaves of what is known of the offers before it
+  -- what an offer changes in what is known of the offers before it
   last_skipped : takes window place o ≡ false → taken_last window place (o ∷ offers) ≡ taken_last window place offers
   last_skipped lacks = ap (λ b. if b then Some o.seq else taken_last window place offers) lacks
 
@@ -159,7 +159,7 @@ module _ (window place : ℕ) (o : Offer) (offers : List Offer) where
         brought = λ p lt is_so. has.brought p lt is_so ∙ sym (brought_skipped p e.seq (no_copy p e.seq copy) (not_taken taken));
       }
 
--- what the number that is kept lacks
+-- the paths that have not brought the number that is kept
 pub without_is : (window place p : ℕ) (offers : List Offer) (e : WindowCopies) → HasEntry window place offers e → p < 4 → is_without window place p (taken_last window place offers) offers ≡ misses e p
 without_is window place p offers e has lt = by_taken e.taken refl
   where

@@ -1,4 +1,5 @@
--- A path misses exactly the numbers that it gives up: seen from each number's end, and from its taking on.
+-- A path misses exactly the numbers that it never brings while they are kept: counted at each number's end, and from
+-- its taking on.
 use Rattle.std.proofs.Common.{◌≡◌, ◌≢◌, ℕ, ◌+◌, ◌%◌, Bool, true, false, not, List, [], ◌∷◌, ◌++◌, reverse, refl, sym, ap, ◌∙◌, arith, if◌then◌else◌, Option, Some, None}
 use Rattle.std.specs.Prelude.{◌&&◌, ◌||◌, nat_eq}
 use Rattle.std.proofs.lemmas.Bool.{and_parts, eq-eqb, eqb-false, eqb-true, ne_eqb}
@@ -39,7 +40,7 @@ module _ (window place : ℕ) where
   last-reversed : (q : Offer) (rest : List Offer) → taken_last window place (reverse (q ∷ rest)) ≡ first_of_two (taken_last window place (reverse rest)) (taken_here window place q)
   last-reversed q rest = ap (taken_last window place) (reversed q rest) ∙ taken_last-oldest (reverse rest) q
 
-  -- where a number was taken at the place, what is before it doesn't matter
+  -- if a number was taken at the place, the offers before it do not matter
   brought_kept_step : (path seq x : ℕ) (o t : Offer) (rest rest' : Bool) (last : Option ℕ) → (last ≡ Some x → rest' ≡ rest) → (b c : Bool) → (if b then Some o.seq else last) ≡ Some x → (if c then true else if b then false else rest') ≡ (if c then true else if b then false else rest)
   brought_kept_step path seq x o t rest rest' last known b true e = refl
   brought_kept_step path seq x o t rest rest' last known true false e = refl
@@ -49,7 +50,7 @@ module _ (window place : ℕ) where
   brought_kept path seq x [] t e = absurd (some_is_none x (sym e))
   brought_kept path seq x (o ∷ before) t e = brought_kept_step path seq x o t (has_brought window place path seq before) (has_brought window place path seq (before ++ t ∷ [])) (taken_last window place before) (brought_kept path seq x before t) (takes window place o) (is_copy_on path seq o) e
 
-  -- where none was, it may be the copy
+  -- if no number was taken at the place, the oldest offer may be the copy
   brought_oldest_step : (o : Offer) (rest rest' t : Bool) (last : Option ℕ) → (last ≡ None → rest' ≡ (rest || t)) → (b c : Bool) → (if b then Some o.seq else last) ≡ None → (if c then true else if b then false else rest') ≡ ((if c then true else if b then false else rest) || t)
   brought_oldest_step o rest rest' t last known b true e = refl
   brought_oldest_step o rest rest' t last known true false e = absurd (some_is_none o.seq e)
@@ -64,7 +65,7 @@ module _ (window place : ℕ) where
   brought_oldest path seq [] t e = single (is_copy_on path seq t) (takes window place t)
   brought_oldest path seq (o ∷ before) t e = brought_oldest_step o (has_brought window place path seq before) (has_brought window place path seq (before ++ t ∷ [])) (is_copy_on path seq t) (taken_last window place before) (brought_oldest path seq before t) (takes window place o) (is_copy_on path seq o) e
 
-  -- what is known where nothing was taken at the place
+  -- the facts if no number was taken at the place
   parts_none : (last : Option ℕ) (q : Offer) (b : Bool) → takes window place q ≡ b → first_of_two last (if b then Some q.seq else None) ≡ None → (last ≡ None) × (takes window place q ≡ false)
   parts_none None q true is e = absurd (some_is_none q.seq e)
   parts_none None q false is e = (refl, is)
@@ -94,7 +95,7 @@ module _ (window place : ℕ) where
     given_up_after x [] o e = absurd (some_is_none x (sym e))
     given_up_after x (q ∷ rest) o e = given_up_step x q (is_given_up window place path seq rest) (is_given_up window place path seq (rest ++ o ∷ [])) (taken_last window place (reverse rest)) (given_up_after x rest o) (takes window place q) (is_copy_on path seq q) (sym (last-reversed q rest) ∙ e)
 
-    -- where none is taken, none is given up
+    -- if no number is taken at the place, none is given up
     not_given_up : (rest : List Offer) → taken_last window place (reverse rest) ≡ None → is_given_up window place path seq rest ≡ false
     not_given_up [] e = refl
     not_given_up (q ∷ rest) e =
@@ -107,7 +108,7 @@ module _ (window place : ℕ) where
         both true = refl
         both false = refl
 
-    -- and the next that is taken there ends it, if the path has brought none
+    -- the next number that is taken at the place ends it, if the path has brought no copy
     given_up_now : (rest : List Offer) (o : Offer) → taken_last window place (reverse rest) ≡ None → takes window place o ≡ true → is_given_up window place path seq (rest ++ o ∷ []) ≡ not (has_brought window place path seq (reverse rest))
     given_up_now [] o e here = ap (λ b. if b then true else if is_copy_on path seq o then false else false) here
     given_up_now (q ∷ rest) o e here =
@@ -123,7 +124,8 @@ module _ (window place : ℕ) where
         either false true = refl
         either false false = refl
 
-  -- the number that was taken last lacks a copy as before, if an older offer isn't taken at the place, or another is after it
+  -- the number that was taken last lacks a copy as before, if an older offer isn't taken at the place, or another is
+  -- after it
   without_some : (path x : ℕ) (t : Offer) (rest : List Offer) → taken_last window place (reverse rest) ≡ Some x → is_without window place path (taken_last window place (reverse (t ∷ rest))) (reverse (t ∷ rest)) ≡ is_without window place path (taken_last window place (reverse rest)) (reverse rest)
   without_some path x t rest e =
       let now : taken_last window place (reverse (t ∷ rest)) ≡ Some x = last-reversed t rest ∙ ap (λ l. first_of_two l (taken_here window place t)) e in
@@ -151,7 +153,7 @@ one_if b = if b then 1 else 0
 
 -- the number of an offer is given up at once as another ends its time
 module _ (window path : ℕ) (t o : Offer) (rest : List Offer) where
-  -- of another place, or not taken
+  -- an offer with another place, or that was not taken
   apart : takes window (t.seq % window) o ≡ false → (b : Bool) → is_taken_fate o.fate ≡ b → ends_missed window path o (reverse (t ∷ rest)) ≡ ends_missed window path o (reverse rest)
   apart out false is = ap (λ b. b && is_without window (o.seq % window) path (taken_last window (o.seq % window) (reverse (t ∷ rest))) (reverse (t ∷ rest))) is ∙ sym (ap (λ b. b && is_without window (o.seq % window) path (taken_last window (o.seq % window) (reverse rest)) (reverse rest)) is)
   apart out true is = ap (λ b. is_taken_fate o.fate && b) (by_last (taken_last window (o.seq % window) (reverse rest)) refl)
@@ -249,7 +251,7 @@ left_of-push window path (t ∷ rest) o =
     let step = one_more window path t o rest in
     omega (arith, more, step)
 
--- so both are the same
+-- so both counts are the same
 pub missed_is_left : (window path : ℕ) (offers : List Offer) → missed_of window path offers ≡ left_of window path (reverse offers)
 missed_is_left window path [] = refl
 missed_is_left window path (o ∷ before) =

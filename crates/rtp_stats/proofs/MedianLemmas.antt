@@ -1,4 +1,4 @@
--- The middle bin of a second holds the median of its spare times.
+-- The middle bin of a second holds the median of its arrival margins.
 use Rattle.std.proofs.Common.{◌≡◌, ℕ, zero, suc, ◌+◌, ◌-◌, ◌*◌, ◌/◌, ◌^◌, ◌<◌, ◌≤◌, min, false, List, [], ◌∷◌, length, take, refl, sym, ap, ◌∙◌, arith}
 use Rattle.std.specs.Prelude.{cond, count_by, nat_eq, nat_lt, slice_index, sum}
 use Rattle.std.proofs.lemmas.Bool.Decides.{nat_tests}
@@ -7,7 +7,7 @@ use Rattle.rtp_stats.specs.MarginSecond.{HasSpares, IsMiddle, bin_of, count_in}
 use Rattle.rtp_stats.specs.Margins.{IsMedian}
 use Rattle.rtp_stats.specs.declared.tally.margins.MarginSecond.{MarginSecond}
 
--- how many spare times are less
+-- the number of arrival margins that are less
 abbrev pub less_than : ℕ → List ℕ → ℕ
 less_than limit xs = count_by (λ x. nat_lt x limit) xs
 

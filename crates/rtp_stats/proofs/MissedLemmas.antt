@@ -21,7 +21,7 @@ counted_if m n false is = is ∙ ap count_in_64_bits (same m)
     same : (k : ℕ) → k ≡ 0 + k
     same k = omega arith
 
--- what is kept at the offer's place says which paths missed the number there
+-- the entry at the offer's place shows which paths missed the number there
 pub missed_after : (window : ℕ) (o : Offer) (offers : List Offer) (e : WindowCopies) (missed after : List ℕ) → HasEntry window (o.seq % window) offers e → AreCounts (λ p. missed_of window p offers) missed → length after ≡ 4 → ((p : ℕ) → p < 4 → slice_index after p ≡ (if is_taken_fate o.fate && misses e p then count_in_64_bits (slice_index missed p + 1) else slice_index missed p)) → AreCounts (λ p. missed_of window p (o ∷ offers)) after
 missed_after window o offers e missed after has are four step = record {
   four = four;

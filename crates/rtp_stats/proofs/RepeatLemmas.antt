@@ -12,7 +12,7 @@ use Rattle.rtp_stats.specs.Offer.{Offer}
 use Rattle.rtp_stats.specs.Offers.{count_in_64_bits}
 use Rattle.rtp_stats.specs.Repeats.{is_restart, repeats_of, row_after, row_with, rows_after}
 
--- counters of which one begins again
+-- counters, if the counter of one path begins again
 counts_zero : (f g : ℕ → ℕ) (numbers : List ℕ) (at : ℕ) → at < 4 → g at ≡ 0 → ((p : ℕ) → p < 4 → p ≢ at → g p ≡ f p) → AreCounts f numbers → AreCounts g (slice_set numbers at 0)
 counts_zero f g numbers at few none others are = record {
   four = length-set numbers at 0 ∙ are.four;

@@ -25,7 +25,7 @@ short_more n = omega arith
 count_in-first : (bin x : ℕ) (xs : List ℕ) → count_in bin (x ∷ xs) ≡ cond (nat_eq (bin_of x) bin) 1 0 + count_in bin xs
 count_in-first bin x xs = sum_by-cons {X = ℕ} (λ y. cond (nat_eq (bin_of y) bin) 1 0) x xs
 
--- no spare time yet
+-- no arrival margin yet
 pub spares_none : (second : ℕ) → HasSpares [] (empty_second second)
 spares_none second = record {
   count = refl;
@@ -91,7 +91,7 @@ module _ (x : ℕ) (xs : List ℕ) (s : MarginSecond) (has : HasSpares xs s) whe
       same : (n : ℕ) → n ≡ 0 + n
       same n = omega arith
 
-  -- one more spare time
+  -- one more arrival margin
   pub spares_more : HasSpares (x ∷ xs) (with_spare x s)
   spares_more =
       let tops = greatest_or_more (nat_lt s.greatest x) refl in
@@ -107,11 +107,11 @@ module _ (x : ℕ) (xs : List ℕ) (s : MarginSecond) (has : HasSpares xs s) whe
         bins = λ bin lt. bin_kept bin lt (nat_eq (bin_of x) bin) refl ∙ ap count_in_32_bits (sym (count_in-first bin x xs));
       }
 
--- what is known of the latest of a path's seconds of a parity
+-- the latest of a path's seconds of a parity
 abbrev pub IsLatestIn : ℕ → ℕ → ℕ → Offer → Type 0
 IsLatestIn path parity second o = o.path ≡ path → second_of o.now % 2 ≡ parity → IsSome o.spare → second_of o.now ≤ second
 
--- before a second begins, it has no spare time
+-- before a second begins, it has no arrival margin
 none_yet_at : (path parity second : ℕ) (o : Offer) → second % 2 ≡ parity → (last : ℕ) → last < second → IsLatestIn path parity last o → (spare : Option ℕ) → o.spare ≡ spare → spare_at path second o spare ≡ []
 none_yet_at path parity second o even last less latest None is = refl
 none_yet_at path parity second o even last less latest (Some x) is = by_test (is_in path second o) refl
@@ -164,7 +164,7 @@ module _ (path parity : ℕ) (o : Offer) (offers : List Offer) (s : MarginSecond
           other)
           out
 
-  -- with no spare time, on another path, or of the other parity
+  -- an offer with no arrival margin, on another path, or of the other parity
   pub second_without : o.spare ≡ None → HasSecond path parity (o ∷ offers) s
   second_without none = kept (inr (inr none)) (λ same even some. absurd (false_is_true (subst IsSome none some)))
 
@@ -174,11 +174,11 @@ module _ (path parity : ℕ) (o : Offer) (offers : List Offer) (s : MarginSecond
       (λ odd. kept (inl (λ at. odd (ap (λ n. n % 2) at ∙ has.parity_is))) (λ same even some. absurd (odd even)))
       other
 
-  -- a spare time of this path and parity
+  -- an arrival margin of this path and parity
   pub second_here : (x : ℕ) → o.spare ≡ Some x → o.path ≡ path → second_of o.now % 2 ≡ parity → HasSecond path parity (o ∷ offers) (second_after (second_of o.now) x s)
   second_here x spare same even = by_tests (nat_lt s.second (second_of o.now)) (nat_eq s.second (second_of o.now)) refl refl
     where
-      -- the spare times of the offer's second are one more
+      -- the arrival margins of the offer's second are one more
       one_more : spares_in path (second_of o.now) (o ∷ offers) ≡ x ∷ spares_in path (second_of o.now) offers
       one_more =
           ap (λ y. spare_at path (second_of o.now) o y ++ spares_in path (second_of o.now) offers) spare

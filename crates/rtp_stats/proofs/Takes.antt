@@ -8,7 +8,7 @@ pub last_or-push : {A : Type 0} (o : Option A) (xs : List A) (x : A) → last_or
 last_or-push o [] x = refl
 last_or-push o (y ∷ xs) x = last_or-push (Some y) xs x
 
--- what was seen before stays in front
+-- what was seen before stays at the front
 pub seen-push : {A : Type 0} (known taken ahead rest : List A) (x : A) → IsPrefix known (taken ++ ahead) → IsPrefix ahead (x ∷ rest) → IsPrefix known ((taken ++ x ∷ []) ++ rest)
 seen-push known taken ahead rest x p q =
     (p.0 ++ q.0, sym (append_assoc known p.0 q.0) ∙ (ap (λ w. w ++ q.0) p.1 ∙ (append_assoc taken ahead q.0 ∙ (ap (λ w. taken ++ w) q.1 ∙ sym (append_assoc taken (x ∷ []) rest)))))

@@ -87,7 +87,7 @@ seconds_after o offers seconds x d spare few has = record {
         let read = get_or-set_other seconds (place_of o.path (second_of o.now)) k (second_after (second_of o.now) x (slice_index_or seconds (place_of o.path (second_of o.now)) d)) e other in
         subst (HasSecond (k / 2) (k % 2) (o ∷ offers)) (sym read) (second_elsewhere (k / 2) (k % 2) o offers (slice_index_or seconds k e) (has.each k e lt) (place_apart k o.path (second_of o.now) other))
 
--- the parts of a tally, where the lists are lent
+-- the parts of a tally, if the lists are borrowed
 pub tally_entries : (window : ℕ) (o : Offer) (offers : List Offer) (entries lent after : List WindowCopies) → lent ≡ entries → ((d : WindowCopies) → after ≡ slice_set lent (o.seq % length lent) (entry_after o.path o.fate o.seq (slice_index_or lent (o.seq % length lent) d))) → 0 < length entries → o.path < 4 → HasEntries window offers entries → HasEntries window (o ∷ offers) after
 tally_entries window o offers entries lent after same step some few has =
     let width : length lent ≡ window = ap length same ∙ has.width in

@@ -27,7 +27,7 @@ missed_a_window_later = refl
 none_missed_by_the_first : missed_of 8 0 (offer 0 Taken 109 ∷ offer 0 Taken 108 ∷ two_numbers) ≡ 0
 none_missed_by_the_first = refl
 
--- it is counted once, also where 108 and 109 come again
+-- it is counted once, even if 108 and 109 come again
 missed_once : missed_of 8 1 (offer 1 Double 109 ∷ offer 0 Late 101 ∷ offer 0 Taken 109 ∷ two_numbers) ≡ 1
 missed_once = refl
 
@@ -35,7 +35,7 @@ missed_once = refl
 late_is_not_missed : missed_of 8 1 (offer 0 Taken 109 ∷ offer 1 Late 101 ∷ two_numbers) ≡ 0
 late_is_not_missed = refl
 
--- nor is one with another payload
+-- a number with a different payload on the other path is not missed
 unlike_is_not_missed : missed_of 8 1 (offer 0 Taken 109 ∷ offer 1 Unlike 101 ∷ two_numbers) ≡ 0
 unlike_is_not_missed = refl
 
@@ -58,7 +58,7 @@ firsts_and_doubles = refl
 doubles_of_path_1 : double_of 1 two_numbers ≡ 1
 doubles_of_path_1 = refl
 
--- a second has 48,000 sampling instants, and what is asked for is the one before the reading's
+-- a second has 48,000 sampling instants, and the statistics are of the second before the reading's
 abbrev timed_offers : List Offer
 timed_offers = timed 0 30 (pos 48000) ∷ timed 1 20 (pos 47999) ∷ timed 0 10 (pos 47999) ∷ timed 0 40 (negsuc 0) ∷ []
 
