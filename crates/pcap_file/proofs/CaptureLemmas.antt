@@ -23,7 +23,7 @@ pub packets_from-none : (state : State) (place : ℕ) → packets_from state pla
 unfolding packets_past
 packets_from-none state place = refl
 
--- a part's packet comes before those behind it
+-- a part's packet comes before the packets behind it
 pub packets_from-part : (state : State) (place : ℕ) (octets : List ℕ) (block : Block)
     → 1 ≤ length octets → 1 ≤ block.part.len → part_of state octets ≡ Ok block
     → packets_from state place octets
@@ -52,7 +52,7 @@ pub packets_of-pcap : (octets : List ℕ) (pcap : Pcap) → is_pcapng octets ≡
 unfolding packets_of
 packets_of-pcap octets pcap other e = rw other (ap (packets_behind octets) e)
 
--- the same as a call leaves the capture behind a part
+-- the items after a call that leaves the capture behind a part
 packets_from-next : (state next : State) (place place' len : ℕ) (octets octets' : List ℕ) (packet : Option PacketView) (tells : Option RecordMark)
     → 1 ≤ length octets → 1 ≤ len
     → (part_of state octets ≡ Ok (record { part = record { len = len; packet = packet; mark = tells }; section = next.section })) × (next.format ≡ state.format)
@@ -83,7 +83,7 @@ packets_from-passed state next place place' len octets octets' found tells is so
     sym (packets_from-next state next place place' len octets octets' (option_map packet_view found) tells some long has e f
     ∙ ap (λ p. with_packet (option_map packet_view p) (packets_from next (place' + len) (take (length octets' - len) (drop len octets')))) is)
 
--- the same as a call leaves the capture at a fault: with no octets
+-- the items after a call that leaves the capture at a fault: with no octets
 pub packets_from-ended : (state next : State) (place place' : ℕ) (octets : List ℕ) (kind : CaptureFaultKind)
     → 1 ≤ length octets → part_of state octets ≡ Err kind → place' ≡ place
     → packets_from state place octets ≡ Err (record { place = place'; kind = kind }) ∷ packets_from next place' []

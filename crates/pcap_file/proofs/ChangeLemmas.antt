@@ -55,7 +55,7 @@ change_by : (octets : List ℕ) (few words : Bool) → nat_lt (length octets) 16
 unfolding change_of change_if
 change_by octets few words e f = rw (e, f) refl
 
--- the change in octets that are as many as it needs
+-- the change in octets, if there are as many as it needs
 change_in : (octets : List ℕ) (count : ℕ) → length octets ≡ 16 + 4 * count → change_of octets ≡ Some (spelled count octets)
 unfolding change_if
 change_in octets count is =
@@ -65,7 +65,7 @@ change_in octets count is =
     let number : (length octets - 16) / 4 ≡ count = omega (arith, is) in
     change_by octets false true long words ∙ ap (λ n. Some (spelled n octets)) number
 
--- or none
+-- no change in other octets
 none_if : (few : Bool) (octets : List ℕ) → change_if few false octets ≡ None
 unfolding change_if
 none_if true octets = refl
@@ -86,7 +86,7 @@ unread octets room n long is (inr more) =
     let count = gains_count (n / 4) (drop 16 octets) in
     subst (λ o. IfSome o (λ v. room < length v.gains)) (sym (change_in octets (n / 4) size)) (omega (arith, count, more.1))
 
--- what is read of adjacent words
+-- the gains that are read from adjacent words
 gains_read : (octets : List ℕ) (gains : List ℤ) → IsReadBy (λ ys. cast_signed w32 (big_number 4 ys)) 4 octets gains → gains_in (length gains) octets ≡ gains
 unfolding number_at
 gains_read octets [] reads = refl

@@ -14,7 +14,7 @@ use Rattle.pcap_file.specs.Mark.{number_in}
 own : IsNumeralModel (AllDigits 10) (digits_value 10)
 own = numerals_by_value _ tells_digits
 
--- what a decimal text begins with
+-- the beginning of a decimal text
 pub record BeginsPlainly (s : List ℕ) : Type 0 where
   pub unsigned : get_or s 0 0 ≢ 43
   pub no_zero : get_or s 0 0 ≡ 48 → length s ≡ 1
@@ -40,7 +40,7 @@ decimal-parsed {E} s x r parses is plain =
 pub parsed-decimal : {E : Type 0} (s : List ℕ) (n : ℕ) (r : Result ℕ E) → n < 2 ^ 64 → s ≡ decimal n → ParsesUnsigned 64 10 s r → r ≡ Ok n
 parsed-decimal s n r small is parses = parse-decimal 64 n s r small small is parses
 
--- the number of a text is one below 2^63 whose decimal text it is
+-- the number of a text is below 2^63, and the text is its decimal text
 pub number_in-is : (text : List ℕ) (r : Option ℕ) → IfSome r (λ n. text ≡ decimal n) → IfSome r (λ n. n < 2 ^ 63)
     → ((n : ℕ) → n < 2 ^ 63 → text ≡ decimal n → r ≡ Some n) → r ≡ number_in text
 unfolding number_in

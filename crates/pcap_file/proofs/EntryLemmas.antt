@@ -53,7 +53,7 @@ listed_pcap front rest pcap is said enough =
     let same = same_header front rest enough in
     rw (same.0 ∙ is) (ap (entries_behind (front ++ rest)) (same.1 ∙ said))
 
--- the same as a call leaves the capture behind a part, or at a fault
+-- the entries after a call that leaves the capture behind a part, or at a fault
 pub passed_entries : (old new : State) (len : ℕ) (front rest : List ℕ) (packet : Option PacketView) (tells : Option RecordMark) → 1 ≤ length front → 1 ≤ len → len ≤ length front
     → (part_of old front ≡ Ok (record { part = record { len = len; packet = packet; mark = tells }; section = new.section })) × (new.format ≡ old.format)
     → (is_cut_as old.format old.section.order front ≡ false) ⊎ (rest ≡ [])

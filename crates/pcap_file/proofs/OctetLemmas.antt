@@ -26,7 +26,7 @@ number_behind n p x front rest octets is from fits =
     ap (λ l. little_number n (drop p l)) is ∙ ap (little_number n) (behind_front p front (little_bytes n x ++ rest) from)
     ∙ little_number-reads_back n x rest fits
 
--- the same most significant octet first
+-- a number behind other octets, most significant octet first
 pub big_behind : (n p x : ℕ) (front rest octets : List ℕ) → octets ≡ front ++ (big_bytes n x ++ rest) → p ≡ length front → x < 256 ^ n → number_at Big n p octets ≡ x
 unfolding number_at
 big_behind n p x front rest octets is from fits =

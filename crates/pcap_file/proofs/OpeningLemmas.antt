@@ -77,7 +77,7 @@ minor n = refl
 long_opening : (n : ℕ) → 28 ≤ length (section_block n)
 long_opening n = omega (arith, ap length (pieces n), front_size (12 + length (section_body n)), length-append (front (12 + length (section_body n))) (options n ++ little_bytes 4 (12 + length (section_body n))), length-append (options n) (little_bytes 4 (12 + length (section_body n))), options_size n)
 
--- its version is one that is read
+-- the section header's version is one that is read
 no_fault : (block : List ℕ) → 28 ≤ length block → number_at Little 2 12 block ≡ 1 → number_at Little 2 14 block ≡ 0 → section_fault Little block ≡ None
 unfolding section_fault
 no_fault block long one none = rw (not_below (length block) 28 long, one, none) refl

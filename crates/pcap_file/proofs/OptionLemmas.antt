@@ -47,7 +47,7 @@ option_found code value rest some fits short =
     (midst 4 (value_end Little options) (little_bytes 2 code ++ little_bytes 2 (length value)) value (replicate (3 * length value % 4) 0 ++ rest) options
     (pieces code value rest) refl end)
 
--- and with another
+-- an option with another code is passed over
 pub option_passed : (wanted code : ℕ) (value rest : List ℕ) → 1 ≤ code → code < 65536 → length value < 65536 → code ≢ wanted
     → option_of Little wanted (option_octets code value ++ rest) ≡ option_of Little wanted rest
 option_passed wanted code value rest some fits short differs =
@@ -60,7 +60,7 @@ option_passed wanted code value rest some fits short differs =
     sym (option_of-next Little wanted options rest (omega (arith, count, size)) (λ e. absurd (omega (arith, is, e, some))) (omega (arith, count, size, end))
     (λ e. differs (sym is ∙ e)) (sym (behind_front _ (option_octets code value) rest place)))
 
--- none behind the last
+-- there is no option behind the last
 pub option_none : (wanted : ℕ) → option_of Little wanted options_end ≡ Ok None
 unfolding number_at
 option_none wanted = option_of-end Little wanted options_end (omega arith) refl

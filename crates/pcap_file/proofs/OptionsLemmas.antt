@@ -49,7 +49,7 @@ option_among-enough (suc n) (suc m) order code options h g =
           (cond (code_of order options == code) (Ok (Some (slice_range options 4 (value_end order options)))) r)))) rest
     ]
 
--- an option with another code leaves the search to those behind it
+-- if an option has another code, the search goes on with those behind it
 option_among-step : (n m : ℕ) (order : Endian) (code : ℕ) (options : List ℕ) → n ≡ suc m
     → 4 ≤ length options → code_of order options ≢ 0 → value_end order options ≤ length options → code_of order options ≢ code
     → option_among n order code options ≡ option_among m order code (drop (option_end order options) options)

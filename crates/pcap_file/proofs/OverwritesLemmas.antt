@@ -11,7 +11,7 @@ before_end q xs rest e = ap (λ m. take m (xs ++ rest)) e ∙ take-append_seam x
 behind_end : (q n : ℕ) (xs rest : List ℕ) → q ≡ length xs → drop (q + n) (xs ++ rest) ≡ drop n rest
 behind_end q n xs rest e = ap (λ m. drop (m + n) (xs ++ rest)) e ∙ drop-append-add xs rest n
 
--- what is written behind other octets follows them
+-- octets that are written behind others follow them
 pub behind : (p q : ℕ) (xs ys a b c : List ℕ) → b ≡ written_at p xs a → c ≡ written_at q ys b → q ≡ p + length xs → p ≤ length a
     → c ≡ written_at p (xs ++ ys) a
 behind p q xs ys a b c first then place room =
@@ -39,7 +39,7 @@ first_put q xs ys a b written is place = record {
   place_is = place ∙ ap length is;
 }
 
--- and more behind them
+-- more octets written behind them
 pub more_put : (p q : ℕ) (xs ys zs a b c : List ℕ) → IsFront p xs a b → c ≡ written_at p ys b → ys ≡ zs → q ≡ p + length ys → IsFront q (xs ++ zs) a c
 more_put p q xs ys zs a b c front written is place =
     let before : b ≡ written_at 0 xs a = front.are ∙ ap (λ n. xs ++ drop n a) (omega (arith, front.place_is)) in
@@ -47,7 +47,7 @@ more_put p q xs ys zs a b c front written is place =
     let count : q ≡ length (xs ++ ys) = omega (arith, place, front.place_is, length-append xs ys) in
     first_put q (xs ++ ys) (xs ++ zs) a c both (ap (λ l. xs ++ l) is) count
 
--- a block's six pieces, of which the middle three are what it holds
+-- a block's six pieces, of which the middle three are its body
 pub block_put : (p : ℕ) (k l h o z m a g : List ℕ) → IsFront p (k ++ l ++ h ++ o ++ z ++ m) a g → IsFront p (k ++ l ++ (h ++ (o ++ z)) ++ m) a g
 block_put p k l h o z m a g front =
     let same : k ++ l ++ h ++ o ++ z ≡ k ++ l ++ (h ++ (o ++ z)) = append_assoc (k ++ l ++ h) o z ∙ append_assoc (k ++ l) h (o ++ z) in

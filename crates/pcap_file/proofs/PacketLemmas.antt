@@ -5,7 +5,7 @@ use Rattle.std.specs.List.{All}
 use Rattle.pcap_file.specs.RecordedDatagram.{ArrivalView}
 use Rattle.pcap_file.specs.IpHeader.{HasAddresses, carried, checksum_of, header_octets, header_with, words_sum}
 
--- those of four octets
+-- the sum of the words of four octets
 pub words_sum-four : (xs : List ℕ) → length xs ≡ 4 → words_sum xs ≡ get_or xs 0 0 * 256 + get_or xs 1 0 + (get_or xs 2 0 * 256 + get_or xs 3 0)
 unfolding words_sum
 words_sum-four [] four = absurd (omega arith)
@@ -24,7 +24,7 @@ words_sum-behind (a ∷ b ∷ c ∷ []) ys four = absurd (omega arith)
 words_sum-behind (a ∷ b ∷ c ∷ d ∷ []) ys four = omega arith
 words_sum-behind (a ∷ b ∷ c ∷ d ∷ e ∷ rest) ys four = absurd (omega arith)
 
--- those of a header
+-- the sum of the words of a header
 pub words_sum-header : (total count : ℕ) (source destination : List ℕ) → total < 65536 → total ≡ count → length source ≡ 4
     → words_sum (69 ∷ 0 ∷ count / 256 % 256 ∷ count % 256 ∷ 0 ∷ 0 ∷ 64 ∷ 0 ∷ 64 ∷ 17 ∷ 0 ∷ 0 ∷ (source ++ destination))
     ≡ 50449 + total + words_sum source + words_sum destination
@@ -32,7 +32,7 @@ unfolding words_sum
 words_sum-header total count source destination fits same four =
     let both = words_sum-behind source destination four in omega (arith, both)
 
--- with a checksum too
+-- the sum of the words of a header with a checksum
 words_sum-whole : (total checksum : ℕ) (source destination : List ℕ) → total < 65536 → checksum < 65536 → length source ≡ 4
     → words_sum (69 ∷ 0 ∷ total / 256 % 256 ∷ total % 256 ∷ 0 ∷ 0 ∷ 64 ∷ 0 ∷ 64 ∷ 17 ∷ checksum / 256 % 256 ∷ checksum % 256 ∷ (source ++ destination))
     ≡ 50449 + total + words_sum source + words_sum destination + checksum
@@ -40,7 +40,7 @@ unfolding words_sum
 words_sum-whole total checksum source destination fits small four =
     let both = words_sum-behind source destination four in omega (arith, both)
 
--- those of an address
+-- the sum of the words of an address
 words_sum-address : (xs : List ℕ) → length xs ≡ 4 → All (λ octet. octet < 256) xs → words_sum xs < 2 ^ 17
 words_sum-address xs four octets =
     let is = words_sum-four xs four in

@@ -20,6 +20,6 @@ few_zeros (suc (suc zero)) few = refl
 few_zeros (suc (suc (suc zero))) few = refl
 few_zeros (suc (suc (suc (suc n)))) few = absurd (omega arith)
 
--- as many as fill a word
+-- the zeros that fill a word
 pub zeros : (n : ℕ) → take {A = ℕ} (3 * n % 4) (0 ∷ 0 ∷ 0 ∷ []) ≡ replicate (3 * n % 4) 0
 zeros n = few_zeros (3 * n % 4) (omega arith)

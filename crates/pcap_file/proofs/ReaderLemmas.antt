@@ -27,7 +27,7 @@ some_of (Some x) P f = f x refl
 one : (o : Option (List ℕ)) (x y : List ℕ) → o ≡ Some x → o ≡ Some y → x ≡ y
 one o x y e f = cc
 
--- what was read of known octets is a prefix of them
+-- octets that were read from known octets are a prefix of them
 pub consumed : (left then : Option (List ℕ)) (rest octets : List ℕ) → left ≡ Some rest → Consumes left then octets → (more : List ℕ) × (then ≡ Some more) × (rest ≡ octets ++ more)
 consumed None then rest octets e read = absurd (let f : None ≡ Some rest = e in cc)
 consumed (Some x) None rest octets e read = absurd read
@@ -135,7 +135,7 @@ told_next file entries left parts then held ended len packet tells front is fill
       end = told.end;
     }
 
--- or it is at fault
+-- the next record or block has a fault
 pub told_fault : (file : List ℕ) (entries : List Entry) (left : Option (List ℕ)) (parts : BlockParser) (held : List ℕ) (ended : Bool) (fault : CaptureFault) (front : List ℕ) → front ≡ take 983040 held
     → IsFilled parts held ended
     → ((rest : List ℕ) → (is_cut_in parts front ≡ false) ⊎ (rest ≡ []) → items_at parts (front ++ rest) ≡ Err fault ∷ [])
@@ -211,7 +211,7 @@ pub err_both : {X E : Type 0} (r : Result X E) (P : E → Type 0) (Q : Type 0) (
 err_both (Ok x) P Q R f p q = tt
 err_both (Err e) P Q R f p q = f e p q
 
--- the file ends within what comes next
+-- the file ends within the next record or block
 pub told_cut : (file : List ℕ) (entries : List Entry) (left : Option (List ℕ)) (parts : BlockParser) (held : List ℕ) (ended : Bool) (front : List ℕ)
     → front ≡ take 983040 held → IsNext parts held ended → is_cut_in parts front ≡ true → HasReturned file entries left parts held ended → IsCutBehind file entries
 told_cut file entries left parts held ended front is next cut told =
@@ -256,7 +256,7 @@ ends_cut file entries left parts held ended front is next cut told =
 pub ends_whole : (file : List ℕ) (entries : List Entry) (parts : BlockParser) (left : List ℕ) → left ≡ [] → HasEntries file entries → EndsWith file entries (cut_fault_of parts left)
 ends_whole file entries parts left none has = subst (λ l. EndsWith file entries (cut_fault_of parts l)) (sym none) has
 
--- the fault of what is left, by the octets that are shown of it
+-- the fault of the rest of the file, by the octets of `front`
 pub no_cut : (parts : BlockParser) (held front : List ℕ) → front ≡ take 983040 held → length front < 1 → None ≡ cut_fault_of parts held
 no_cut parts held front is few = sym (ap (cut_fault_of parts) (none_taken held (sym is ∙ nil_from_length front (omega (arith, few)))))
 

@@ -39,7 +39,7 @@ datagram_front octets len paths room within =
     ap (λ k. (k == 6) && nat_lt (number_at Little 4 8 octets) paths) (word_front octets len 0 room within (omega arith))
     ∙ ap (λ k. (number_at Little 4 0 (take len octets) == 6) && nat_lt k paths) (word_front octets len 8 room within (omega arith))
 
--- these blocks are the first of octets, and so many hold a datagram
+-- these blocks are the first of the octets, and this many hold a datagram
 pub record HasPassed (paths : ℕ) (octets : List ℕ) (found : WholeBlocks) : Type 0 where
   pub blocks : List (List ℕ)
   pub every : All IsBlock blocks
@@ -86,7 +86,7 @@ passed_more paths octets found after n p is within longer counted =
       few = omega (arith, counted, longer, p.few, is.room, size, one_at_most (holds_datagram paths block));
     }
 
--- none begins behind them
+-- no block begins behind them
 pub passed_all : (paths : ℕ) (octets : List ℕ) (found : WholeBlocks) → HasPassed paths octets found → BeginsNone (drop found.len octets) → AreWhole paths octets found
 passed_all paths octets found p none = record {
   blocks = p.blocks;
@@ -98,7 +98,7 @@ passed_all paths octets found p none = record {
   datagrams = p.datagrams;
 }
 
--- the same as a turn of the loop finds it: `left` is a slice of what is behind the blocks so far
+-- the blocks after a turn of the loop: `left` is a slice of what is behind the blocks so far
 pub passed_turn : (paths : ℕ) (octets left : List ℕ) (found after : WholeBlocks) (n : ℕ) (is_datagram : Bool) → left ≡ drop found.len octets → HasPassed paths octets found
     → IsBlock (take n left) → n ≤ length left → after.len ≡ found.len + n → is_datagram ≡ holds_datagram paths (take n left)
     → after.datagrams ≡ found.datagrams + (if is_datagram then 1 else 0) → HasPassed paths octets after

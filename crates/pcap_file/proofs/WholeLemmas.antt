@@ -33,7 +33,7 @@ unfolding length_of
 length_by octets len first last count long words =
     rw (first, not_below len 12 long, same_as (len % 4) 0 words, not_below (length octets) len (omega (arith, count)), last, same_as len len refl) refl
 
--- a block that is read as so many octets, and holds so much
+-- a block that is read with this length and this content
 pub record IsWhole (octets : List ℕ) : Type 0 where
   pub length_is : length_of Little octets ≡ Ok (length octets)
   pub first : number_at Little 4 4 octets ≡ length octets
@@ -57,7 +57,7 @@ whole_block kind held words fits =
       words = omega (arith, count, words);
     }
 
--- what it holds is read of all of it
+-- the content of a block is read from all of it
 pub read_whole : (order : Endian) (interfaces : List Interface) (octets : List ℕ) → order_of order octets ≡ Ok Little → IsWhole octets
     → block_of (record { order = order; interfaces = interfaces }) octets
     ≡ and_then (content_of (record { order = Little; interfaces = interfaces }) octets) (with_length (length octets) octets)
@@ -75,7 +75,7 @@ uncut order octets is whole = rw (is, whole.first, not_below (length octets) 12 
 abbrev pub at : List Interface → State
 at interfaces = record { format = format.Pcapng; section = record { order = Little; interfaces = interfaces } }
 
--- the packet and the mark of a block are before those behind it
+-- the packet and the mark of a block come before those behind it
 pub record Tells (order : Endian) (old new : List Interface) (octets : List ℕ) (packet : Option PacketView) (tells : Option RecordMark) : Type 0 where
   pub order_is : order_of order octets ≡ Ok Little
   pub whole : IsWhole octets

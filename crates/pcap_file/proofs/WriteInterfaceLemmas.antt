@@ -215,7 +215,7 @@ pub tells_interface : (interfaces : List Interface) (p : PathView) → IsPath p 
 unfolding interface_block
 tells_interface interfaces p is few = tells_texts interfaces (path_texts p) (short_path p is) few
 
--- and of the interface of changes of gains
+-- the texts of the interface of changes of gains
 abbrev gains_texts : TextsView
 gains_texts = record { name = codes "gains"; description = codes "gains" }
 

@@ -1,4 +1,4 @@
--- A whole record is read as it was written.
+-- A whole record is read back as it was written.
 use Rattle.std.proofs.Common.{◌≡◌, ◌<◌, ◌≤◌, ◌+◌, ◌^◌, ℕ, zero, suc, true, List, [], ◌∷◌, ◌++◌, length, slice_get, nat_le, Some, None, Ok, refl, sym, ap, ◌∙◌, arith, append_assoc, append-nil, length-append}
 use Rattle.std.specs.List.{All}
 use Rattle.std.proofs.lemmas.Bool.Decides.{nat_tests}
@@ -19,7 +19,7 @@ use Rattle.pcap_file.proofs.WriteInterfaceLemmas.{raw, tells_gains, tells_interf
 use Rattle.pcap_file.proofs.OpeningLemmas.{tells_opening, whole_opening}
 use Rattle.pcap_file.proofs.WholeLemmas.{at, told_entries, told_packet}
 
--- so many interfaces
+-- this many interfaces
 raws : ℕ → List Interface
 raws zero = []
 raws (suc n) = raw ∷ raws n
@@ -40,7 +40,7 @@ raw_at zero i h = absurd (omega arith)
 raw_at (suc n) zero h = refl
 raw_at (suc n) (suc i) h = raw_at n i (omega (arith, h))
 
--- what holds of all holds of the first and of the others
+-- what holds of all elements holds of the first and of the others
 of_first : {X : Type 0} (P : X → Type 0) (x : X) (xs : List X) → All P (x ∷ xs) → P x
 of_first P x xs every = every 0 x (omega arith)
 
@@ -77,7 +77,7 @@ interfaces_entries (path ∷ paths) n rest every few =
     ∙ interfaces_entries paths (suc n) rest all (omega (arith, few))
     ∙ ap (λ k. entries_from (at (raws k)) rest) (omega arith)
 
--- and behind the datagrams
+-- the packets of datagrams, and what is behind them
 datagrams_packets : (arrivals : List ArrivalView) (n : ℕ) (place : ℕ) (rest : List ℕ) (items : List Item) → All (IsArrival n) arrivals → n ≤ 65
     → ((place : ℕ) → packets_from (at (raws n)) place rest ≡ items)
     → packets_from (at (raws n)) place (datagram_blocks arrivals ++ rest) ≡ items_of arrivals ++ items
@@ -122,7 +122,7 @@ entries_ours : (n : ℕ) (rest : List ℕ) → n < 2 ^ 63 → entries_of (sectio
 unfolding entries_of
 entries_ours n rest small = rw (is_ours n rest small) refl
 
--- what follows the section header
+-- the packets behind the section header
 opened_packets : (n : ℕ) (rest : List ℕ) (items : List Item) → n < 2 ^ 63 → ((place : ℕ) → packets_from (at []) place rest ≡ items) → packets_of (section_block n ++ rest) ≡ items
 opened_packets n rest items small then =
     packets_ours n rest small ∙ told_packet Big [] [] (section_block n) rest None (Some (Opened n)) 0 (tells_opening Big [] n small) ∙ then (0 + length (section_block n))
@@ -164,7 +164,7 @@ no_entry_left : (interfaces : List Interface) → entries_from (at interfaces) [
 unfolding entries_past
 no_entry_left interfaces = refl
 
--- one that isn't closed
+-- a record that isn't closed
 pub open_packets : (n : ℕ) (paths : List PathView) (arrivals : List ArrivalView) → n < 2 ^ 63 → All IsPath paths → length paths ≤ 64 → All (IsArrival (length paths)) arrivals
     → packets_of (open_record n paths arrivals) ≡ items_of arrivals
 open_packets n paths arrivals small named few all =
@@ -178,7 +178,7 @@ open_entries n paths arrivals small named few all =
     ∙ record_entries n paths arrivals [] small named few all
     ∙ ap (λ l. Mark (Opened n) ∷ l) (ap (λ l. packet_entries arrivals ++ l) (no_entry_left (raws (length paths))) ∙ append-nil (packet_entries arrivals))
 
--- and one that is
+-- a record that is closed
 closing_packets : (interfaces : List Interface) (time place : ℕ) → time < 2 ^ 64 → slice_get interfaces 0 ≡ Some raw → packets_from (at interfaces) place (closing_block time) ≡ []
 closing_packets interfaces time place fits first =
     ap (packets_from (at interfaces) place) (sym (append-nil (closing_block time)))
@@ -204,7 +204,7 @@ closed_entries n paths arrivals time small named some few all fits =
     record_entries n paths arrivals (closing_block time) small named few all
     ∙ ap (λ l. Mark (Opened n) ∷ (packet_entries arrivals ++ l)) (closing_entries (raws (length paths)) time fits (raw_at (length paths) 0 (omega (arith, some))))
 
--- the same behind the interface of changes of gains
+-- the parts of a record with the interface of changes of gains
 with_gains_in_turn : (s i g d rest : List ℕ) → s ++ i ++ g ++ d ++ rest ≡ s ++ (i ++ (g ++ (d ++ rest)))
 with_gains_in_turn s i g d rest = append_assoc (s ++ i ++ g) d rest ∙ append_assoc (s ++ i) g (d ++ rest) ∙ append_assoc s i (g ++ (d ++ rest))
 
