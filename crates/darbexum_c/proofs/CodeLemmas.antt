@@ -17,7 +17,7 @@ on_path engine stream path fault few is =
     let test : nat_lt path 4 ≡ true = grind (arith, nat_tests, few) in
     ap (λ t. if t then option_map arrive_fault_code (arrive_fault_of engine stream path) else Some no_path) test ∙ ap (option_map arrive_fault_code) is
 
--- and on no path
+-- the code for a path that no stream has
 pub off_path : (engine : EngineState) (stream path : ℕ) → 4 ≤ path → arrive_code_of engine stream path ≡ Some no_path
 off_path engine stream path many =
     let test : nat_lt path 4 ≡ false = grind (arith, nat_tests, many) in
@@ -30,7 +30,7 @@ with_room engine now room fault wide is =
     let test : nat_lt room (datagram_length engine.mixer.packer.spec) ≡ false = grind (arith, nat_tests, wide) in
     ap (λ t. if t then Some short_room else option_map clock_fault_code (clock_fault_of engine.time engine.closed now)) test ∙ ap (option_map clock_fault_code) is
 
--- and without
+-- the code for a room that is too short
 pub without_room : (engine : EngineState) (now : ℤ) (room : ℕ) → room < datagram_length engine.mixer.packer.spec → turn_code_of engine now room ≡ Some short_room
 without_room engine now room narrow =
     let test : nat_lt room (datagram_length engine.mixer.packer.spec) ≡ true = grind (arith, nat_tests, narrow) in
@@ -42,7 +42,7 @@ stream_there [] i spec is = absurd (let e : Some spec ≡ None = is in cc)
 stream_there (cursor ∷ cursors) zero spec is = grind arith
 stream_there (cursor ∷ cursors) (suc i) spec is = let below = stream_there cursors i spec is in omega (arith, below)
 
--- and one that has none is not
+-- a stream without a specification is past the last stream
 pub stream_missing : (cursors : List CursorState) (i : ℕ) → None ≡ stream_spec_of (slice_get cursors i) → length cursors ≤ i
 stream_missing [] i is = grind arith
 stream_missing (cursor ∷ cursors) zero is = absurd (let e : None ≡ Some cursor.spec = is in cc)

@@ -1,4 +1,4 @@
--- The time that was handed on is the time of the call.
+-- The time that was passed on is the time of the call.
 use Rattle.std.proofs.Common.{ℤ, subst, w64}
 use Rattle.std.proofs.lemmas.Int.{to_z-of_z}
 use Rattle.studio_mix.specs.Changed.{with_gains}

@@ -1,4 +1,4 @@
--- The handle's engine is the one that was asked.
+-- The handle's engine is the one that was read.
 use Rattle.std.proofs.Common.{ℕ, List, length, subst}
 use Rattle.studio_config.specs.Studio.{Studio}
 use Rattle.studio_mix.specs.Saturated.{AreSaturated}

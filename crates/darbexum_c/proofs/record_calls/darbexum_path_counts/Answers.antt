@@ -1,4 +1,4 @@
--- The handle's engine is the one that was asked.
+-- The handle's engine is the one that was read.
 use Rattle.std.proofs.Common.{sym, ◌∙◌, w32}
 use Rattle.std.proofs.lemmas.Int.{to_z-of_z}
 use Rattle.darbexum_c.proofs.Moved.{seen}
