@@ -1,4 +1,4 @@
--- The datagrams that an engine gave and a sink was passed, one by one.
+-- The datagrams that an engine returned and that were passed to a sink, one by one.
 use Rattle.std.proofs.Common.{◌≡◌, ◌⊎◌, inl, inr, ◌≤◌, ℕ, List, [], ◌∷◌, ◌++◌, length, take, ℤ, Option, Some, None, sym, ap, subst, ◌∙◌, append_assoc, append-nil}
 use Rattle.path_merge.specs.Clock.{clock_fault_of}
 use Rattle.studio_config.specs.Studio.{Studio}
@@ -17,14 +17,14 @@ turned_twice now first mid last events (inr e) moves =
     let same : last ≡ mid = elim moves [ inl f ↦ f | inr f ↦ f ∙ sym e ] in
     sym (turned_same mid last (turned first mid events) same) ∙ ap (λ t. turned first t events) (sym same)
 
--- where a turn is after another
+-- the time after two turns
 pub time_twice : (now first mid last : ℤ) → (mid ≡ first) ⊎ (mid ≡ now) → (last ≡ mid) ⊎ (last ≡ now) → (last ≡ first) ⊎ (last ≡ now)
 time_twice now first mid last (inl e) (inl f) = inl (f ∙ e)
 time_twice now first mid last (inr e) (inl f) = inr (f ∙ e)
 time_twice now first mid last (inl e) (inr f) = inr f
 time_twice now first mid last (inr e) (inr f) = inr f
 
--- what the first turn says of the reading
+-- the first turn shows whether the reading is in order
 pub fine_first : (now : ℤ) (first engine : EngineState) (P : Type 0) → ((engine ≡ first) × P) ⊎ (clock_fault_of first.time first.closed now ≡ None) → clock_fault_of engine.time engine.closed now ≡ None
     → clock_fault_of first.time first.closed now ≡ None
 fine_first now first engine P (inl same) fine = ap (λ (e : EngineState). clock_fault_of e.time e.closed now) (sym same.0) ∙ fine
@@ -41,11 +41,11 @@ hands_more None (Some mid) (Some all) xs ys h k = absurd h
 hands_more (Some before) (Some mid) (Some all) xs ys h k = k ∙ (ap (λ l. l ++ ys) h ∙ append_assoc before xs ys)
 
 module _ (studio : Studio) where
-  -- none was sent yet
+  -- no datagram was sent yet
   pub sent_none : (engine : EngineState) (events : List TraceEvent) (datagrams : List (List ℕ)) (handed : Option (List (List ℕ))) → HasSession studio engine events datagrams → HasSent studio engine events datagrams handed handed
   sent_none engine events datagrams handed s = record { more = []; stands = subst (λ l. HasSession studio engine events l) (sym (append-nil datagrams)) s; handed = hands_none handed }
 
-  -- and then one more
+  -- one more datagram was sent
   pub sent_more : (old new : EngineState) (events later : List TraceEvent) (datagrams : List (List ℕ)) (first mid last : Option (List (List ℕ))) (before after : List ℕ) (len : ℕ)
       → length after ≡ length before → len ≤ length before → (sent : HasSent studio old events datagrams first mid) → Gives studio new later (datagrams ++ sent.more) before after len
       → Hands mid (take len after ∷ []) last → HasSent studio new later datagrams first last

@@ -43,11 +43,11 @@ all_covered wants true e f = refl
 all_covered wants false e f = absurd (false≢true (sym e ∙ f))
 
 module _ (studio : Studio) (feeds : List Feed) (number stream : ℕ) (feed : Feed) (at : slice_get feeds stream ≡ Some feed) where
-  -- the feed after so many of these marks
+  -- the feed after these marks
   pub after_at : (more : List MarkView) → slice_get (set feeds stream (feed_with feed more)) stream ≡ Some (feed_with feed more)
   after_at more = set_here feeds stream (feed_with feed more) (slice_get_within feeds stream feed at)
 
-  -- none was fed yet
+  -- no mark was fed yet
   pub fed_none : (mixer : MixerState) → HasFeeds studio mixer feeds number → HasFeeds studio mixer (set feeds stream (feed_with feed [])) number
   fed_none mixer fed =
       subst (λ fs. HasFeeds studio mixer fs number)
@@ -57,7 +57,7 @@ module _ (studio : Studio) (feeds : List Feed) (number stream : ℕ) (feed : Fee
     longer : (feed.marks ++ take i marks) ++ mark ∷ [] ≡ feed.marks ++ take (i + 1) marks
     longer = append_assoc feed.marks (take i marks) (mark ∷ []) ∙ ap (λ l. feed.marks ++ l) (sym more)
 
-    -- and then the next
+    -- the next mark was fed
     pub fed_more : (mixer : MixerState) → HasFeeds studio mixer (set (set feeds stream (feed_with feed (take i marks))) stream (record { stream = feed.stream; marks = (feed.marks ++ take i marks) ++ mark ∷ [] })) number
         → HasFeeds studio mixer (set feeds stream (feed_with feed (take (i + 1) marks))) number
     fed_more mixer fed =
@@ -69,7 +69,7 @@ module _ (studio : Studio) (feeds : List Feed) (number stream : ℕ) (feed : Fee
     pub not_listed : (accepts : Bool) → accepts ≡ false → accepts ≡ is_mark_list (format_of feed.stream) ((feed.marks ++ take i marks) ++ mark ∷ []) → is_mark_list (format_of feed.stream) (feed.marks ++ take (i + 1) marks) ≡ false
     not_listed accepts refused is = ap (is_mark_list (format_of feed.stream)) (sym longer) ∙ sym is ∙ refused
 
-  -- and it was wanted, as those before
+  -- the next mark was needed, as those before it
   pub wanted_more : (marks : List MarkView) (i : ℕ) (wants : Bool) → wants ≡ true → wants ≡ not (is_final studio number (feed_with feed (take i marks)))
       → ((fewer : ℕ) → fewer < i → is_final studio number (feed_with feed (take fewer marks)) ≡ false)
       → (fewer : ℕ) → fewer < i + 1 → is_final studio number (feed_with feed (take fewer marks)) ≡ false

@@ -41,7 +41,7 @@ use Rattle.rtp_stream.specs.Reception.{packet_at, reception_by, reception_of}
 use Rattle.studio_session.specs.Session.{Datagram, event_in}
 use Rattle.example_callers.specs.declared.arrival.Arrival.{Arrival}
 
--- what the merge gets of a datagram
+-- the packet of a datagram, if the merge receives one
 abbrev pub packets_in : Stream → Arrival → List Event
 packets_in stream a = event_in (Datagram a.path (reception_of stream a.datagram.now))
 
@@ -57,7 +57,7 @@ module _ (stream : Stream) (arrivals : List Arrival) (i : ℕ) (a : Arrival) (wi
       ∙ ap (λ l. events_of_all stream (take i arrivals) ++ l) (append-nil (events_of stream a))
       ∙ sym (append_assoc (events_of_all stream (take i arrivals)) (Tick a.time ∷ []) (packets_in stream a))
 
-  -- and one path more
+  -- one more arrival on a path that the stream has
   pub paths_more : are_on_paths stream (take i arrivals) ≡ true → a.path < stream.paths → are_on_paths stream (take (i + 1) arrivals) ≡ true
   paths_more so_far on =
       let here : nat_lt a.path stream.paths ≡ true = grind (arith, nat_tests, on) in
@@ -196,7 +196,7 @@ module _ (stream : Stream) (open_at : ℤ) (old new : MergeState) (now : ℤ) (e
   open_yet : is_closed so_far ≡ false
   open_yet = sym before.stands.closed ∙ (run.no_fault old.time old.closed now free).2
 
-  -- where the time goes, with whichever mark
+  -- the time after a step, with any mark
   moved : (mark : Option MarkView) → Moves old new now mark → (new.time ≤ℤ now) × (new.closed ≡ old.closed)
   moved mark moves = by_slot (is_slot_mark mark) moves
     where
@@ -222,7 +222,7 @@ module _ (stream : Stream) (open_at : ℤ) (old new : MergeState) (now : ℤ) (e
     alike-trans stream open_at ((so_far ++ Tick stop ∷ []) ++ Tick now ∷ []) (so_far ++ Tick now ∷ []) (events ++ Tick now ∷ []) (goes_on mark (is_slot mark.kind) refl moves step) same,
   )
 
-  -- and the reading is still in order
+  -- the reading is still in order
   pub still_free : (mark : MarkView) → Moves old new now (Some mark) → (clock_fault_of new.time new.closed now ≡ None) × (new.closed ≡ old.closed)
   still_free mark moves =
       let no = run.no_fault old.time old.closed now free in
@@ -241,7 +241,7 @@ module _ (stream : Stream) (open_at : ℤ) (old new : MergeState) (now : ℤ) (e
   pub reached : Moves old new now None → Advances stream open_at old new so_far (length marks) now None → HasGiven stream open_at new (events ++ Tick now ∷ []) marks × (new.closed ≡ old.closed)
   reached moves step = (rw append-nil at (run.last_step stream open_at old new now events so_far marks before same None moves.0 step), moves.1)
 
--- the fault that is told
+-- the fault that is returned
 pub told_fault : {T : Type 0} (stream : Stream) (open_at : ℤ) (arrivals : List Arrival) (fault : ReceiveFault) (r : Result T ReceiveFault) → IsErrAnd r (λ e. e ≡ fault)
     → IsFaultOf stream open_at arrivals fault → IfErr r (IsFaultOf stream open_at arrivals)
 told_fault stream open_at arrivals fault (Ok x) e is = tt

@@ -7,7 +7,7 @@ use Rattle.studio_engine.specs.Session.{HasSession, turned}
 use Rattle.example_callers.specs.Engine.{HasSent}
 use Rattle.example_callers.proofs.engine.send_due.Given as goal
 
--- the datagrams so far were sent; only at the first turn is it open whether the reading is at fault
+-- the datagrams so far were sent; only before the first turn is it open whether the reading is refused
 abbrev pub invariant-loop-len : goal.invariant-loop-len
 invariant-loop-len g l = record {
   time : (l.engine.time ≡ l.fn.engine.time) ⊎ (l.engine.time ≡ l.now);

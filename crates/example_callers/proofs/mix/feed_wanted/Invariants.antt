@@ -5,7 +5,7 @@ use Rattle.studio_mix.specs.Mixer.{HasFeeds}
 use Rattle.example_callers.specs.Mix.{feed_with, is_final}
 use Rattle.example_callers.proofs.mix.feed_wanted.Given as goal
 
--- the marks so far were fed, each while it was wanted
+-- the marks so far were fed, each while the block needed more
 abbrev pub invariant-loop-taken : goal.invariant-loop-taken
 invariant-loop-taken l = record {
   stands : (studio : Studio) (feeds : List Feed) (number : ℕ) (feed : Feed) → HasFeeds studio l.fn.mixer feeds number → slice_get feeds l.stream ≡ Some feed

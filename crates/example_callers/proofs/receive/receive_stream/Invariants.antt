@@ -9,7 +9,7 @@ use Rattle.path_merge.specs.Steps.{IsAlike, marks_left}
 use Rattle.example_callers.specs.Receive.{are_on_paths, events_of_all, history_of}
 use Rattle.example_callers.proofs.receive.receive_stream.Given as goal
 
--- the datagrams so far gave the marks so far
+-- the marks so far are those of the datagrams so far
 abbrev pub invariant-loop-arrival : goal.invariant-loop-arrival
 invariant-loop-arrival l = record {
   paths : are_on_paths l.fn.spec (take l.arrival-index l.arrivals) ≡ true;

@@ -15,14 +15,14 @@ same : (xs : List (List Answer)) → map (λ x. x) xs ≡ xs
 same [] = refl
 same (x ∷ xs) = ap (λ l. x ∷ l) (same xs)
 
--- the same for each of as many
+-- two lists of the same length, with the same value for each element
 for_each : {A B C : Type 0} (z : C) (xs : List A) (ys : List B) → length xs ≡ length ys → map (λ _. z) xs ≡ map (λ _. z) ys
 for_each z [] [] e = refl
 for_each z [] (y ∷ ys) e = absurd (omega (arith, e))
 for_each z (x ∷ xs) [] e = absurd (omega (arith, e))
 for_each z (x ∷ xs) (y ∷ ys) e = ap (λ l. z ∷ l) (for_each z xs ys (omega (arith, e)))
 
--- one clock more, which tells the same
+-- one clock more, with the same readings
 told-more : (readings : List ℤ) (clocks all : List MemoryClock) (clock : MemoryClock) → all ≡ clocks ++ clock ∷ [] → drop clock.next clock.readings.now ≡ readings
     → map (λ (c : MemoryClock). drop c.next c.readings.now) clocks ≡ map (λ _. readings) clocks → map (λ (c : MemoryClock). drop c.next c.readings.now) all ≡ map (λ _. readings) all
 told-more readings clocks all clock is tells told =
