@@ -51,7 +51,7 @@ parts_same past a old new parts came format block plan h =
     (subst (λ b. HasParts past a old.format old.plan b parts (received new.ring) (header_with old.format parts.wav.chunk parts.sized) []) (sym block)
     (subst (λ r. HasParts past a old.format old.plan old.block_len parts r (header_with old.format parts.wav.chunk parts.sized) []) (sym came) h)))
 
--- the same came
+-- the writer has received nothing more
 pub moved_same : (past : Option (List (List ℕ))) (a : Option (List ℕ)) (old new : AudioWriter) (parts : WavParts) → IsSameWriter old new → HasMoved past a old parts → HasMoved past a new parts
 moved_same past a old new parts s m =
     let enc : old.format.enc ≡ new.format.enc = ap (λ (f : WavFormat). f.enc) (sym s.format) in
@@ -222,7 +222,7 @@ begun past b c output writer parts chunk f first empty is added size at one left
       recent = omega (arith, count, sized, some);
     }
 
--- or the next one's was
+-- the next file was begun
 pub begun_next : (past then : Option (List (List ℕ))) (a b c d : Option (List ℕ)) (writer : AudioWriter) (old new : WavParts) (chunk : List ℕ) → HasWritten past a writer old → old.left ≡ 0
     → ((head octets : List ℕ) → HasData a old.wav head octets [] → b ≡ Some (live_octets old.wav.format old.wav.chunk octets)) → Closes past then b → Becomes b c []
     → new.wav ≡ record { format = writer.format; chunk = chunk; count = 0 } → Appends c d (header_with writer.format chunk 0)
@@ -272,7 +272,7 @@ finished past a b writer parts file counted none whole w =
           ∙ ap (λ f. Some (live_octets f parts.wav.chunk (little_samples writer.format.enc (drop (length m.held.chunks * (writer.plan.blocks * writer.block_len)) (received writer.ring))))) m.format;
     }
 
--- or behind what went to it before a write failed
+-- the last file ends behind what was written before a write failed
 pub broken_off : (past : Option (List (List ℕ))) (a b : Option (List ℕ)) (writer : AudioWriter) (parts : WavParts) (file : AudioFile) → file.blocks ≡ writer.blocks → file.is_all ≡ false
     → (file.is_whole ≡ true → (head octets rest : List ℕ) → HasData a parts.wav head octets rest → b ≡ Some (live_octets parts.wav.format parts.wav.chunk octets)) → HasFailed past a writer parts
     → IsWritten past b writer file
@@ -300,7 +300,7 @@ unfinished past a b writer parts w =
     finished past a b writer parts (record { blocks = writer.blocks; is_all = false; is_whole = false }) refl (λ all. absurd (let e : false ≡ true = all in cc))
     (λ all. absurd (let e : false ≡ true = all in cc)) w
 
--- it was, and the next one could not be created
+-- the last file was finished, and the next one could not be created
 pub uncreated : (past then : Option (List (List ℕ))) (a b c : Option (List ℕ)) (writer : AudioWriter) (parts : WavParts) → HasWritten past a writer parts
     → ((head octets : List ℕ) → HasData a parts.wav head octets [] → b ≡ Some (live_octets parts.wav.format parts.wav.chunk octets)) → c ≡ b → then ≡ past
     → IsWritten then c writer (record { blocks = writer.blocks; is_all = false; is_whole = true })
@@ -375,7 +375,7 @@ room_more latency greatest frame less = mul-le-mul_right frame (let more : laten
 pub behind_header : (n m : ℕ) → n ≡ 12 + m → n - 12 ≡ m
 behind_header n m is = omega (arith, is)
 
--- what follows of two facts at `Ok`, and at `Err`
+-- what follows from two facts at `Ok`, and at `Err`
 pub both_ok : {T E P Q S : Type 0} (r : Result T E) → (P → Q → S) → OnOk r P → OnOk r Q → OnOk r S
 both_ok (Ok value) follows one other = follows one other
 both_ok (Err fault) follows one other = tt
@@ -402,7 +402,7 @@ latency_more streams number greatest latency then stream past this_one own here 
           omega (arith, past, earlier)
     ]
 
--- what follows at `Ok`, and at `Err`
+-- what follows from a fact at `Ok`, and at `Err`
 pub then_ok : {T E P Q : Type 0} (r : Result T E) → (P → Q) → OnOk r P → OnOk r Q
 then_ok (Ok value) follows one = follows one
 then_ok (Err fault) follows one = tt

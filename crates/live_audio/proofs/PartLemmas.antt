@@ -63,7 +63,7 @@ closes_known (Some x) (Some y) (Some z) files octets is has closes =
     let own : z ≡ octets = (let e : Some z ≡ Some octets = has in cc) in
     ap Some (closes ∙ ap (λ l. l ++ z ∷ []) same ∙ ap (λ l. files ++ l ∷ []) own)
 
--- and another one is empty
+-- if the octets of a file were known, the new ones are too
 pub becomes_known : (a b : Option (List ℕ)) (xs ys : List ℕ) → a ≡ Some xs → Becomes a b ys → b ≡ Some ys
 becomes_known None b xs ys is becomes = absurd (let e : None ≡ Some xs = is in cc)
 becomes_known (Some x) None xs ys is becomes = absurd becomes

@@ -1,4 +1,4 @@
--- The blocks that were sent as raw PCM and those that were left out, one further, and what was written of them.
+-- The blocks that were sent as raw PCM and those that were left out, with one more, and the octets that were written.
 use Rattle.std.proofs.Common.{◌≡◌, ◌≤◌, ◌<◌, ◌+◌, ◌-◌, ◌*◌, ◌/◌, ◌^◌, ℕ, min, Bool, true, false, List, [], ◌∷◌, ◌++◌, length, take, Option, Some, Result, Ok, Err, OnErr, refl, sym, ap, subst, ◌∙◌, arith, append_assoc, append-nil, length-append}
 use Rattle.std.proofs.lemmas.List.{take_all}
 use Rattle.std.proofs.Math.Seq.{take-append-add}
@@ -35,7 +35,7 @@ left_out_more (false ∷ choices) choice = let rest = left_out_more choices choi
 each_more : (blocks : List (List ℕ)) (choices : List Bool) (block : List ℕ) (choice : Bool) → length choices ≡ length blocks → length (choices ++ choice ∷ []) ≡ length (blocks ++ block ∷ [])
 each_more blocks choices block choice same = length-append choices (choice ∷ []) ∙ ap (λ n. n + 1) same ∙ sym (length-append blocks (block ∷ []))
 
--- it was sent
+-- one more block was sent
 pub tapped_in : (blocks : List (List ℕ)) (block : List ℕ) (old new : PcmTap) → sent new.ring ≡ sent old.ring ++ block → new.left_out ≡ old.left_out → HasTapped blocks old → HasTapped (blocks ++ block ∷ []) new
 tapped_in blocks block old new sends left t = record {
   choices = t.choices ++ true ∷ [];
@@ -44,7 +44,7 @@ tapped_in blocks block old new sends left t = record {
   left_out = (let more = left_out_more t.choices true in let was = t.left_out in omega (arith, left, more, was));
 }
 
--- it was left out
+-- one more block was left out
 pub tapped_out : (blocks : List (List ℕ)) (block : List ℕ) (old new : PcmTap) → LeavesOut old new → HasTapped blocks old → HasTapped (blocks ++ block ∷ []) new
 tapped_out blocks block old new out t = record {
   choices = t.choices ++ false ∷ [];
@@ -53,7 +53,7 @@ tapped_out blocks block old new out t = record {
   left_out = (let more = left_out_more t.choices false in let was = t.left_out in let now = out.left_out in omega (arith, now, more, was));
 }
 
--- of a tap in which only the ring looked at its room
+-- a block was left out of a tap that only looked at the room of its ring before
 pub leaves_out : (old between new : PcmTap) → sent between.ring ≡ sent old.ring → between.left_out ≡ old.left_out → LeavesOut between new → LeavesOut old new
 leaves_out old between new ring left out = record {
   sent = out.sent ∙ ring;
@@ -80,7 +80,7 @@ piped_none before output writer f =
 pub same_twice : (old between new : PcmWriter) → IsSamePcm old between → IsSamePcm between new → IsSamePcm old new
 same_twice old between new one other = record { came = other.came ∙ one.came; enc = other.enc ∙ one.enc; block = other.block ∙ one.block; octets = other.octets ∙ one.octets }
 
--- the same came
+-- the writer has received nothing more
 pub piped_same : (before after : Option (List ℕ)) (old new : PcmWriter) (count : ℕ) → IsSamePcm old new → HasPiped before after old count → HasPiped before after new count
 piped_same before after old new count s p =
     let same : little_samples old.enc (received old.ring) ≡ little_samples new.enc (received new.ring) = ap (λ e. little_samples e (received old.ring)) (sym s.enc) ∙ ap (little_samples new.enc) (sym s.came) in
@@ -110,7 +110,7 @@ samples_more before after writer part count p =
     turned : (x y z : ℕ) → x * (y * z) ≡ x * y * z
     turned x y z = omega arith
 
--- whole blocks more came, and so many octets of their samples were written
+-- more whole blocks came, and `count` octets of their samples were written
 pub piped_more : (before a b : Option (List ℕ)) (old new : PcmWriter) (n count : ℕ) (part : List ℕ) → length part ≡ n * old.block_len → received new.ring ≡ received old.ring ++ part
     → new.enc ≡ old.enc → new.block_len ≡ old.block_len → new.octets ≡ old.octets + count → count ≤ length (little_samples old.enc part) → Appends a b (take count (little_samples old.enc part))
     → HasPipedAll before a old → HasPiped before b new new.octets
@@ -165,7 +165,7 @@ whole_more before a b old between new n part size came enc block octets w p =
     all_more before a b old new n count part size (w.came ∙ came) (w.enc ∙ enc) (w.block ∙ block) (w.octets ∙ ap (λ k. k + count) octets)
     (ap (λ e. length (little_samples e part)) enc) (subst (λ e. Appends a b (take count (little_samples e part))) enc w.written) p
 
--- what follows of a fact at `Err`
+-- what follows from a fact at `Err`
 pub err_then : {T E P Q : Type 0} (r : Result T E) → (P → Q) → OnErr r P → OnErr r Q
 err_then (Ok value) follows fact = tt
 err_then (Err fault) follows fact = follows fact

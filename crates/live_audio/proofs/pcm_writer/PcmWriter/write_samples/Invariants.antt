@@ -3,7 +3,7 @@ use Rattle.std.specs.Io.KnownBytes.{Appends}
 use Rattle.live_audio.specs.PcmWriter.{IsSamePcm}
 use Rattle.live_audio.proofs.pcm_writer.PcmWriter.write_samples.Given as goal
 
--- so many octets were written so far
+-- this many octets were written so far
 abbrev pub invariant-writes : goal.invariant-writes
 invariant-writes g l = record {
   same : IsSamePcm l.fn.self l.self;
