@@ -18,7 +18,7 @@ set_own rows stream path row own within is =
 abbrev pub IsFound : List (List (Option ℤ)) → List Stream → ℕ → List (Option ℤ) → Type 0
 IsFound rows streams n found = path_descriptors rows 0 streams ≡ found ++ path_descriptors rows n (drop n streams)
 
--- those of one stream more
+-- the descriptors of one stream more
 pub found_more : (rows : List (List (Option ℤ))) (streams : List Stream) (n : ℕ) (stream : Stream) (found found_then : List (Option ℤ)) → n < length streams → stream ≡ get_or streams n stream
     → IsFound rows streams n found → found_then ≡ found ++ row_descriptors rows n stream.paths → IsFound rows streams (n + 1) found_then
 found_more rows streams n stream found found_then within is f grown = rw (add-one, grown)
@@ -26,6 +26,6 @@ found_more rows streams n stream found found_then within is f grown = rw (add-on
     ∙ ap (λ (s : Stream). found ++ (row_descriptors rows n s.paths ++ path_descriptors rows (suc n) (drop (suc n) streams))) (sym is)
     ∙ sym (append_assoc found (row_descriptors rows n stream.paths) (path_descriptors rows (suc n) (drop (suc n) streams))))
 
--- those of all streams
+-- the descriptors of all streams
 pub found_all : (rows : List (List (Option ℤ))) (streams : List Stream) (n : ℕ) (found : List (Option ℤ)) → length streams ≤ n → IsFound rows streams n found → found ≡ path_descriptors rows 0 streams
 found_all rows streams n found all f = sym (f ∙ ap (λ ss. found ++ path_descriptors rows n ss) (drop_all n streams all) ∙ append-nil found)

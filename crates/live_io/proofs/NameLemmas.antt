@@ -11,7 +11,7 @@ use Rattle.live_io.specs.declared.sockets.names.SocketRole.TheVariants as role
 pub name_one : (stream path : ℕ) → stream < 10 → path_name stream path ≡ (48 + stream) ∷ (97 + path) ∷ []
 name_one stream path few = ap (λ l. l ++ (97 + path) ∷ []) (decimal_digit stream few)
 
--- that of a path of one of those that follow
+-- the name of a path of a stream from 10 on
 pub name_two : (stream path : ℕ) → 10 ≤ stream → stream < 16 → path_name stream path ≡ 49 ∷ (48 + (stream - 10)) ∷ (97 + path) ∷ []
 name_two stream path many few =
     let tens : stream / 10 ≡ 1 = omega (arith, many, few) in
@@ -27,7 +27,7 @@ no_name name paths a b (role.Path stream path) is = paths stream path is.0 is.1
 no_name name paths a b role.ToA is = a
 no_name name paths a b role.ToB is = b
 
--- the answer of a comparison with a text is that for another one that is the same
+-- a comparison with a text has the same result as one with an equal text
 pub is_text : (name text own : List ℕ) (r : Bool) → r ≡ bytes_eq name text → own ≡ text → (IsTrue r → name ≡ own) × (name ≡ own → IsTrue r)
 is_text name text own true told is = (λ t. same_text name text told ∙ sym is, λ e. refl)
 is_text name text own false told is = (λ t. absurd (let f : false ≡ true = t in cc), λ e. absurd (other_text name text told (e ∙ is)))

@@ -6,12 +6,12 @@ use Rattle.std.proofs.lemmas.List.{drop-take, nil_from_length, length-append, le
 use Rattle.std.proofs.Math.Seq.{take-append-add, take-append_seam}
 use borrow.Rule.Slice.PartMut.{put_mid, post_of}
 
--- what a list holds once this was written from a place on
+-- a list after these octets were written over it from a place on
 abbrev pub over : List ℕ → ℕ → List ℕ → List ℕ
 over old h fresh = put_mid h (length old - h) old fresh
 
 module _ (old fresh : List ℕ) (h t b : ℕ) (hl : h ≤ length old) (tl : t ≤ length fresh) (bl : b ≤ h + t) where
-  -- what is held once so many octets were taken behind the first
+  -- the octets that are held after more were taken behind the first
   abbrev now : List ℕ
   now = over old h fresh
 
@@ -44,7 +44,7 @@ module _ (old fresh : List ℕ) (h t b : ℕ) (hl : h ≤ length old) (tl : t �
       let moved : copy_within now b (h + t) 0 ≡ take n (drop b now) ++ drop n now = ap (λ k. take n (drop b now) ++ drop k now) none in
       ap (take n) moved ∙ (ap (λ k. take k (take n (drop b now) ++ drop n now)) (sym count) ∙ (take-append_seam (take n (drop b now)) (drop n now) ∙ sym back))
 
-  -- so what was written and what is held are what was held and what was taken
+  -- so what was written and what is held now are what was held before and what was taken
   pub passed : take b now ++ take (h + t - b) (copy_within now b (h + t) 0) ≡ take h old ++ take t fresh
   passed =
       let parts = take-append-drop (h + t) now in
@@ -66,7 +66,7 @@ same_length old fresh h hl same =
     let e = length-drop h old in
     omega (arith, a, b, c, d, e, same, hl)
 
--- where nothing was taken, nothing was there, or no room
+-- if nothing was taken, there was nothing, or no room
 sees_by : (b : Bool) (known : List ℕ) (len held h room taken : ℕ) → nat_lt held len ≡ b → h ≡ min held len → room ≡ len - h → (taken < room → length known ≡ 0) → taken ≡ 0
     → (known ≡ []) ⊎ (len ≤ held)
 sees_by true known len held h room taken less least rest most none =

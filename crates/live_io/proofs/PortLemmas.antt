@@ -24,7 +24,7 @@ said_append (x ∷ xs) ys (p ∷ a) b first second =
     let rest : AreSaid (xs ++ ys) (a ++ b) = said_append xs ys a b more second in
     cc
 
--- those that were said have no fault
+-- needs whose ports are configured have no fault
 pub first_after : (xs ys : List Need) (a : List ℕ) → AreSaid xs a → first_missing (xs ++ ys) ≡ first_missing ys
 first_after [] ys a said = refl
 first_after (x ∷ xs) ys [] said = absurd (cc)
@@ -74,7 +74,7 @@ pub record IsFinding (rows : List (List (Option ℕ))) (streams : List Stream) (
   pub said : AreSaid needs found
   pub whole : path_needs rows 0 streams ≡ needs ++ path_needs rows n (drop n streams)
 
--- those of one stream more, and of the rest
+-- the needs of one stream more, and of the rest
 next_needs : (rows : List (List (Option ℕ))) (streams : List Stream) (n : ℕ) (stream : Stream) → n < length streams → stream ≡ get_or streams n stream
     → path_needs rows n (drop n streams) ≡ row_needs rows n stream.paths ++ path_needs rows (suc n) (drop (suc n) streams)
 next_needs rows streams n stream within is =

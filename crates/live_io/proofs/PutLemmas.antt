@@ -42,7 +42,7 @@ sends_block old block new (inr (ends, why)) = inr (ends.0, why)
 pub stays_more : (old mid new : BlockProducer) → StaysEnded old mid → StaysEnded mid new → StaysEnded old new
 stays_more old mid new first second e = ((second (first e).0).0, (second (first e).0).1 ∙ (first e).1)
 
--- the front of a record: its opening, then its paths, and then the interface for changes
+-- the start of a record: its opening, then its paths, and then the interface for changes
 pub opens_by : (is_controlled : Bool) (studio : Studio) (at : ℕ) (begun mid described end : BlockProducer) → sent begun.ring ≡ [] → begun.ended ≡ false
     → Puts begun (section_block at) mid → Sends mid (path_blocks 0 studio.streams) described → StaysEnded mid described
     → Sends described (gains_blocks is_controlled) end → StaysEnded described end
@@ -56,11 +56,11 @@ opens_by is_controlled studio at begun mid described end none going first paths 
       | inr (e, inr room) ↦ inr (e, room)
     ]
 
--- none yet
+-- no stream is described yet
 pub describes_none : (streams : List Stream) (end : BlockProducer) → Describes streams 0 end end
 describes_none streams end = record { done = []; rest = refl; sends = sends_none end [] refl; ended = λ e. (e, refl) }
 
--- those of one stream more
+-- the descriptions of one stream more
 pub describes_more : (streams : List Stream) (n : ℕ) (stream : Stream) (old mid new : BlockProducer) → n < length streams → stream ≡ get_or streams n stream
     → Describes streams n old mid → Sends mid (stream_blocks n stream) new → StaysEnded mid new → Describes streams (n + 1) old new
 describes_more streams n stream old mid new within is d more stays = rw add-one (record {
@@ -72,7 +72,7 @@ describes_more streams n stream old mid new within is d more stays = rw add-one 
   ended = stays_more old mid new d.ended stays;
 })
 
--- those of all streams
+-- the descriptions of all streams
 pub describes_all : (streams : List Stream) (n : ℕ) (old new : BlockProducer) → length streams ≤ n → Describes streams n old new → Sends old (path_blocks 0 streams) new
 describes_all streams n old new all d =
     subst (λ l. Sends old l new) (sym (d.rest ∙ (ap (λ ss. d.done ++ path_blocks n ss) (drop_all n streams all) ∙ append-nil d.done))) d.sends

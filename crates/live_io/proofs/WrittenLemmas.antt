@@ -55,7 +55,7 @@ behind_blocks : (paths : ℕ) (octets : List ℕ) (found : WholeBlocks) (w : Are
 behind_blocks paths octets found w =
     ap (λ n. drop n octets) w.len ∙ ap (drop (length (joined w.blocks))) w.are ∙ drop-append_seam (joined w.blocks) w.rest
 
--- those of a prefix of octets are those of the octets
+-- the whole blocks of a prefix of octets are blocks of the octets
 prefix_blocks : (paths count : ℕ) (octets : List ℕ) (found : WholeBlocks) (w : AreWhole paths (take count octets) found) → take found.len octets ≡ joined w.blocks
 prefix_blocks paths count octets found w =
     ap (take found.len) (sym (take-append-drop count octets)) ∙ front_blocks paths (take count octets) found w (drop count octets)
@@ -73,7 +73,7 @@ prefix_within paths count octets found w =
 pub same_front : (n k : ℕ) (xs : List ℕ) → n ≤ length (take k xs) → take n xs ≡ take n (take k xs)
 same_front n k xs within = ap (take n) (sym (take-append-drop k xs)) ∙ take-append-le n (take k xs) (drop k xs) within
 
--- a write is tried again where nothing was written
+-- a write is tried again if nothing was written
 pub appends_kept : (a b c : Option (List ℕ)) (xs : List ℕ) → Appends a b xs → Keeps b c → Appends a c xs
 appends_kept None b c xs wrote same = tt
 appends_kept (Some x) None c xs wrote same = absurd wrote
@@ -113,7 +113,7 @@ all_recorded contents writer result same w = record {
   holds = λ _. w.holds;
 }
 
--- the blocks of what came were written: `more` of them, of which the first `n` octets are whole
+-- the whole blocks of what came were written: `more` of them, and the octets behind them are held
 pub more_written : (old new : RecordWriter) (a b : Option (List ℕ)) (found : WholeBlocks) (octets : List ℕ) (whole : AreWhole old.paths octets found) (w : HasWritten a old)
     → new.paths ≡ old.paths → received new.ring ≡ (joined w.blocks ++ take found.len octets) ++ take new.held new.octets.items
     → take new.held new.octets.items ≡ drop found.len octets → Appends a b (take found.len octets)

@@ -7,6 +7,6 @@ use Rattle.live_io.proofs.sockets.sharing.have_collision.Given as goal
 abbrev pub invariant-loop-later : goal.invariant-loop-later
 invariant-loop-later l = (i j : ℕ) (d : PathPlace) → i < j → j < l.later → Collide (slice_index_or l.places i d) (slice_index_or l.places j d) → ⊥
 
--- nor does one of the first so many collide with it
+-- none of the first paths collides with it either
 abbrev pub invariant-loop-earlier : goal.invariant-loop-earlier
 invariant-loop-earlier l = (i : ℕ) (d : PathPlace) → i < l.earlier → Collide (slice_index_or l.places i d) (slice_index_or l.places l.later d) → ⊥
