@@ -7,7 +7,7 @@ use Rattle.live_status.specs.Conditions.{Updates, UpdatesAt, SetsCondition, upda
 use Rattle.live_status.specs.declared.stream_status.StreamStatus.{StreamStatus}
 use Rattle.live_status.proofs.Each.{IsUpTo, below_next}
 
--- the one at this place was updated too
+-- the status at this place was updated too
 pub updates-step : (streams : List StreamState) (now : ℤ) (n : ℕ) (olds news next : List StreamStatus) (stream : StreamState)
     → slice_get streams n ≡ Some stream → IsUpTo (Updates streams now) n olds news → UpdatesAt n stream.counts.taken now news next → IsUpTo (Updates streams now) (n + 1) olds next
 updates-step streams now n olds news next stream at upto one = record {

@@ -6,13 +6,13 @@ use Rattle.std.proofs.lemmas.Grind.{common_steps}
 use Rattle.std.proofs.lemmas.Option.{gets, slice_get_within}
 use Rattle.live_status.specs.Each.{AreEach}
 
--- the places below this one have this relation to what they were, and the others are as they were
+-- the elements below this place have this relation to the old ones, and the others did not change
 pub record IsUpTo {X : Type 0} (P : ℕ → X → X → Type 0) (n : ℕ) (olds news : List X) : Type 0 where
   pub length_is : length news ≡ length olds
   pub done : (place : ℕ) (x y : X) → place < n → slice_get olds place ≡ Some x → slice_get news place ≡ Some y → P place x y
   pub left : (place : ℕ) → n ≤ place → slice_get news place ≡ slice_get olds place
 
--- there are so many, and each has this relation to the one at its place
+-- there are this many elements, and each has this relation to the one at its place
 pub record IsBegun {X Y : Type 0} (P : ℕ → X → Y → Type 0) (n : ℕ) (xs : List X) (ys : List Y) : Type 0 where
   pub length_is : length ys ≡ n
   pub each : (place : ℕ) (x : X) (y : Y) → slice_get xs place ≡ Some x → slice_get ys place ≡ Some y → P place x y
@@ -49,7 +49,7 @@ get-set_else xs n place y other = grind (arith, common_steps, gets)
 pub below_next : (place n : ℕ) → place < n + 1 → (place < n) ⊎ (place ≡ n)
 below_next place n h = grind arith
 
--- the one at this place was changed too
+-- the element at this place was changed too
 pub upto-set : {X : Type 0} (P : ℕ → X → X → Type 0) (n : ℕ) (olds news : List X) (old new : X)
     → IsUpTo P n olds news → n < length news → slice_get olds n ≡ Some old → P n old new → IsUpTo P (n + 1) olds (set news n new)
 upto-set P n olds news old new upto within at this = record {
@@ -72,12 +72,12 @@ upto-all P n olds news all upto = record {
   each = λ place x y in_olds in_news. upto.done place x y (let within = slice_get_within olds place x in_olds in omega arith) in_olds in_news;
 }
 
--- what holds where a call answers well, at one that did
+-- a fact at `Ok`, for a result that is `Ok`
 pub where_ok : {T E : Type 0} {P : Type 0} (r : Result T E) → IsOk r → OnOk r P → P
 where_ok (Ok x) is p = p
 where_ok (Err e) is p = absurd (cc is)
 
--- where there are as many
+-- the lists have the same length
 pub begun-all : {X Y : Type 0} (P : ℕ → X → Y → Type 0) (n : ℕ) (xs : List X) (ys : List Y) → n ≡ length xs → IsBegun P n xs ys → AreEach P xs ys
 begun-all P n xs ys all begun = record { length_is = begun.length_is ∙ all; each = begun.each }
 

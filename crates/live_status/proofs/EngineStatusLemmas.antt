@@ -26,7 +26,7 @@ past [] i h = refl
 past (x ∷ xs) zero h = absurd (omega (arith, h))
 past (x ∷ xs) (suc i) h = past xs i (omega (arith, h))
 
--- what was found at a place is what stands there
+-- the element that was found at a place is the one there
 pub found-at : {X : Type 0} (xs : List X) (i : ℕ) (r : Option (Bor X)) → IfSome r (λ x. x.now ≡ get_or xs i x.now) → MatchOption r (length xs ≤ i) (λ x. (i < length xs) × HoldsAt (λ y. x.now ≡ y) xs i) → option_copied r ≡ slice_get xs i
 found-at xs i None is at = sym (past xs i at)
 found-at xs i (Some x) is at = sym (slice_get_read xs (length xs) i x.now refl at.0 is)
@@ -54,7 +54,7 @@ streams-filled engine trackers statuses blanks news blank filled = record {
       };
 }
 
--- paths of which only the sockets changed are the engine's still
+-- if only the sockets of paths changed, the paths still have the engine's numbers
 pub paths-kept : (engine : EngineState) (tracker : Option CopyTracker) (number : ℕ) (counts : Counts) (blanks olds news : List PathState) → AreEach (IsEnginePath engine tracker number counts) blanks olds → AreEach KeepsPath olds news → AreEach (IsEnginePath engine tracker number counts) blanks news
 paths-kept engine tracker number counts blanks olds news shown kept = record {
   length_is = kept.length_is ∙ shown.length_is;
@@ -69,7 +69,7 @@ paths-kept engine tracker number counts blanks olds news shown kept = record {
       };
 }
 
--- streams of which only the sockets changed are the engine's still
+-- if only the sockets of streams changed, the streams still have the engine's numbers
 pub streams-kept : (engine : EngineState) (trackers : List CopyTracker) (statuses : List StreamStatus) (olds news : List StreamState) → AreEach (IsEngineStream engine trackers) statuses olds → AreEach KeepsStream olds news → AreEach (IsEngineStream engine trackers) statuses news
 streams-kept engine trackers statuses olds news shown kept = record {
   length_is = kept.length_is ∙ shown.length_is;

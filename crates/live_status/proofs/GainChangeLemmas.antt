@@ -8,7 +8,7 @@ use Rattle.live_status.specs.GainChannel.{changes_of, changes_sent}
 use Rattle.status_page.specs.declared.control.DeskAnswer.TheVariants.{Answered}
 use Rattle.live_status.specs.declared.gain_channel.letters.OutcomeLetter.{OutcomeLetter}
 
--- those of an answer are the ones that it takes
+-- the change of an answer is the one that it takes
 pub taken_more : (answer : GainAnswer) (next : ℤ) (gains : List ℤ) (before after : List OutcomeLetter) (outcome : OutcomeLetter) → after ≡ before ++ outcome ∷ []
     → outcome.outcome ≡ Answered answer next → outcome.gains.items ≡ gains → changes_sent after ≡ changes_sent before ++ changes_in answer gains
 taken_more answer next gains before after outcome more is shown =
@@ -17,7 +17,7 @@ taken_more answer next gains before after outcome more is shown =
     ∙ ap (λ l. changes_sent before ++ l) (append-nil (changes_of outcome.outcome outcome.gains.items)
     ∙ (ap (λ o. changes_of o outcome.gains.items) is ∙ ap (changes_in answer) shown)))
 
--- those of a request that was not taken are none
+-- a request that was not taken adds no change
 pub taken_none : (before after : List OutcomeLetter) (outcome : OutcomeLetter) → after ≡ before ++ outcome ∷ [] → changes_of outcome.outcome outcome.gains.items ≡ []
     → changes_sent after ≡ changes_sent before
 taken_none before after outcome more none =

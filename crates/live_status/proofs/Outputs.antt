@@ -19,7 +19,7 @@ counted-kept saturated olds mids news counted kept = record {
       of_count (slice_get saturated place) old _ new (counted.each place old _ at_old at) (kept.each place _ new at at_new);
 }
 
--- where there is no meter
+-- the outputs, if there is no meter
 pub counted-alone : (saturated : List ℕ) (olds news : List OutputState) → AreEach (HasCount saturated) olds news
     → AreEach (λ place (old new : OutputState). IfSome (slice_get saturated place) (λ count. new.saturated ≡ count)) olds news
 counted-alone saturated olds news counted = record {

@@ -65,7 +65,7 @@ due c times t h =
     let there : int_le c t ≡ true = grind (arith, ints, h) in
     ap (λ (b : Bool). cond b (behind t times) (c ∷ times)) there
 
--- those behind a later time
+-- the times behind a later time
 later_step : (c : ℤ) (times : List ℤ) (t u : ℤ) → t ≤ℤ u → behind u (behind t times) ≡ behind u times
     → (b : Bool) → int_le c t ≡ b → behind u (cond b (behind t times) (c ∷ times)) ≡ behind u (c ∷ times)
 later_step c times t u h same false e = refl
@@ -77,7 +77,7 @@ pub behind_behind : (times : List ℤ) (t u : ℤ) → t ≤ℤ u → behind u (
 behind_behind [] t u h = refl
 behind_behind (c ∷ times) t u h = later_step c times t u h (behind_behind times t u h) (int_le c t) refl
 
--- one change more, where what is due is gone or not
+-- one change more, whether or not times that are due were removed
 kept_step : (c : ℤ) (times : List ℤ) (at t : ℤ) → c ≤ℤ t → (b : Bool) → behind t (cond b (c ∷ earlier at times) (earlier at times) ++ at ∷ []) ≡ behind t (earlier at times ++ at ∷ [])
 kept_step c times at t h true = due c (earlier at times ++ at ∷ []) t h
 kept_step c times at t h false = refl
@@ -120,7 +120,7 @@ kept_after studio changes answer gains from next times kept h = λ t late.
     ∙ (ap (behind t) (sym (times_taken studio changes answer gains))
     ∙ sym (planned_is studio (changes ++ changes_in answer gains) t)))
 
--- and none of them is due
+-- no planned time is due
 pub planned_exactly : (studio : Studio) (changes : List (ℤ × List ℤ)) (answer : GainAnswer) (gains : List ℤ) (from next : ℤ) (times : List ℤ)
     → AreKept studio changes from times → from ≤ℤ next → planned_after answer next times ≡ planned_at studio (changes ++ changes_in answer gains) next
 planned_exactly studio changes answer gains from next times kept h =
