@@ -26,7 +26,7 @@ pub ok_both : {X E : Type 0} (r : Result X E) (P Q R : Type 0) → (P → Q → 
 ok_both (Ok x) P Q R f p q = f p q
 ok_both (Err e) P Q R f p q = tt
 
--- a fault is answered as it was
+-- a fault is returned as it was
 pub told : {T : Type 0} (P : ReplayFault → Type 0) (fault : ReplayFault) (r : Result T ReplayFault) → IsErrAnd r (λ answer. answer ≡ fault) → P fault → IfErr r P
 told P fault (Ok it) is holds = absurd is
 told P fault (Err answer) is holds = subst P (sym is) holds

@@ -53,7 +53,7 @@ unopened studio plan first a H run fault r is = record {
   front = inl (record { datagrams = r.datagrams; first = r.session.given.first; count = 0; wrote = Appends-nil a; told = heard_first studio [] a a H run r });
 }
 
--- a fault came before the end, and what was held is written
+-- a fault came before the end, and the lines that were held are written
 ends_front : (studio : Studio) (plan : PlanView) (first a b c : Option (List ℕ)) (H : Hearing) (run : ReplayState) (fault : ReplayFault) (s : StopsFile studio plan first a run b H fault)
     → BreaksReport (changed_by studio plan s.changed) s.stops.events a c H → WritesFront studio plan first a c H fault
 ends_front studio plan first a b c H run fault s front = record {
@@ -76,7 +76,7 @@ ends_whole studio plan first a b c H run (Change number why) other s rest =
 ends_whole studio plan first a b c H run TooManyEvents other s rest = ends_front studio plan first a b c H run TooManyEvents s (inl (broke_whole (changed_by studio plan s.changed) s.stops.events a b c H run s.stops.at rest))
 ends_whole studio plan first a b c H run Write other s rest = absurd (other refl)
 
--- or a write of it failed
+-- or a write of the lines failed
 held_at : (studio : Studio) (events : List TraceEvent) (a b : Option (List ℕ)) (H : Hearing) (run : ReplayState) (fault : ReplayFault) → (fault ≡ Write → ⊥) → StopsAt studio events a run b H fault → HasReplayed studio events a run b H
 held_at studio events a b H run Memory other at = absurd at
 held_at studio events a b H run (Capture fault) other at = at
@@ -166,7 +166,7 @@ pub closed_session : (studio : Studio) (run : ReplayState) (engine : EngineState
 closed_session studio run engine events a b H r s =
     subst (λ l. HasSession studio engine l r.datagrams) (shut_open run.engine.closed events (r.session.closed ∙ r.open_yet)) s
 
--- a settled engine gave all datagrams of its events
+-- a settled engine has returned all datagrams of its events
 pub settled_datagrams : (studio : Studio) (engine : EngineState) (events : List TraceEvent) (datagrams : List (List ℕ)) → HasSession studio engine events datagrams → engine.settled ≡ true
     → AreDatagrams studio events datagrams
 settled_datagrams studio engine events datagrams s settled = first_all studio (feeds_of studio events) datagrams s.given.first (settled_ready studio engine events datagrams s settled)

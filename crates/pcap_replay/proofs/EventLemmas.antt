@@ -67,7 +67,7 @@ first_with open_at from clock events packet (role.Arrival target) =
     (first_more (read_at open_at from events clock.reading (clock_with clock packet.time).reading) (Arrival target.stream target.path (octets_of packet.ip.body) ∷ []))
 first_with open_at from clock events packet role.Change = first_read open_at from events clock.reading (clock_with clock packet.time).reading
 
--- none of them is a close
+-- no event is a close
 open_by : (b : Bool) (events : List TraceEvent) (time : ℤ) → closed_at false events ≡ false → closed_at false (if b then events else events ++ Reading time ∷ []) ≡ false
 open_by true events time e = e
 open_by false events time e = closed_more false events (Reading time) ∙ e

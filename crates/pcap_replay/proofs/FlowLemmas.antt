@@ -28,7 +28,7 @@ seen_packet old new packets packet is seen =
 seen_more : (table : TableView) (packets : List PacketView) → table ≡ table_after no_table (map Ok packets) → table ≡ table_after no_table (map Ok (packets ++ []))
 seen_more table packets seen = seen ∙ ap (λ l. table_after no_table (map Ok l)) (sym (append-nil packets))
 
--- the packet of a record or a block was counted, or it has none
+-- the packet of a record or a block was counted, if it has one
 pub seen_part : (old new : TableView) (entries : List Entry) (packet : PacketView) (tells : Option RecordMark) → new ≡ table_with old (Ok packet) → old ≡ table_after no_table (map Ok (packets_among entries))
     → new ≡ table_after no_table (map Ok (packets_among (entries ++ entries_in (Some packet) tells)))
 seen_part old new entries packet tells is seen =

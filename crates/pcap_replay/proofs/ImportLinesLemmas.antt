@@ -177,7 +177,7 @@ says_first : (line rest : List ℕ) (event : TraceEvent) (number count : ℕ) (m
 says_first line rest event number count more is said room later =
     ap (λ l. lines_said number count (lines_of l)) (append_assoc line (10 ∷ []) rest) ∙ reads-event line is event said count room number rest ∙ ap (prepend (event ∷ [])) later
 
--- a text that follows some events has the remaining ones of all events
+-- a text that follows some events has the remaining events of `all`
 record IsSaid (events : List TraceEvent) (text : List ℕ) (all : List TraceEvent) : Type 0 where
   pub more : List TraceEvent
   pub said : (number : ℕ) → lines_said number (length events) (lines_of text) ≡ Ok more
@@ -262,7 +262,7 @@ one_packet false events earlier n rest route packet text all e path is small lat
     one_arrival events (all (events ++ event ∷ [])) route packet text path is (omega (arith, room))
     (later (events ++ event ∷ []) (time_more (pos 0) events event ∙ time ∙ same) (omega (arith, room, longer)))
 
--- what a packet's line is, by its route
+-- the lines of a packet, by its route
 abbrev SaidWith : List Route → CaptureClock → List TraceEvent → PacketView → Option Route → List PacketView → Type 0
 SaidWith routes clock events packet o packets = IsSaid events (packet_text clock packet o ++ text_from routes (packet_clock clock packet o) (map Ok packets))
     (events_after (pos 0) (Flows routes) (clock_past clock packet (role_of_route o)) (events_with (pos 0) 0 clock events packet (role_of_route o)) packets ++ Closing ∷ [])

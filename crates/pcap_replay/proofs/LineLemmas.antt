@@ -25,7 +25,7 @@ line_more datagrams datagram = flat_map-append datagram_line datagrams (datagram
 pub lines_more : (datagrams more : List (List ℕ)) → datagrams_text (datagrams ++ more) ≡ datagrams_text datagrams ++ datagrams_text more
 lines_more datagrams more = flat_map-append datagram_line datagrams more
 
--- no datagram was given yet
+-- no datagram was returned yet
 pub gives_none : (studio : Studio) (engine : EngineState) (events same : List TraceEvent) (datagrams : List (List ℕ)) (a : Option (List ℕ)) (h : List ℕ) (H : Hearing) → events ≡ same
     → HasSession studio engine events datagrams → GivesLines studio engine same datagrams a h a h H H
 gives_none studio engine events same datagrams a h H e s = record {
@@ -45,7 +45,7 @@ tells_more H K L datagrams more output datagram is before hears = λ events told
     subst (L events) (append_assoc datagrams more (datagram ∷ []))
     (subst (λ d. L events ((datagrams ++ more) ++ d ∷ [])) is (hears events (datagrams ++ more) (before events told)))
 
--- one more was given, and its line follows
+-- one more datagram was returned, and its line follows
 pub gives_more : (studio : Studio) (old new : EngineState) (events more same : List TraceEvent) (datagrams : List (List ℕ)) (a b c : Option (List ℕ)) (h i j before after : List ℕ) (H K L : Hearing) (len : ℕ)
     → more ≡ same → length after ≡ length before → len ≤ length before → (g : GivesLines studio old events datagrams a h b i H K) → Gives studio new more (datagrams ++ g.more) before after len
     → Hears K L (take len after) → PassesOn b i c j (datagram_line (take len after)) → GivesLines studio new same datagrams a h c j H L
@@ -59,7 +59,7 @@ gives_more studio old new events more same datagrams a b c h i j before after H 
       told = tells_more H K L datagrams g.more (take len after) d.datagram is g.told hears;
     }
 
--- or a part of it
+-- one more datagram was returned, and a part of its line was written
 pub breaks_more : (studio : Studio) (old new : EngineState) (events more same : List TraceEvent) (datagrams : List (List ℕ)) (a b c : Option (List ℕ)) (h i before after : List ℕ) (H K L : Hearing) (len : ℕ)
     → more ≡ same → length after ≡ length before → len ≤ length before → (g : GivesLines studio old events datagrams a h b i H K) → Gives studio new more (datagrams ++ g.more) before after len
     → Hears K L (take len after) → BreaksOff b i c (datagram_line (take len after)) → BreaksLines studio new same datagrams a h c H L
@@ -73,7 +73,7 @@ breaks_more studio old new events more same datagrams a b c h i before after H K
       told = tells_more H K L datagrams g.more (take len after) d.datagram is g.told hears;
     }
 
--- the last datagram was given
+-- the last datagram was returned
 pub gives_last : (studio : Studio) (old new : EngineState) (events more same : List TraceEvent) (datagrams : List (List ℕ)) (a b : Option (List ℕ)) (h i : List ℕ) (H K : Hearing)
     → more ≡ same → (g : GivesLines studio old events datagrams a h b i H K) → HasSession studio new more (datagrams ++ g.more) → GivesLines studio new same datagrams a h b i H K
 gives_last studio old new events more same datagrams a b h i H K e g s = record { more = g.more; stands = subst (λ l. HasSession studio new l (datagrams ++ g.more)) e s; wrote = g.wrote; told = g.told }
@@ -91,7 +91,7 @@ goes_twice first at next now from (inr comes) = inr comes
 goes_twice first at next now (inl here) (inl stays) = inl (stays ∙ here)
 goes_twice first at next now (inr there) (inl stays) = inr (stays ∙ there)
 
--- a reading that a clock takes it takes again
+-- a clock that takes a reading takes it again
 still_fine : (back far closed : Bool) → (if back then Some WentBack else if far then Some TooFar else if closed then Some Closed else None) ≡ None
     → (if false then Some WentBack else if far then Some TooFar else if closed then Some Closed else None) ≡ None
 still_fine true far closed e = absurd (let f : Some WentBack ≡ None = e in cc)

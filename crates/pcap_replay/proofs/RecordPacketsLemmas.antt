@@ -106,7 +106,7 @@ going_later old new less = by_test (int_eq old new) (grind (arith, ints, nat_tes
     by_test true h = absurd (false≢true (sym h))
     by_test false h = refl
 
--- it stays where no reading follows
+-- a reading is kept if no reading follows
 going_stays : (old new : ℤ) (step : Step) (steps : List Step) (kept : List TraceEvent) → takes_reading (step ∷ steps) ≡ false → kept_events (step ∷ steps) ≡ kept
     → kept_events (going old new ++ step ∷ steps) ≡ turned old new [] ++ kept
 going_stays old new step steps kept other is = by_test (int_eq old new)
@@ -150,7 +150,7 @@ module _ (studio : Studio) (low : pos 0 ≤ℤ studio.open_at) where
       its (pos n) h = refl
       its (negsuc n) h = absurd (omega (arith, ints, h))
 
-  -- the recorded reading is behind some events, if it is later
+  -- the recorded reading follows some events, if it is later
   read_is : (events : List TraceEvent) (r i : ℕ) → r ≤ i → time_at studio.open_at events ≡ studio.open_at +ℤ pos r
       → read_at studio.open_at (natural studio.open_at) events r i ≡ events ++ turned (studio.open_at +ℤ pos r) (studio.open_at +ℤ pos i) []
   read_is events r i le is = by_test (nat_lt r i) refl

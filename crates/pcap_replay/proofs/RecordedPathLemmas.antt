@@ -1,4 +1,4 @@
--- One path more at the front of those that a record describes.
+-- One path more at the front of the paths that a record describes.
 use Rattle.std.proofs.Common.{◌≡◌, ℕ, suc, ◌+◌, List, ◌∷◌, Result, Ok, Err, IfOk, sym, subst}
 use Rattle.rtp_stream.specs.declared.stream_spec.Stream.{Stream}
 use Rattle.pcap_replay.specs.declared.recording.RecordedPath.{RecordedPath}

@@ -57,7 +57,7 @@ broke_more studio engine events earlier a b c h H K datagrams first early told b
       told = record { runs = broken.stands.runnable; earlier = earlier; early = early; datagrams = datagrams ++ broken.more; first = broken.stands.given.first; told = broken.told earlier told };
     }
 
--- what an observer received so far
+-- the events and datagrams that an observer received so far
 pub heard_first : (studio : Studio) (events : List TraceEvent) (a b : Option (List ℕ)) (H : Hearing) (run : ReplayState) → HasReplayed studio events a run b H → HasHeardFirst studio events H
 heard_first studio events a b H run r = record { runs = r.session.runnable; earlier = events; early = first_same events; datagrams = r.datagrams; first = r.session.given.first; told = r.told }
 
@@ -76,7 +76,7 @@ begun_replayed studio a H run b told = record {
 pub unheard : (studio : Studio) (events : List TraceEvent) (a b : Option (List ℕ)) (H : Hearing) (run : ReplayState) → HasReplayed studio events a run b H → HasReplayed studio events a run b (λ _ _. ⊤)
 unheard studio events a b H run r = record { datagrams = r.datagrams; session = r.session; rested = r.rested; open_yet = r.open_yet; wrote = r.wrote; told = tt }
 
--- what was held is written
+-- the lines that were held are written
 pub broke_whole : (studio : Studio) (events : List TraceEvent) (a b c : Option (List ℕ)) (H : Hearing) (run : ReplayState) → HasReplayed studio events a run b H → Appends b c run.text → BreaksAt studio events a c H
 broke_whole studio events a b c H run r rest = record {
   datagrams = r.datagrams;
@@ -92,7 +92,7 @@ broke_part studio events a b c H run r part =
     let broken = BreaksOff-finished a b c run.text (datagrams_text r.datagrams) r.wrote part in
     record { datagrams = r.datagrams; first = r.session.given.first; count = broken.count; wrote = broken.wrote; told = heard_first studio events a b H run r }
 
--- a fault of an event, where all that was given is written or held
+-- a fault of an event, if all lines so far are written or held
 pub stops_at_run : (studio : Studio) (events : List TraceEvent) (a b : Option (List ℕ)) (H : Hearing) (run : ReplayState) (fault : ReplayFault) → IsRun fault → HasReplayed studio events a run b H → StopsAt studio events a run b H fault
 stops_at_run studio events a b H run Memory kind r = absurd kind
 stops_at_run studio events a b H run (Capture fault) kind r = absurd kind
@@ -101,7 +101,7 @@ stops_at_run studio events a b H run (Change number why) kind r = r
 stops_at_run studio events a b H run TooManyEvents kind r = r
 stops_at_run studio events a b H run Write kind r = absurd kind
 
--- gains that change leave what was written and what an observer received
+-- a change of gains changes neither what was written nor what an observer received
 pub gains_replayed : (studio changed : Studio) (events : List TraceEvent) (a b : Option (List ℕ)) (H : Hearing) (old new : ReplayState) → new.text ≡ old.text → new.engine.turning ≡ old.engine.turning
     → (r : HasReplayed studio events a old b H) → HasSession changed new.engine events r.datagrams → HasReplayed changed events a new b H
 gains_replayed studio changed events a b H old new text turning r session = record {
@@ -126,7 +126,7 @@ pub own_run : {X : Type 0} (result : Result X ReplayFault) → IfErr result (λ 
 own_run (Ok x) kind = tt
 own_run (Err fault) kind = own_of fault kind
 
--- what stops before some events stops before more
+-- a fault before some events is a fault before more events
 pub stops_longer : (studio : Studio) (all longer : List TraceEvent) (a c : Option (List ℕ)) (H : Hearing) (run : ReplayState) (fault : ReplayFault) → AreFirst all longer
     → Stops studio all a run c H fault → Stops studio longer a run c H fault
 stops_longer studio all longer a c H run fault first stops = record { events = stops.events; first = first_longer stops.events all longer stops.first first; at = stops.at }
@@ -296,7 +296,7 @@ replaying_more studio plan first a run parts held ended left c H closing entries
   closes = ap (λ o. closing_with o part.mark) closes ∙ sym (closing_more entries (option_map packet_view part.packet) part.mark);
 }
 
--- or its packet's events stopped
+-- or the events of its packet stopped at a fault
 pub stops_among : (studio : Studio) (plan : PlanView) (first a : Option (List ℕ)) (run : ReplayState) (c : Option (List ℕ)) (H : Hearing) (fault : ReplayFault) (entries : List Entry) (part : CaptureBlock)
     → IfSome first (λ file. BeginsWith file (entries ++ part_entries part)) → IsOwn fault → Stops (changed_by studio plan (packets_among entries)) (events_of studio plan (packets_among entries ++ packets_in part)) a run c H fault
     → StopsFile studio plan first a run c H fault

@@ -23,7 +23,7 @@ role_here changes streams n place stream at less =
     ap (λ l. role_at changes n l place) (drop_here streams n stream at)
     ∙ ap (λ b. if b then role.Arrival (record { stream = n; path = place }) else role_at changes (n + 1) (drop (suc n) streams) (place - stream.paths)) test
 
--- or past them
+-- a place past the paths of a stream
 pub role_on : (changes : RecordedChanges) (streams : List Stream) (n place : ℕ) (stream : Stream) → slice_get streams n ≡ Some stream → stream.paths ≤ place
     → role_at changes n (drop n streams) place ≡ role_at changes (n + 1) (drop (n + 1) streams) (place - stream.paths)
 unfolding role_at

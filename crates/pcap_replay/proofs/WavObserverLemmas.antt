@@ -54,7 +54,7 @@ sounded_more first old new datagrams datagram whole then s more is =
     ap (λ e. samples_in enc datagrams ++ datagram_samples e datagram) same ∙ sym (samples_more enc datagrams datagram) in
     subst (λ b. HasAddedBy b first new (datagrams ++ datagram ∷ [])) (sym then) (subst (HasAdded first.made new.made first.wav new.wav) all added)
 
--- or a part of them, which isn't counted
+-- a part of a datagram's samples was added, which isn't counted
 pub sounded_broken : (first old new : SoundState) (datagrams : List (List ℕ)) (datagram rest : List ℕ) → old.failed ≡ false → new.failed ≡ true → HasSounded first old datagrams
     → Appends old.made new.made rest → new.wav ≡ old.wav → HasSounded first new (datagrams ++ datagram ∷ [])
 sounded_broken first old new datagrams datagram rest whole then s part is =
