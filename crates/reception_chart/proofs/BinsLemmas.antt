@@ -8,7 +8,7 @@ use Rattle.path_merge.proofs.TallyLemmas.{count_by-first}
 use Rattle.reception_chart.specs.declared.reception.axis.Axis.{Axis}
 use Rattle.reception_chart.specs.Bins.{BinsState, HasCounted, BinEvent, bin_of, count_in, is_in, row_of}
 
--- what one counts
+-- the count of one event
 abbrev one_if : Bool → ℕ
 one_if t = cond t 1 0
 
@@ -17,7 +17,7 @@ count_by-last : {X : Type 0} (p : X → Bool) (xs : List X) (x : X) → count_by
 count_by-last p [] x = omega (arith, count_by-first p x [])
 count_by-last p (y ∷ xs) x = omega (arith, count_by-first p y xs, count_by-first p y (xs ++ x ∷ []), count_by-last p xs x)
 
--- where it is counted
+-- the place of an event's count
 abbrev pub place_of : Axis → BinEvent → ℕ
 place_of axis s = 9 * bin_of axis s.time + row_of s.kind
 
@@ -72,7 +72,7 @@ counted_more bins events s n counted its within more = record {
   each = λ bin row b r. each_more bins.axis bins.counts events s n bin row r its within more (counted.each bin row b r);
 }
 
--- the same of a count that stops at the most of its type
+-- a count that stops at the greatest value of its type
 pub added : (bins : BinsState) (axis : Axis) (counts : List ℕ) (events : List BinEvent) (s : BinEvent) (bin row x n : ℕ) → record { axis = axis; counts = counts } ≡ bins
     → HasCounted bins events → length events + 1 < 2 ^ 64 → bin ≡ bin_of axis s.time → bin < axis.bins → row ≡ row_of s.kind → row < 9
     → length counts ≡ 9 * axis.bins → x ≡ get_or counts (9 * bin + row) x → n ≡ min (x + 1) (2 ^ 64 - 1)

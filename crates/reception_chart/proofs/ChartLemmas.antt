@@ -7,7 +7,7 @@ use Rattle.studio_run.specs.declared.player.PlayFault.{PlayFault}
 use Rattle.studio_run.specs.declared.player.PlayFault.TheVariants.{Read, Memory, Trace, Run, Write}
 use Rattle.reception_chart.specs.Chart.{FailsDrawing}
 
--- as for the report
+-- a fault before the first write is the same as for the report
 pub fails_early : (studio : Studio) (left left_then a b : Option (List ℕ)) (fault : PlayFault) → FailsOf studio IsReport left left_then a b fault
     → FailsDrawing studio left left_then a b fault
 fails_early studio left left_then a b Read fails = fails

@@ -1,7 +1,7 @@
 use Rattle.studio_session.specs.Cursor.{IsSameCursor, way_left}
 use Rattle.reception_chart.proofs.reception.stream_tracker.report_lost.Given as goal
 
--- some marks were given
+-- some marks were returned
 abbrev pub invariant-marks : goal.invariant-marks
 invariant-marks g l = record {
   kept : IsSameCursor l.fn.cursor l.cursor;
