@@ -5,7 +5,7 @@ use Rattle.http_server.specs.Exchange.{Call, Chain}
 use Rattle.status_page.specs.declared.snapshot.Snapshot.{Snapshot}
 use Rattle.status_page.specs.Connections.{IsAnswered, page_answers}
 
--- the page stays as it was, and each answer is of its snapshot
+-- the page stays as it was, and each response is from its snapshot
 pub chain_answers : (old new : Snapshot) (calls : List Call) → Chain page_answers old calls new
     → All (λ call. IsAnswered old call.0 call.1) calls × (new ≡ old)
 chain_answers old new [] same = (All-nil (λ call. IsAnswered old call.0 call.1), same)

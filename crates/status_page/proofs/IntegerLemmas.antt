@@ -28,7 +28,7 @@ true-fits : (z : ℤ) → has_64_bits z ≡ true → FitsSigned w64 z
 true-fits (pos n) h = record { sfits = ltb-true n (2 ^ 63) h }
 true-fits (negsuc n) h = record { sfits = ltb-true n (2 ^ 63) h }
 
--- what `parse` asks of a text
+-- the texts that `parse` accepts
 abbrev Parses : List ℕ → Type 0
 Parses s = IsNumeral 10 (without_leading_sign s) × FitsSigned w64 (signed_digits_value 10 s)
 
