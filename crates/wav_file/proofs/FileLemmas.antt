@@ -30,7 +30,7 @@ becomes_later (Some x) None c xs ys p q = absurd p
 becomes_later (Some x) (Some y) None xs ys p q = absurd q
 becomes_later (Some x) (Some y) (Some z) xs ys p q = q
 
--- the sizes were written after it
+-- the sizes were written after the data
 pub finished : (a b c : Option (List ℕ)) (wav : WavState) (octets : List ℕ) → IsBegun a wav octets [] → Appends a b (pad_octets wav.count)
     → ((octets rest : List ℕ) → IsBegun b wav octets rest → Becomes b c (header_octets wav.format (length octets) ++ octets ++ rest))
     → Becomes a c (wav_octets wav.format octets)
@@ -44,7 +44,7 @@ finished (Some x) (Some y) c wav octets begun p sizes =
       count = begun.count;
     }))
 
--- what follows of what holds at `Ok`
+-- what follows from a fact at `Ok`
 pub at_ok : {T E P Q : Type 0} (r : Result T E) → (P → Q) → OnOk r P → OnOk r Q
 at_ok (Ok value) follows holds = follows holds
 at_ok (Err fault) follows holds = tt

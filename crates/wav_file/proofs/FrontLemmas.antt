@@ -18,7 +18,7 @@ use Rattle.wav_file.specs.File.{WavState}
 use Rattle.wav_file.specs.MixWav.{HasBoth, HasRecorded, IsRecording}
 use Rattle.wav_file.specs.MixRun.{WritesFront}
 
--- it broke off
+-- the write of a report broke off
 pub front_broken : (a b : Option (List ℕ)) (h xs : List ℕ) → BreaksOff a h b xs → WritesFront a h b xs
 front_broken a b h xs broke = (broke.count, broke.wrote)
 
@@ -26,7 +26,7 @@ front_broken a b h xs broke = (broke.count, broke.wrote)
 pub front_none : (a : Option (List ℕ)) (h xs : List ℕ) → WritesFront a h a xs
 front_none a h xs = (0, Appends-nil a)
 
--- what was written is followed by more
+-- more follows what was written
 front_passed : (a b : Option (List ℕ)) (h i xs ys : List ℕ) → PassesOn a h b i xs → WritesFront a h b (xs ++ ys)
 front_passed a b h i xs ys passes =
     let whole : h ++ (xs ++ ys) ≡ passes.front ++ (i ++ ys) = sym (append_assoc h xs ys) ∙ ap (λ l. l ++ ys) passes.whole ∙ append_assoc passes.front i ys in
@@ -45,7 +45,7 @@ front_longer a b h xs ys front =
     let longer = take_longer front.0 (h ++ xs) ys in
     (longer.0, subst (Appends a b) (longer.1 ∙ ap (take longer.0) (append_assoc h xs ys)) front.1)
 
--- of a recording its report alone
+-- the report of a recording alone
 abbrev reporting_of : (studio : Studio) (events : List TraceEvent) (a b m n : Option (List ℕ)) (h i : List ℕ) (wav mid : WavState) (session : SessionState)
     → IsRecording studio events a h m wav session b i n mid → IsReporting studio events a h session b i
 reporting_of studio events a b m n h i wav mid session r = record { datagrams = r.datagrams; given = r.given; wrote = r.wrote }
@@ -57,7 +57,7 @@ pub front_of_line : (studio : Studio) (events : List TraceEvent) (a b c m n : Op
 front_of_line studio events a b c m n h i wav mid old new datagram all r gives are line =
     front_broken a c h (datagrams_text all) (reporting_broken studio events a b c h i old new datagram all (reporting_of studio events a b m n h i wav mid old r) gives are line)
 
--- it was written, and its samples weren't
+-- a datagram's line was written, and its samples weren't
 pub front_of_more : (studio : Studio) (events : List TraceEvent) (a b c m n : Option (List ℕ)) (h i j : List ℕ) (wav mid : WavState) (old new : SessionState) (datagram : List ℕ) (all : List (List ℕ))
     → (r : IsRecording studio events a h m wav old b i n mid) → Gives studio events new (length r.datagrams) datagram → AreDatagrams studio events all → PassesOn b i c j (datagram_line datagram)
     → WritesFront a h c (datagrams_text all)
@@ -87,7 +87,7 @@ front_of_counts studio events a b c m n h i report wav mid session empty r is co
     subst (λ l. WritesFront a l c report) empty
     (front_broken a c h report (report_broken studio events a b c h i session report (reported_of studio events a b m n h i wav mid session r) is counts))
 
--- what was held at the end did
+-- the write of what was held at the end broke off
 pub front_of_rest : (studio : Studio) (events : List TraceEvent) (a b c d m n : Option (List ℕ)) (h i j report : List ℕ) (wav mid : WavState) (session : SessionState) → h ≡ []
     → HasRecorded studio events a h m wav session b i n mid → IsReport studio events report → PassesOn b i c j (counts_text_of studio events)
     → (k : ℕ) × (k < length j) × Appends c d (take k j) → WritesFront a [] d report

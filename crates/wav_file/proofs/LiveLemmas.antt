@@ -11,7 +11,7 @@ use Rattle.wav_file.specs.File.{Overwrites, OverwritesPart, pad_octets}
 use Rattle.wav_file.specs.LiveFile.{HasData, IsCut, KeepsData, LiveState, header_over, live_octets}
 use Rattle.wav_file.specs.Samples.{little_16, little_24, little_samples}
 
--- octets of a known file, after a write, a cut, and a write over the first ones
+-- the octets of a file, if they are known, after a write, a cut, and a write over the first octets
 pub known_more : (a b : Option (List ℕ)) (xs ys : List ℕ) → a ≡ Some xs → Appends a b ys → b ≡ Some (xs ++ ys)
 known_more a (Some zs) xs ys is appends = ap Some (subst (λ o. Appends o (Some zs) ys) is appends)
 known_more a None xs ys is appends = absurd (subst (λ o. Appends o None ys) is appends)
@@ -85,7 +85,7 @@ data_over b wav head octets rest new n few first count same size at = record {
   count = count;
 }
 
--- some of it is
+-- a part of the header was written
 pub data_broken : (a b : Option (List ℕ)) (wav : LiveState) (head octets rest new : List ℕ) → HasData a wav head octets rest → new ≡ header_with wav.format wav.chunk wav.count → length new ≡ 80 + length wav.chunk
     → ((xs : List ℕ) → a ≡ Some xs → length new ≤ length xs → (n : ℕ) × (n ≤ length new) × (b ≡ Some (take n new ++ drop n xs)))
     → (n : ℕ) × HasData b wav (header_over wav.format wav.chunk (length octets) n head) octets rest

@@ -11,7 +11,7 @@ use Rattle.wav_file.specs.declared.fault.WavRunFault.{WavRunFault}
 use Rattle.wav_file.specs.declared.fault.WavRunFault.TheVariants.{Play, Stream, File}
 use Rattle.wav_file.specs.MixRun.{BreaksOffRecording, FailsRecording, IsOfWriters}
 
--- the input gave no trace
+-- the input is no trace
 pub fails_unread : (studio : Studio) (left left_then a : Option (List ℕ)) (fault : PlayFault) → StopsReading left left_then fault → FailsRecording studio left left_then a a (Play fault)
 fails_unread studio left left_then a Read stops = fails_reading studio IsReport left left_then a Read stops
 fails_unread studio left left_then a Memory stops = fails_reading studio IsReport left left_then a Memory stops
@@ -19,7 +19,7 @@ fails_unread studio left left_then a (Trace fault) stops = fails_reading studio 
 fails_unread studio left left_then a (Run fault) stops = absurd stops
 fails_unread studio left left_then a Write stops = absurd stops
 
--- the trace gave no runnable events
+-- the trace has no events that run
 pub fails_early : (studio : Studio) (left left_then : Option (List ℕ)) (trace : List ℕ) (a : Option (List ℕ)) (fault : PlayFault) → Consumes left left_then trace → IsAtEnd left_then
     → StopsAt studio trace fault → FailsRecording studio left left_then a a (Play fault)
 fails_early studio left left_then trace a Memory read end stops = fails_read studio IsReport left left_then trace a a Memory read end (fails_before studio IsReport trace a Memory stops)

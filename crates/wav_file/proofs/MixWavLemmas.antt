@@ -92,7 +92,7 @@ recorded_all studio events a b h i m n wav then old new r last played = record {
   samples = r.samples;
 }
 
--- the counts follow, and what was held is written
+-- the counts follow, and the rest of the report is written
 pub both_whole : (studio : Studio) (events : List TraceEvent) (a b c d : Option (List ℕ)) (h i j : List ℕ) (m n : Option (List ℕ)) (wav then : WavState) (session : SessionState)
     → h ≡ [] → HasRecorded studio events a h m wav session b i n then → PassesOn b i c j (counts_text_of studio events) → Appends c d j
     → HasBoth studio events a d m n wav then

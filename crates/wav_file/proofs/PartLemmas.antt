@@ -104,7 +104,7 @@ finish_part p r a b c wav octets begun padded unpadded sized unsized =
 first_samples : (enc : Enc) (k : ℕ) (all : List (List ℕ)) → samples_in enc all ≡ samples_in enc (take k all) ++ samples_in enc (drop k all)
 first_samples enc k all = ap (samples_in enc) (sym (take-append-drop k all)) ∙ flat_map-append (datagram_samples enc) (take k all) (drop k all)
 
--- those of some were added, and no part of another's
+-- the samples of some datagrams were added, and no part of another's
 pub part_of_some : (studio : Studio) (events : List TraceEvent) (a b m n : Option (List ℕ)) (h i : List ℕ) (wav mid : WavState) (session : SessionState) (all : List (List ℕ))
     → IsRecording studio events a h m wav session b i n mid → AreDatagrams studio events all → HasFirst m n wav mid all
 part_of_some studio events a b m n h i wav mid session all r are =
@@ -162,7 +162,7 @@ part_of_next studio events a b m n o h i wav mid then old new datagram all k r g
       };
     }
 
--- those of all were
+-- the samples of all datagrams were added
 pub part_of_all : (studio : Studio) (events : List TraceEvent) (a b m n : Option (List ℕ)) (h i : List ℕ) (wav then : WavState) (session : SessionState) (all : List (List ℕ))
     → HasRecorded studio events a h m wav session b i n then → AreDatagrams studio events all → HasFirst m n wav then all
 part_of_all studio events a b m n h i wav then session all r are =

@@ -29,7 +29,7 @@ zeros : (enc : Enc) (n : ℕ) → little_samples enc (replicate (n * octets_per_
 zeros L16 n = zeros_16 n
 zeros L24 n = zeros_24 n
 
--- those of so many sampling instants
+-- the silence of this many sampling instants
 pub zeros_of : (format : WavFormat) (n : ℕ) → n * frame_length format ≤ 1440
     → little_samples format.enc (take (n * frame_length format) (replicate 1440 0)) ≡ replicate (n * frame_length format) 0
 zeros_of format n fits =

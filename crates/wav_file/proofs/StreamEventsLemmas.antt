@@ -71,7 +71,7 @@ added_first m n wav then xs ys a = record {
   added = record { added = subst (Appends m n) (sym (append-nil xs)) a.added; count = a.count; format = a.format };
 }
 
--- so are the samples of the first marks
+-- the samples of the first marks are a prefix of all samples
 tracked_first : (m n : Option (List ℕ)) (track then : StreamTrack) (k : ℕ) (marks : List MarkView) → HasTracked m n track then (take k marks)
     → HasPrefix m n track.wav then.wav (samples_behind track.wav.format track.frames track.end marks)
 tracked_first m n track then k marks t =
@@ -116,7 +116,7 @@ followed_due first old new events whole adds none all same followed = λ stream 
       tracked = taken_all stream number open_at events first.made new.made first.track new.track new.cursor past left;
     }
 
--- or a write failed
+-- a write failed while an event was taken
 pub followed_broken : (first old new : StreamWavState) (events : List TraceEvent) → old.failed ≡ false → new.failed ≡ true
     → ((stream : Stream) (number : ℕ) (open_at : ℤ) (events : List TraceEvent) (made : Option (List ℕ)) (track : StreamTrack) → IsRunnable stream number open_at events
     → HasTaken stream number open_at events made track old.cursor old.made old.track
@@ -126,7 +126,7 @@ followed_broken first old new events whole then breaks followed = λ stream numb
     let before : HasTakenEvents stream number open_at first old events = subst (λ b. HasFollowedBy b stream number open_at first old events) whole (followed stream number open_at run pulled) in
     subst (λ b. HasFollowedBy b stream number open_at first new events) (sym then) (breaks stream number open_at events first.made first.track run before.taken)
 
--- or nothing more is written
+-- nothing more is written
 pub followed_stop : (first old new : StreamWavState) (events : List TraceEvent) → old.failed ≡ false → new.failed ≡ true → old.made ≡ new.made → old.track ≡ new.track
     → HasFollowed first old events → HasFollowed first new events
 followed_stop first old new events whole then made track followed = λ stream number open_at run pulled.
@@ -164,7 +164,7 @@ due_handed first old new events event whole made track handed due = λ stream nu
     } in
     subst (λ b. HasFollowedBy b stream number open_at first new all) (sym whole) taken
 
--- or it could not take it, and nothing more is written
+-- an event could not be taken, and nothing more is written
 pub due_stop : (first old new : StreamWavState) (events : List TraceEvent) (event : TraceEvent) → new.failed ≡ true → old.made ≡ new.made → old.track ≡ new.track
     → HasFollowedDue first old events → HasFollowed first new (events ++ event ∷ [])
 due_stop first old new events event then made track due = λ stream number open_at run pulled.

@@ -20,7 +20,7 @@ use Rattle.wav_file.specs.declared.stream_track.StreamTrack.{StreamTrack}
 use Rattle.wav_file.proofs.PartLemmas.{becomes_end, becomes_mix}
 use Rattle.wav_file.proofs.StreamTrackLemmas.{added_both, samples_both}
 
--- a push broke off: nothing of it counts
+-- a push broke off: nothing of it is counted
 pub prefix_of_push : (m n : Option (List ℕ)) (wav then : WavState) (samples : List ℕ) (k : ℕ) → Appends m n (take k samples) → then ≡ wav → HasPrefix m n wav then samples
 prefix_of_push m n wav then samples k part same =
     let counted : then.count ≡ wav.count = ap (λ (w : WavState). w.count) same in
@@ -64,7 +64,7 @@ prefix_behind m n o wav mid then xs ys first p =
       };
     }
 
--- a slot: what comes behind its gap
+-- a slot: its samples come behind its gap
 pub slot_added : (m n o : Option (List ℕ)) (old mid new : WavState) (xs : List ℕ) (body : WavFormat → ℕ → List ℕ) (j k : ℕ) → HasAdded m n old mid xs → j ≡ k → HasAdded n o mid new (body mid.format j) → HasAdded m o old new (xs ++ body old.format k)
 slot_added m n o old mid new xs body j k first same second =
     added_both m n o old mid new xs (body old.format k) first (subst (λ i. HasAdded n o mid new (body old.format i)) same (subst (λ f. HasAdded n o mid new (body f j)) first.format second))
@@ -73,7 +73,7 @@ pub slot_part : (m n o : Option (List ℕ)) (old mid new : WavState) (xs : List 
 slot_part m n o old mid new xs body j k first same second =
     prefix_behind m n o old mid new xs (body old.format k) first (subst (λ i. HasPrefix n o mid new (body old.format i)) same (subst (λ f. HasPrefix n o mid new (body f j)) first.format second))
 
--- a mark that is the next one stands among all, with others behind it
+-- the next mark is among all marks, with others behind it
 around : (marks : List MarkView) (g : ℕ) (mark : Option MarkView) → ((m : MarkView) → mark ≡ Some m → m ∷ [] ≡ take 1 (drop g marks)) → (more : List MarkView) × (marks ≡ take g marks ++ (option_to_list mark ++ more))
 around marks g None next = (drop g marks, sym (take-append-drop g marks))
 around marks g (Some m) next =
@@ -107,7 +107,7 @@ taken_part stream number open_at events m n o track mid then old new mark lent r
     (prefix_behind m n o track.wav mid.wav then front (piece ++ others) t.tracked.added
     (prefix_longer n o mid.wav then piece others (subst (HasPrefix n o mid.wav then) own part)))
 
--- the sizes were written behind it, or not
+-- the sizes were written behind the data, or not
 pub broke_stream : (a b c d : Option (List ℕ)) (stream : Stream) (format : WavFormat) (first : StreamTrack) (then : WavState) (marks : List MarkView) → format ≡ stream_format stream → first.wav ≡ record { format = format; count = 0 }
     → first.frames ≡ stream.frames → first.end ≡ None → Appends a b (header_octets format 0)
     → HasPrefix b c first.wav then (samples_behind first.wav.format first.frames first.end marks)

@@ -41,7 +41,7 @@ format_by spec stream enc channels same e c =
     by : Enc → ℕ → WavFormat
     by x n = record { enc = x; channels = n }
 
--- a file that was begun with nothing in it became that of a stream's marks
+-- a file that was created empty became the file of a stream's marks
 pub stream_written : (a b c d : Option (List ℕ)) (stream : AStream) (format : WavFormat) (first then : StreamTrack) (marks : List MarkView) → format ≡ stream_format stream → first.wav ≡ record { format = format; count = 0 }
     → first.frames ≡ stream.frames → first.end ≡ None → Appends a b (header_octets format 0) → HasTracked b c first then marks
     → ((all : List ℕ) → IsBegun c then.wav all [] → Becomes c d (wav_octets then.wav.format all)) → Holds a [] → Becomes a d (wav_octets (stream_format stream) (stream_samples stream marks))

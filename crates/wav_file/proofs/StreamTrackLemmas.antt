@@ -45,7 +45,7 @@ added_both m n o wav mid then xs ys first second = record {
   format = second.format ∙ first.format;
 }
 
--- what a push counted
+-- the file after a push, and what it counted
 pub added_by : (m n : Option (List ℕ)) (wav then : WavState) (xs : List ℕ) → Appends m n xs → then ≡ record { format = wav.format; count = wav.count + length xs } → HasAdded m n wav then xs
 added_by m n wav then xs added is = record {
   added = added;
@@ -57,7 +57,7 @@ added_by m n wav then xs added is = record {
 pub tracked_none : (m : Option (List ℕ)) (track : StreamTrack) → HasTracked m m track track []
 tracked_none m track = record { added = added_none m track.wav; frames = refl; end = refl }
 
--- those of some marks, and then of others
+-- the samples of some marks, and then of others
 tracked_both : (m n o : Option (List ℕ)) (track mid then : StreamTrack) (xs ys : List MarkView) → HasTracked m n track mid xs → HasTracked n o mid then ys → HasTracked m o track then (xs ++ ys)
 tracked_both m n o track mid then xs ys first second =
     let same : samples_behind mid.wav.format mid.frames mid.end ys ≡ samples_behind track.wav.format track.frames (end_of track.frames track.end xs) ys =
