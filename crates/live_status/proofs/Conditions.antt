@@ -27,7 +27,7 @@ updates-step streams now n olds news next stream at upto one = record {
 below_or_not : (place n : ℕ) → (place < n) ⊎ (n ≤ place)
 below_or_not place n = grind arith
 
--- where all streams were gone through, each status was updated by its stream, and the others are as they were
+-- after all streams each status was updated by its stream, and the others did not change
 pub updates-all : (streams : List StreamState) (now : ℤ) (n : ℕ) (olds news : List StreamStatus) → length streams ≤ n → IsUpTo (Updates streams now) n olds news → AreEach (Updates streams now) olds news
 updates-all streams now n olds news all upto = record {
   length_is = upto.length_is;

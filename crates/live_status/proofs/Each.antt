@@ -65,7 +65,7 @@ upto-set P n olds news old new upto within at this = record {
   left = λ place above. get-set_else news n place new (omega arith) ∙ upto.left place (omega arith);
 }
 
--- where all places were gone through
+-- the relation after all places
 pub upto-all : {X : Type 0} (P : ℕ → X → X → Type 0) (n : ℕ) (olds news : List X) → length olds ≤ n → IsUpTo P n olds news → AreEach P olds news
 upto-all P n olds news all upto = record {
   length_is = upto.length_is;
