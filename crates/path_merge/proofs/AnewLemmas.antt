@@ -73,7 +73,7 @@ own_copy stream time packet epoch media some wide seq ts after =
     let high : nat_lt (65536 + packet.seq) (65536 + packet.seq + stream.window) ≡ true = grind (arith, nat_tests, wide) in
     rw (number, next, itself_eq packet.ssrc, own_timestamp stream packet epoch media ts, low, high) refl
 
--- where media time goes on
+-- a media time in reach, at which media time doesn't go back
 pub record GoesOn (stream : Stream) (time : ℤ) (due media : ℤ) : Type 0 where
   pub after : (time -ℤ pos stream.latency) <ℤ media
   pub before : media <ℤ (time -ℤ pos stream.latency +ℤ pos (stream.window * stream.frames))

@@ -46,7 +46,7 @@ open_more open_at events u still low high = record {
   open_yet = is_closed-append events (Tick u ∷ []) ∙ ap (λ b. if b then true else false) still.open_yet;
 }
 
--- the same reading twice
+-- a reading that is repeated has the effect of one
 twice : (stream : Stream) (open_at : ℤ) (events : List Event) (t u : ℤ) → 0 < stream.frames → IsOpen open_at events → time_of open_at events ≤ℤ t → t ≤ℤ pos (2 ^ 60) → u ≡ t → IsAlike stream open_at ((events ++ Tick t ∷ []) ++ Tick u ∷ []) (events ++ Tick u ∷ [])
 twice stream open_at events t u some still low high same =
     let time : time_of open_at (events ++ Tick t ∷ []) ≡ u = time_of-append open_at events (Tick t ∷ []) ∙ sym same in

@@ -6,7 +6,7 @@ use Rattle.path_merge.proofs.event_list.run_merge.Goals as goal
 pub marks_given-requires-clause-well_timed : goal.marks_given-requires-clause-well_timed
 marks_given-requires-clause-well_timed c = no_fault-well_timed _ false c.args.events.now (sym c.first_fault.ensures ∙ c.in_default.is)
 
--- what holds either way
+-- a fact that needs no result
 on_ok : {T E : Type 0} (r : Result T E) (P : Type 0) → P → OnOk r P
 on_ok (Ok x) P p = p
 on_ok (Err e) P p = tt
