@@ -76,7 +76,7 @@ ends_whole studio plan first a b c H run (Change number why) other s rest =
 ends_whole studio plan first a b c H run TooManyEvents other s rest = ends_front studio plan first a b c H run TooManyEvents s (inl (broke_whole (changed_by studio plan s.changed) s.stops.events a b c H run s.stops.at rest))
 ends_whole studio plan first a b c H run Write other s rest = absurd (other refl)
 
--- or a write of the lines failed
+-- before any fault but a failed write, all lines were written or held
 held_at : (studio : Studio) (events : List TraceEvent) (a b : Option (List ℕ)) (H : Hearing) (run : ReplayState) (fault : ReplayFault) → (fault ≡ Write → ⊥) → StopsAt studio events a run b H fault → HasReplayed studio events a run b H
 held_at studio events a b H run Memory other at = absurd at
 held_at studio events a b H run (Capture fault) other at = at
