@@ -84,7 +84,7 @@ module _ (window place : ℕ) where
         both false = refl
     given_up_without (q ∷ rest) o out = ap (λ r. if takes window place q then true else if is_copy_on path seq q then false else r) (given_up_without rest o out)
 
-    -- nor one after another that is
+    -- an offer after another one that was taken at the place does not give the number up either
     given_up_step : (x : ℕ) (q : Offer) (rest rest' : Bool) (last : Option ℕ) → (last ≡ Some x → rest' ≡ rest) → (b c : Bool) → first_of_two last (if b then Some q.seq else None) ≡ Some x → (if b then true else if c then false else rest') ≡ (if b then true else if c then false else rest)
     given_up_step x q rest rest' last known true c e = refl
     given_up_step x q rest rest' last known false true e = refl

@@ -37,7 +37,7 @@ module _ (o : Offer) (offers : List Offer) (rows : List ℕ) (few : o.path < 4) 
   abbrev after : ℕ → ℕ
   after p = repeats_of p (o ∷ offers)
 
-  -- where no epoch begins
+  -- if no epoch begins
   here : is_restart o.fate ≡ false → after o.path ≡ row_after o.fate o.again (before o.path)
   here goes_on =
       ap (λ b. if b then 0 else if nat_eq o.path o.path then row_after o.fate o.again (before o.path) else before o.path) goes_on
