@@ -26,7 +26,7 @@ use Rattle.rtp_stream.specs.declared.track.Track.{Track}
 twofold : (k : ℕ) → 2 ^ suc k ≡ 2 * 2 ^ k
 twofold k = simp unary_clauses (omega arith)
 
--- of so many bits one more is at most one more at the top
+-- one more standing adds at most one bit, at the top
 top_bit : (f : Standing → Bool) (k : ℕ) (standings : List Standing) → (b : Bool) × (mask_l (map f (take (suc k) standings)) ≡ cond b (2 ^ k) 0 + mask_l (map f (take k standings)))
 top_bit f zero [] = (false, refl)
 top_bit f zero (s ∷ standings) = (f s, by_test (f s))
