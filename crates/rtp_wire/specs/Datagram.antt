@@ -50,7 +50,7 @@ is_padded octets = slice_index octets 0 / 32 % 2 == 1
 abbrev pub is_extended : List ℕ → Bool
 is_extended octets = slice_index octets 0 / 16 % 2 == 1
 
--- where the list of contributing sources ends, 4 octets each
+-- the place where the list of contributing sources ends, 4 octets each
 abbrev pub sources_end : List ℕ → ℕ
 sources_end octets = 12 + 4 * (slice_index octets 0 % 16)
 
@@ -58,14 +58,14 @@ sources_end octets = 12 + 4 * (slice_index octets 0 % 16)
 abbrev pub word_count : List ℕ → ℕ → ℕ
 word_count octets place = big_endian (slice_range octets (place + 2) (place + 4))
 
--- where the payload begins, if nothing is cut
+-- the place where the payload begins, if nothing is cut
 abbrev pub payload_start : List ℕ → ℕ
 payload_start octets =
     if is_extended octets
     then sources_end octets + 4 + 4 * word_count octets (sources_end octets)
     else sources_end octets
 
--- how many octets of padding are announced
+-- the number of octets of padding, if the padding flag is set; 0 otherwise
 abbrev pub padding_count : List ℕ → ℕ
 padding_count octets = if is_padded octets then slice_index octets (length octets - 1) else 0
 
