@@ -101,7 +101,7 @@ impl<W: Window> Bench<W> {
         assert!(rt; self.merge.time() == now, "the reading is not passed");
     }
 
-    /// Calls `advance` once, and says its mark, `nothing` or the fault, and the time after it.
+    /// Calls `advance` once, and appends its mark, `nothing` or the fault, and the time after it.
     fn advance(&mut self, rt: &impl Abort, now: i64) {
         match self.merge.advance(now) {
             Ok(Some(mark)) => say_mark(rt, &self.spec, &mut self.marks, &mark),

@@ -17,7 +17,7 @@ pub fn says(rt: &impl Abort, text: &str, wanted: &str, shows: &str) {
     assert!(rt; text == wanted, "{shows}: {text}");
 }
 
-/// Says the fault of a clock reading.
+/// Appends the name of a clock reading's fault.
 pub fn say_fault(rt: &impl Abort, text: &mut String, fault: ClockFault) {
     let word = match fault {
         ClockFault::WentBack => "WentBack",
@@ -27,7 +27,7 @@ pub fn say_fault(rt: &impl Abort, text: &mut String, fault: ClockFault) {
     say(rt, text, word);
 }
 
-/// Says a mark: `got N M` or `lost N M` with the number and media time, and with `K:` before N in a later epoch K;
+/// Appends a mark: `got N M` or `lost N M` with the number and media time, and with `K:` before N in a later epoch K;
 /// `quiet T`; or `end`.
 pub fn say_mark(rt: &impl Abort, spec: &StreamSpec, text: &mut String, mark: &Mark) {
     assert!(rt;
@@ -52,7 +52,7 @@ pub fn say_mark(rt: &impl Abort, spec: &StreamSpec, text: &mut String, mark: &Ma
     }
 }
 
-/// Says a slot's number and media time.
+/// Appends a slot's number and media time.
 fn say_place(rt: &impl Abort, text: &mut String, epoch: u64, number: u64, media: i64) {
     if epoch != 0 {
         write!(text, " {epoch}:{number} {media}").expect(rt, "there is memory");
@@ -75,7 +75,7 @@ fn word_of(rt: &impl Abort, number: u64, body: &Body) -> &'static str {
     "got"
 }
 
-/// Says fates, each with the number of times that it came in a row.
+/// Appends fates, each with the number of times that it came in a row.
 pub fn say_fates(rt: &impl Abort, text: &mut String, fates: &[Fate]) {
     let mut last = None;
     let mut times: usize = 0;
@@ -90,7 +90,7 @@ pub fn say_fates(rt: &impl Abort, text: &mut String, fates: &[Fate]) {
     say_run(rt, text, last, times);
 }
 
-/// Says a fate and the number of times that it came in a row. Says nothing if there is no fate.
+/// Appends a fate and the number of times that it came in a row. Appends nothing if there is no fate.
 fn say_run(rt: &impl Abort, text: &mut String, fate: Option<Fate>, times: usize) {
     if let Some(fate) = fate {
         // The empty word writes the comma.
@@ -99,7 +99,7 @@ fn say_run(rt: &impl Abort, text: &mut String, fate: Option<Fate>, times: usize)
     }
 }
 
-/// Says a count and its name, if it is not 0.
+/// Appends a count and its name, if it is not 0.
 fn say_count(rt: &impl Abort, text: &mut String, count: u64, name: &str) {
     if count != 0 {
         // The empty word writes the comma.
@@ -111,7 +111,7 @@ fn say_count(rt: &impl Abort, text: &mut String, count: u64, name: &str) {
 /// The names of the packets taken by each path.
 const TAKEN_BY: [&str; 4] = ["from_a", "from_b", "from_c", "from_d"];
 
-/// Says the counts that are not 0. `taken` is said path by path.
+/// Appends the counts that are not 0; of `taken` those of each path.
 pub fn say_counts(rt: &impl Abort, text: &mut String, counts: &Counts) {
     say_count(rt, text, counts.arrived, "arrived");
     for (name, count) in TAKEN_BY.iter().zip(counts.taken_by.iter()) {
