@@ -69,7 +69,8 @@ left_of up down run room newest =
     if nat_lt up down then time_of newest.least (down - up) run
     else (if nat_lt down up then time_of (room - newest.greatest) (up - down) run else year)
 
--- the drift by these sums, if the newest second has these margins; fewer than ten seconds have no drift
+-- the drift by these sums, if the newest second has these margins; there is none by fewer than ten points, or if all
+-- points have the same place
 abbrev pub drift_by : Sums → ℕ → ArrivalMargin → Option Drift
 drift_by s room newest =
     if nat_lt s.count 10 then None
