@@ -1,19 +1,19 @@
 //! The line with the addresses of a run: those of its paths, of the mix and of the page.
 
+use crate::status::ServedPage;
 use live_io::Sockets;
-use live_status::{PageThread, STDERR, is_ready};
+use live_status::{STDERR, is_ready};
 use rtp_stream::Path;
-use status_page::GainDesk;
 use std::io;
 use std::io::Write;
 use studio_config::StudioSpec;
 
 /// Writes one line with the addresses of the paths, of the mix and of the page, if there is one. The line is left out
 /// if standard error would block. Errors of the write are ignored.
-pub(crate) fn write_address_line<D: GainDesk, W: Write>(
+pub(crate) fn write_address_line<S: ServedPage, W: Write>(
     studio: &StudioSpec,
     sockets: &Sockets<'_>,
-    page: &Option<PageThread<D>>,
+    page: &Option<S>,
     writer: &mut W,
 ) {
     if is_ready(STDERR, libc::net::POLLOUT) {
@@ -22,10 +22,10 @@ pub(crate) fn write_address_line<D: GainDesk, W: Write>(
 }
 
 /// Writes the line. Returns the error of the first write that fails.
-fn write_line<D: GainDesk, W: Write>(
+fn write_line<S: ServedPage, W: Write>(
     studio: &StudioSpec,
     sockets: &Sockets<'_>,
-    page: &Option<PageThread<D>>,
+    page: &Option<S>,
     writer: &mut W,
 ) -> io::Result<()> {
     write!(writer, "live")?;
@@ -70,7 +70,7 @@ fn write_paths<W: Write>(
 }
 
 /// Writes the address of the page.
-fn write_page<D: GainDesk, W: Write>(page: &PageThread<D>, writer: &mut W) -> io::Result<()> {
+fn write_page<S: ServedPage, W: Write>(page: &S, writer: &mut W) -> io::Result<()> {
     let address = page.address()?;
     write!(writer, " page=http://{address}/")
 }

@@ -9,18 +9,19 @@ use crate::context::RunContext;
 use crate::fault::LiveFault;
 use crate::gain_control::{GainControl, open_control};
 use crate::inputs::LiveInputs;
-use crate::launch::side_tasks::{OpenAudio, OpenPcm, with_audio};
-use crate::scoped_thread::with_side_tasks;
+use crate::launch::side_tasks::{OpenAudio, OpenPcm, with_all_tasks};
+use crate::scoped_thread::SideTask;
 use crate::shown_health::ShownHealth;
 use crate::single_thread::{OpenRecord, RecordOutput, run_in_one_thread};
-use crate::status::{OpenStatus, open_status};
+use crate::status::{ServedPage, open_status};
 use crate::supervisor::stop_flags::StopFlags;
 use crate::workers::run_in_workers;
 use live_audio::{AudioChannel, AudioTap, AudioTaps, PcmChannel, PcmResult, PcmTap};
 use live_io::{LiveOptions, RecordChannel, RecordResult, RunPeriod, Sockets, open_sockets};
-use live_status::{GainLink, Meter, PageDesk, RunGains, StatusInputs};
+use live_status::{GainLink, Meter, OpenPage, RunGains, StatusInputs, StatusOutputs, open_page};
 use pcap_file::{CreateRecord, RecordFile};
-use status_page::Token;
+use rtrb::Producer;
+use status_page::{Snapshot, Token};
 use std::alloc::Global;
 use std::io::Write;
 use std::net::Net;
@@ -83,12 +84,13 @@ pub(crate) fn launch_run<
 }
 
 /// The sockets of a run, the source of its changes of gains, and its status, which are open before its files are
-/// created.
+/// created. `S` is the page's server.
 #[derive(Drop)]
-struct OpenRun<'a, R: Wait + Clock, E> {
+struct OpenRun<'a, R: Wait + Clock, E, S> {
     sockets: Sockets<'a>,
     gains: Option<RunGains<'a, R>>,
-    status: OpenStatus<'a, PageDesk<'a, R>, E>,
+    page: Option<S>,
+    status: StatusOutputs<'a, E>,
 }
 
 /// The files of a run: its record, and the outputs of its mix with the taps that fill them, each if it is wanted.
@@ -100,7 +102,7 @@ struct RunFiles<'a, D, A: WavFiles, B> {
     piped: Option<OpenPcm<'a, B>>,
 }
 
-/// Opens the sockets and the outputs of the status of a run, creates its files, and runs it.
+/// Opens the sockets of a run, the control of its gains and its page, and runs it.
 fn bind_and_run<
     'a,
     R: Threads + Wait + Sync + Net + Clock + RandomSource,
@@ -122,40 +124,59 @@ fn bind_and_run<
     ensures run { IfOk result (IsRunOf options.now.one_thread (is_some control) studio.now) }
     ensures early { IfErr result IsEarly }
 {
-    let opened = open_run(rt, alloc, studio, inputs, options, state, control, faults)?;
-    // Last, so that a start that fails, as one whose sockets are taken, leaves no file behind and touches none.
-    let is_controlled = opened.gains.is_some();
-    let files = create_files(alloc, studio, inputs, is_controlled, record, wav, pcm)?;
-    run_open(rt, alloc, studio, inputs, options, state, opened, files)
+    let sockets = open_sockets(rt, alloc, studio, inputs.sockets)?;
+    let GainControl { gains, control } = open_control(rt, alloc, studio, &state.link, control)?;
+    let OpenPage { thread, snapshots } = open_page(rt, alloc, options.page, control)?;
+    // From here on the page's server is a type parameter: what holds an HTTP server by name is proved along all of its
+    // fields, and so are their destructors.
+    run_with_page(
+        rt, alloc, studio, inputs, options, state, sockets, gains, thread, snapshots, faults,
+        record, wav, pcm,
+    )
 }
 
-/// Opens the sockets of a run, the control of its gains, and its status.
-// The parts of a run are made in few steps, each of which holds little: what a `?` passes by costs time to prove.
-fn open_run<'a, R: Wait + Net + Clock + RandomSource, E: Write + Drop>(
+/// Opens the status of a run whose sockets and page are open, creates its files, and runs it.
+fn run_with_page<
+    'a,
+    R: Threads + Wait + Sync + Clock,
+    E: Write + Send + Drop,
+    P: CreateRecord + CreateLiveWav + CreatePcm,
+    S: ServedPage + SideTask<R> + Send + Drop + 'a,
+>(
     rt: &'a R,
     alloc: Global,
     studio: &'a StudioSpec,
     inputs: LiveInputs<'a>,
     options: &LiveOptions,
     state: &'a SharedState,
-    control: Option<Token>,
+    sockets: Sockets<'a>,
+    gains: Option<RunGains<'a, R>>,
+    page: Option<S>,
+    snapshots: Option<Producer<Snapshot>>,
     faults: E,
-) -> Result<OpenRun<'a, R, E>, LiveFault>
-    ensures gains { IfOk result (λ opened. is_some opened.gains ≡ is_some control) }
+    record: Option<&P>,
+    wav: Option<&P>,
+    pcm: Option<&P>,
+) -> Result<WorkReport, LiveFault>
+    ensures run { IfOk result (IsRunOf options.now.one_thread (is_some gains.entry) studio.now) }
     ensures early { IfErr result IsEarly }
 {
-    let sockets = open_sockets(rt, alloc, studio, inputs.sockets)?;
     let shown = StatusInputs {
         names: inputs.names,
         meter: &state.meter,
     };
-    let GainControl { gains, control } = open_control(rt, alloc, studio, &state.link, control)?;
-    let status = open_status(rt, alloc, studio, &sockets, options, shown, control, faults)?;
-    Ok(OpenRun {
+    let status = open_status(
+        alloc, studio, &sockets, &page, options, shown, snapshots, faults,
+    )?;
+    // Last, so that a start that fails, as one whose sockets are taken, leaves no file behind and touches none.
+    let files = create_files(alloc, studio, inputs, gains.is_some(), record, wav, pcm)?;
+    let opened = OpenRun {
         sockets,
         gains,
+        page,
         status,
-    })
+    };
+    run_open(rt, alloc, studio, inputs, options, state, opened, files)
 }
 
 /// Creates the files of a run that are wanted. Takes the memory for each before it creates it.
@@ -192,6 +213,7 @@ fn run_open<
     D: RecordFile + Send + Drop,
     A: WavFiles + Send + Drop,
     B: PcmOutput + Send + Drop,
+    S: SideTask<R> + Send + Drop + 'a,
 >(
     rt: &'a R,
     alloc: Global,
@@ -199,7 +221,7 @@ fn run_open<
     inputs: LiveInputs<'a>,
     options: &LiveOptions,
     state: &'a SharedState,
-    opened: OpenRun<'a, R, E>,
+    opened: OpenRun<'a, R, E, S>,
     files: RunFiles<'a, D, A, B>,
 ) -> Result<WorkReport, LiveFault>
     ensures run { IfOk result (IsRunOf options.now.one_thread (is_some opened.entry.gains) studio.now) }
@@ -209,7 +231,8 @@ fn run_open<
     let OpenRun {
         sockets,
         gains,
-        status: OpenStatus { serving, showing },
+        page,
+        status,
     } = opened;
     let RunFiles {
         recording,
@@ -223,7 +246,7 @@ fn run_open<
         context: RunContext {
             period,
             until_eof: options.until_eof,
-            status: showing,
+            status,
             flags: &state.flags,
             health: inputs.sockets.health,
             taps,
@@ -240,16 +263,17 @@ fn run_open<
         recording,
     };
     // The tasks end with the run, at whose end its ends of their rings are dropped.
-    let report = with_side_tasks(
+    let report = with_all_tasks(
         rt,
         piped,
-        serving,
+        page,
+        audio,
         move || -> Result<WorkReport, LiveFault>
             requires sync { IsSync R.row }
             ensures run { IfOk result
                 (IsRunOf parts.entry.one_thread (is_some parts.entry.context.gains) studio.entry.now) }
             ensures early { IfErr result IsEarly }
-        { run_with_audio(rt, alloc, studio, parts, audio) },
+        { run_prepared(rt, alloc, studio, parts) },
     )?;
     inputs.audio.set_sent(report.blocks);
     inputs.pcm.set_sent(report.blocks);
@@ -335,35 +359,6 @@ fn recording_of<'a, P: CreateRecord>(
         record: Some(OpenRecord { channel, file }),
         recorded,
     })
-}
-
-/// Runs a studio, with the writer of its WAV files in another thread if there are any.
-fn run_with_audio<
-    'a,
-    R: Threads + Wait + Sync + Clock,
-    E: Write + Send + Drop,
-    D: RecordFile + Send + Drop,
-    A: WavFiles + Send + Drop,
->(
-    rt: &'a R,
-    alloc: Global,
-    studio: &'a StudioSpec,
-    parts: PreparedRun<'a, R, E, D>,
-    audio: Option<OpenAudio<'a, A>>,
-) -> Result<WorkReport, LiveFault>
-    ensures run { IfOk result (IsRunOf parts.entry.one_thread (is_some parts.entry.context.gains) studio.now) }
-    ensures early { IfErr result IsEarly }
-{
-    with_audio(
-        rt,
-        audio,
-        move || -> Result<WorkReport, LiveFault>
-            requires sync { IsSync R.row }
-            ensures run { IfOk result
-                (IsRunOf parts.entry.one_thread (is_some parts.entry.context.gains) studio.entry.now) }
-            ensures early { IfErr result IsEarly }
-        { run_prepared(rt, alloc, studio, parts) },
-    )
 }
 
 /// Runs a studio in one thread or by workers, as its parts say. Only a run in one thread has a record.

@@ -46,31 +46,6 @@ pub(crate) trait SideTask<R> {
     fn complete(self, rt: &R);
 }
 
-/// Calls `run` in this thread, with each of two tasks in a thread of its own if there is one, and returns the result of
-/// `run` once all have ended. Returns `LiveFault::Thread` if a thread cannot be started; then `run` is not called.
-pub(crate) fn with_side_tasks<
-    'a,
-    R: Threads + Wait + Sync,
-    A: SideTask<R> + Send + Drop + 'a,
-    B: SideTask<R> + Send + Drop + 'a,
-    G: FnOnce() -> Result<O, LiveFault> + Drop,
-    O: Drop,
->(rt: &'a R, one: Option<A>, other: Option<B>, run: G) -> Result<O, LiveFault>
-    requires run { G.pre run }
-    ensures ran { IfOk result (λ value. G.post run (Ok value)) }
-    ensures early { IfErr result (λ fault. IsEarly fault ⊎ G.post run (Err fault)) }
-{
-    with_side_task(
-        rt,
-        one,
-        move || -> Result<O, LiveFault>
-            requires run { G.pre run }
-            ensures ran { IfOk result (λ value. G.post run (Ok value)) }
-            ensures early { IfErr result (λ fault. IsEarly fault ⊎ G.post run (Err fault)) }
-        { with_side_task(rt, other, run) },
-    )
-}
-
 /// Calls `run` in this thread, with the task in a new one if there is a task, and returns the result of `run` once both
 /// have ended. Returns `LiveFault::Thread` if no thread can be started; then `run` is not called.
 pub(crate) fn with_side_task<

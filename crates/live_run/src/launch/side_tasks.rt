@@ -3,7 +3,7 @@ ghost use Rattle.std.specs.Prelude.{◌⊎◌, IfOk, IfErr, Ok, Err};
 ghost use Rattle.live_run.specs.RunResult.{IsEarly};
 
 use crate::fault::LiveFault;
-use crate::scoped_thread::{SideTask, with_scoped_thread};
+use crate::scoped_thread::{SideTask, with_scoped_thread, with_side_task};
 use live_audio::{AudioWriter, PcmWriter, write_audio, write_pcm};
 use live_status::PageThread;
 use status_page::GainDesk;
@@ -43,11 +43,68 @@ impl<R: Wait + Clock, D: GainDesk> SideTask<R> for PageThread<D> {
     }
 }
 
+/// Calls `run` in this thread, and in a thread of its own each task that there is: the writers of the raw PCM and of the
+/// WAV files, and the server of the page. Returns the result of `run` once all have ended. Returns `LiveFault::Thread`
+/// if a thread cannot be started; then `run` is not called.
+pub(crate) fn with_all_tasks<
+    'a,
+    R: Threads + Wait + Sync,
+    B: PcmOutput + Send + Drop + 'a,
+    S: SideTask<R> + Send + Drop + 'a,
+    A: WavFiles + Send + Drop + 'a,
+    G: FnOnce() -> Result<O, LiveFault> + Drop,
+    O: Drop,
+>(
+    rt: &'a R,
+    piped: Option<OpenPcm<'a, B>>,
+    page: Option<S>,
+    audio: Option<OpenAudio<'a, A>>,
+    run: G,
+) -> Result<O, LiveFault>
+    requires run { G.pre run }
+    ensures ran { IfOk result (λ value. G.post run (Ok value)) }
+    ensures early { IfErr result (λ fault. IsEarly fault ⊎ G.post run (Err fault)) }
+{
+    with_side_task(
+        rt,
+        piped,
+        move || -> Result<O, LiveFault>
+            requires run { G.pre run }
+            ensures ran { IfOk result (λ value. G.post run (Ok value)) }
+            ensures early { IfErr result (λ fault. IsEarly fault ⊎ G.post run (Err fault)) }
+        { with_page_and_audio(rt, page, audio, run) },
+    )
+}
+
+/// Calls `run` as `with_all_tasks` does, without raw PCM.
+fn with_page_and_audio<
+    'a,
+    R: Threads + Wait + Sync,
+    S: SideTask<R> + Send + Drop + 'a,
+    A: WavFiles + Send + Drop + 'a,
+    G: FnOnce() -> Result<O, LiveFault> + Drop,
+    O: Drop,
+>(rt: &'a R, page: Option<S>, audio: Option<OpenAudio<'a, A>>, run: G) -> Result<O, LiveFault>
+    requires run { G.pre run }
+    ensures ran { IfOk result (λ value. G.post run (Ok value)) }
+    ensures early { IfErr result (λ fault. IsEarly fault ⊎ G.post run (Err fault)) }
+{
+    with_side_task(
+        rt,
+        page,
+        move || -> Result<O, LiveFault>
+            requires run { G.pre run }
+            ensures ran { IfOk result (λ value. G.post run (Ok value)) }
+            ensures early { IfErr result (λ fault. IsEarly fault ⊎ G.post run (Err fault)) }
+        { with_audio(rt, audio, run) },
+    )
+}
+
 /// Calls `run` in this thread, with the writer of the WAV files in a new one if there are files, and returns the result
 /// of `run` once both have ended. Returns `LiveFault::Thread` if no thread can be started; then `run` is not called.
 // No `SideTask`: in a method of a trait, the toolchain does not follow that a file may go to another thread, which is
 // said of a type that belongs to the files.
-pub(crate) fn with_audio<
+fn with_audio<
     'a,
     R: Threads + Wait + Sync,
     A: WavFiles + Send + Drop + 'a,
