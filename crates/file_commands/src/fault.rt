@@ -18,12 +18,9 @@ pub enum CommandFault {
     /// A word of `--path` is not an IPv4 address and a port.
     #[error("usage: a path is not ADDRESS:PORT")]
     Address,
-    /// The file to write is also read. The file's path was written to `faults`.
-    #[error("is an input")]
-    OutputIsInput,
-    /// Two of the files to write are one file, by their options.
-    #[error("usage: {0} and {1} are one file")]
-    SameFile(&'static str, &'static str),
+    /// A file to write is also read, or is another file to write.
+    #[error("{0}")]
+    Clash(#[from] FileClash),
     /// The STREAM of `marks --wav` or `replay --wav-stream` is not a number from 0 to 255.
     #[error("usage: STREAM is not a number from 0 to 15")]
     StreamNumber,
@@ -59,6 +56,18 @@ pub enum CommandFault {
     /// A write to the output failed, or took no octet. The output has a prefix of the text.
     #[error("device: write")]
     Write,
+}
+
+/// The fault of files of one command that are one file.
+// An enum of its own, since a command compares many pairs of files, and each `?` is proved along all parts of its fault.
+#[derive(Clone, Copy, Debug, PartialEq, Eq, Error)]
+pub enum FileClash {
+    /// The file to write is also read. The file's path was written to `faults`.
+    #[error("is an input")]
+    OutputIsInput,
+    /// Two of the files to write are one file, by their options.
+    #[error("usage: {0} and {1} are one file")]
+    SameFile(&'static str, &'static str),
 }
 
 /// The fault of a configuration.
@@ -170,7 +179,7 @@ impl CommandFault {
     pub fn status(&self) -> u8 {
         match self {
             CommandFault::Address | CommandFault::StreamNumber | CommandFault::StreamWav(_) => 2,
-            CommandFault::OutputIsInput | CommandFault::SameFile(..) => 2,
+            CommandFault::Clash(_) => 2,
             CommandFault::Config(ConfigFault::Unread) => 5,
             CommandFault::Capture(CaptureInputFault::Unread) => 5,
             CommandFault::Gains(GainsInputFault::Unread) => 5,

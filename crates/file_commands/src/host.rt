@@ -2,7 +2,7 @@
 ghost use Rattle.std.specs.Prelude.{IfOk, []};
 ghost use Rattle.wav_file.specs.File.{Holds};
 
-use crate::fault::CommandFault;
+use crate::fault::{CommandFault, FileClash};
 use std::alloc::Global;
 use std::io::{Read, Write};
 use studio_run::ReadFault;
@@ -71,14 +71,14 @@ pub(crate) fn refuse_inputs<H: Host>(
     output: Option<&str>,
     inputs: &[&str],
     faults: &mut H::Stderr,
-) -> Result<(), CommandFault> {
+) -> Result<(), FileClash> {
     let Some(output) = output else {
         return Ok(());
     };
     for input in inputs {
         if host.is_same_file(output, *input) {
             begin_fault_line(word, output, faults);
-            return Err(CommandFault::OutputIsInput);
+            return Err(FileClash::OutputIsInput);
         }
     }
     Ok(())

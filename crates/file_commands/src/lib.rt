@@ -28,7 +28,9 @@ mod trace_commands;
 
 pub use config::{parse_studio, read_config, table_in};
 pub use config_help::run_config_help;
-pub use fault::{CaptureInputFault, CommandFault, ConfigFault, GainsInputFault, output_result};
+pub use fault::{
+    CaptureInputFault, CommandFault, ConfigFault, FileClash, GainsInputFault, output_result,
+};
 pub use host::{Host, is_one_file};
 pub use import_command::run_import;
 pub use replay_command::run_replay;

@@ -7,7 +7,7 @@ ghost use Rattle.file_commands.specs.ReplayedStudio.{HasGains};
 
 use crate::capture_flows::routes_at;
 use crate::config::{changed_studio, read_gains, studio_of};
-use crate::fault::{CaptureInputFault, CommandFault};
+use crate::fault::{CaptureInputFault, CommandFault, FileClash};
 use crate::host::{Host, STDIN_PATH, is_one_file, open_capture, refuse_inputs};
 use crate::replay_input::{
     PeekedInput, opening_in, paths_in, read_front, recorded_studio, studio_for,
@@ -109,7 +109,7 @@ fn refuse_outputs<H: Host>(
     config: &str,
     args: &ReplayArgs<'_>,
     faults: &mut H::Stderr,
-) -> Result<(), CommandFault> {
+) -> Result<(), FileClash> {
     let capture = if args.is_stdin() {
         STDIN_PATH
     } else {
@@ -131,7 +131,7 @@ fn refuse_gains<H: Host>(
     args: &ReplayArgs<'_>,
     capture: &str,
     faults: &mut H::Stderr,
-) -> Result<(), CommandFault> {
+) -> Result<(), FileClash> {
     let Some(gains) = args.gains else {
         return Ok(());
     };
@@ -148,10 +148,10 @@ fn refuse_one_file<H: Host>(
     host: &H,
     one: (&'static str, Option<&str>),
     other: (&'static str, Option<&str>),
-) -> Result<(), CommandFault> {
+) -> Result<(), FileClash> {
     match (one, other) {
         ((one, Some(path)), (other, Some(other_path))) if is_one_file(host, path, other_path) => {
-            Err(CommandFault::SameFile(one, other))
+            Err(FileClash::SameFile(one, other))
         }
         _ => Ok(()),
     }
