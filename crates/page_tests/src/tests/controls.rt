@@ -389,13 +389,19 @@ fn is_answered(
     assert!(rt; !sent.contains(TOKEN), "{shows}: {sent}");
 }
 
+/// Tests the answers of a new page to these cases, one after another.
+// The cases are an argument: a constant would be followed octet by octet through each step.
+fn are_answered(rt: &(impl Abort + RandomSource), alloc: Global, cases: &[Case]) {
+    let page = &mut page(rt, alloc);
+    for case in cases {
+        is_answered(rt, alloc, page, case);
+    }
+}
+
 /// Reads, changes, hostile bodies, wrong tokens and wrong origins.
 #[test]
 fn gains_are_shown_and_changed(rt: HostRuntime) {
-    let page = &mut page(&rt, rt.alloc());
-    for case in &CASES {
-        is_answered(&rt, rt.alloc(), page, case);
-    }
+    are_answered(&rt, rt.alloc(), &CASES);
 }
 
 /// A change, and the responses to it while it is taken, once 200 changes were requested in a second, and after the
@@ -544,11 +550,20 @@ const END: &str = "</body>\n</html>\n";
 /// The page has the gains before its end. They are at most 10 KB, and nothing in them comes from elsewhere.
 #[test]
 fn the_page_has_its_gains(rt: HostRuntime) {
-    let page = &mut page(&rt, rt.alloc());
-    let request = b"GET / HTTP/1.1\r\nHost: localhost\r\n\r\n";
-    let sent = answers(&rt, rt.alloc(), page, request);
-    ends_with_gains(&rt, &sent, HTML, CONTROLS);
-    stands_alone(&rt, CONTROLS, 10_000);
+    has_gains(&rt, rt.alloc(), HTML, CONTROLS);
+}
+
+/// Tests that a page with these gains is sent, and that the gains stand alone.
+fn has_gains(rt: &(impl Abort + RandomSource), alloc: Global, html: &str, gains: &str) {
+    let page = &mut page(rt, alloc);
+    let sent = answers(
+        rt,
+        alloc,
+        page,
+        b"GET / HTTP/1.1\r\nHost: localhost\r\n\r\n",
+    );
+    ends_with_gains(rt, &sent, html, gains);
+    stands_alone(rt, gains, 10_000);
 }
 
 /// Tests that a response ends with the page, with the gains before its end.
