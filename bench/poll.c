@@ -7,9 +7,10 @@
 // others with it, reads it once the latency is over, and mixes all streams into the datagram that it sends. By no rule is
 // a packet refused, and nothing more is counted.
 //
-// Words: receive|mix SIZE LATENCY FRAMES REST PATHS MIX_A MIX_B PORT.., on 127.0.0.1, PATHS ports a stream; latency and a
-// packet's frames are in sampling instants, the rest in microseconds. Streams are of L24 in two channels, the mix of 8. It
-// ends by SIGTERM, and then prints how many datagrams it received, and how many were late.
+// Words: receive|mix SIZE LATENCY FRAMES REST PATHS CHANNELS MIX_A MIX_B PORT.., on 127.0.0.1, PATHS ports a stream; latency
+// and a packet's frames are in sampling instants, the rest in microseconds. Streams are of L24, the mix has 8 channels. It
+// ends by SIGTERM, and then prints how many datagrams it received, how many were late, and the microseconds by which it
+// woke late at most: so long the machine held it up.
 #include <arpa/inet.h>
 #include <poll.h>
 #include <signal.h>
@@ -20,8 +21,8 @@
 #include <sys/socket.h>
 #include <time.h>
 
-enum { MOST_SOCKETS = 64, MOST_OCTETS = 1452, ROOM = 8 << 20, HEAD = 12, BLOCK = 48, FIXED = 9 };
-enum { SLOTS = 1024, CHANNELS = 2, OUTS = 8, SAMPLE = 3, MOST_INS = MOST_SOCKETS * CHANNELS };
+enum { MOST_SOCKETS = 64, MOST_OCTETS = 1452, ROOM = 8 << 20, HEAD = 12, BLOCK = 48, FIXED = 10 };
+enum { SLOTS = 1024, OUTS = 8, SAMPLE = 3, MOST_INS = 1024 };
 static const uint64_t MILLISECOND = 1000000;
 static volatile sig_atomic_t is_over;
 
@@ -97,12 +98,12 @@ static int take_one(int s, struct stream *stream, uint64_t at, int frames, int l
 }
 
 // Lays the samples of a stream's packets whose latency is over beside those of the others.
-static void read_due(const struct stream *stream, int32_t *ins, int width, int frames, int latency) {
+static void read_due(const struct stream *stream, int32_t *ins, int width, int channels, int frames, int latency) {
   int64_t number = stream->last + 1 - (latency + BLOCK) / frames;
   for (int frame = 0; frame < BLOCK; frame++) {
     const struct slot *slot = &stream->slots[(uint64_t)(number + frame / frames) % SLOTS];
-    const uint8_t *from = slot->samples + SAMPLE * CHANNELS * (frame % frames);
-    for (int i = 0; i < CHANNELS; i++, from += SAMPLE)
+    const uint8_t *from = slot->samples + SAMPLE * channels * (frame % frames);
+    for (int i = 0; i < channels; i++, from += SAMPLE)
       ins[frame * width + i] = (int32_t)((uint32_t)from[0] << 24 | from[1] << 16 | from[2] << 8) >> 8;
   }
 }
@@ -119,12 +120,12 @@ static void mix(const int32_t *ins, int width, int32_t gains[OUTS][MOST_INS], ui
     }
 }
 
-static void mix_all(const struct stream *streams, int count, int frames, int latency, uint8_t *datagram) {
+static void mix_all(const struct stream *streams, int count, int channels, int frames, int latency, uint8_t *datagram) {
   static int32_t ins[BLOCK * MOST_INS], gains[OUTS][MOST_INS];
-  int width = count * CHANNELS;
+  int width = count * channels;
   if (!gains[0][0])
     for (int i = 0; i < OUTS * MOST_INS; i++) gains[i / MOST_INS][i % MOST_INS] = 4096;
-  for (int i = 0; i < count; i++) read_due(&streams[i], ins + CHANNELS * i, width, frames, latency);
+  for (int i = 0; i < count; i++) read_due(&streams[i], ins + channels * i, width, channels, frames, latency);
   mix(ins, width, gains, datagram + HEAD);
 }
 
@@ -135,26 +136,29 @@ int main(int count, char **words) {
   int sockets = count - FIXED, mixer = socket(AF_INET, SOCK_DGRAM, 0);
   if (sockets < 1 || sockets > MOST_SOCKETS || atoi(words[2]) > MOST_OCTETS) return 2;
   int is_mixed = strcmp(words[1], "mix") == 0, size = atoi(words[2]), latency = atoi(words[3]), frames = atoi(words[4]);
-  uint64_t rest = atol(words[5]) * 1000, paths = atoi(words[6]);
+  uint64_t rest = atol(words[5]) * 1000, paths = atoi(words[6]), channels = atoi(words[7]), held = 0;
   if (is_mixed && (size < HEAD + SAMPLE * BLOCK * OUTS || BLOCK % frames != 0)) return 2;
   if (rest == 0 || paths == 0 || sockets % paths != 0) return 2;
-  struct sockaddr_in to[2] = {at(atoi(words[7])), at(atoi(words[8]))};
+  if (is_mixed && (channels == 0 || sockets / paths * channels > MOST_INS)) return 2;
+  struct sockaddr_in to[2] = {at(atoi(words[8])), at(atoi(words[9]))};
   for (int i = 0; i < sockets; i++) polled[i] = (struct pollfd){receiver(atoi(words[FIXED + i])), POLLIN, 0};
   for (uint64_t i = 0; is_mixed && i < sockets / paths; i++) streams[i].slots = calloc(SLOTS, sizeof(struct slot));
   signal(SIGTERM, end);
   struct counts counts = {0, 0, 0};
   for (uint64_t sent = now() / MILLISECOND; !is_over;) {
-    uint64_t before = now();
-    nanosleep(&(struct timespec){0, rest - before % rest}, NULL);
+    uint64_t before = now(), wake = before - before % rest + rest;
+    nanosleep(&(struct timespec){0, wake - before}, NULL);
+    uint64_t woken = now();
+    if (woken > wake + held) held = woken - wake;
     if (poll(polled, sockets, 0) > 0)
       for (int i = 0; i < sockets; i++)
         if (polled[i].revents)
           while (take_one(polled[i].fd, &streams[i / paths], before, frames, latency, &counts)) {}
     for (uint64_t due = now() / MILLISECOND; sent < due; sent++) {
-      if (is_mixed) mix_all(streams, sockets / paths, frames, latency, datagram);
+      if (is_mixed) mix_all(streams, sockets / paths, channels, frames, latency, datagram);
       for (int i = 0; i < 2; i++) sendto(mixer, datagram, size, 0, (void *)&to[i], sizeof to[i]);
     }
   }
-  printf("%llu %llu\n", (unsigned long long)counts.received, (unsigned long long)counts.late);
+  printf("%llu %llu %llu\n", (unsigned long long)counts.received, (unsigned long long)counts.late, (unsigned long long)held / 1000);
   return 0;
 }
