@@ -1,3 +1,4 @@
+use Rattle.std.proofs.lemmas.Grind.{elements}
 use Rattle.std.proofs.Common.{◌≡◌, ◌<◌, ◌≤◌, ◌+◌, ◌∙◌, [], length, sym, subst, arith, to_z, of_z, w64}
 use Rattle.std.proofs.lemmas.Int.{to_z-of_z}
 use Rattle.rtp_stream.specs.declared.mark.PacketFormat.{PacketFormat}
@@ -26,3 +27,6 @@ pub returns-clause-rooms : goal.returns-clause-rooms
 returns-clause-rooms c =
     let end : c.loop-stream.stream-index ≡ length c.args.streams.now = omega (arith, c.loop-stream-test.false, c.loop-stream.auto.stream-index-end) in
     all_rooms (to_z w64 (of_z w64 c.args.start)) c.args.block c.args.lag c.args.streams.now c.loop-stream.lanes.items c.loop-stream.stream-index c.loop-stream.invariant end
+
+pub returns-clause-channels : goal.returns-clause-channels
+returns-clause-channels c = grind (arith, elements)

@@ -1,3 +1,4 @@
+use Rattle.std.proofs.lemmas.Grind.{common_steps}
 use Rattle.std.proofs.Common.{◌≡◌, get_or, sym, subst, ◌∙◌, arith, below_more, to_z, of_z, w64, false, slice_get, Some, ℕ}
 use Rattle.std.proofs.lemmas.Int.{ints}
 use Rattle.std.proofs.lemmas.Option.{get_or_from_slice_get, slice_get-get_or}
@@ -24,3 +25,9 @@ returns-clause-value c =
     let lanes = c.args.lanes.now in
     let same : to_z w64 (of_z w64 c.args.time) ≡ c.args.time = omega (arith, ints) in
     sym (list_any_none (reaches_past c.args.time) lanes (λ k d h. subst (λ t. reaches_past t (get_or lanes k d) ≡ false) same (c.loop-lane.invariant k (get_or lanes k d) (omega arith) (slice_get-get_or lanes k d h))))
+
+pub returns-then-time-end-clause-value : goal.returns-then-time-end-clause-value
+returns-then-time-end-clause-value c = grind (arith, common_steps)
+
+pub returns-in_default : goal.returns-in_default
+returns-in_default c = grind (arith, common_steps)

@@ -1,3 +1,4 @@
+use Rattle.std.proofs.lemmas.Grind.{common_steps, elements}
 use Rattle.std.proofs.Common.{◌≡◌, ◌<◌, length, get_or, ap, ◌∙◌, arith}
 use Rattle.std.proofs.lemmas.List.Sums.{sum_by_more_le}
 use Rattle.rtp_stream.specs.declared.mark.PacketFormat.{PacketFormat}
@@ -50,3 +51,15 @@ returns c =
     let inv = c.loop-lane.invariant in
     let count = inv.count in
     were_read c.args.lanes.now c.loop-lane.lanes c.loop-lane.ins c.args.frames c.args.width c.loop-lane.at c.loop-lane.lane-index inv (omega (arith, count, c.loop-lane-test.false)) c.requires.width
+
+pub lay_stream-requires-clause-values : goal.lay_stream-requires-clause-values
+lay_stream-requires-clause-values c = grind (arith, elements)
+
+pub slice_bounds-values-end-in-loop-lane : goal.slice_bounds-values-end-in-loop-lane
+slice_bounds-values-end-in-loop-lane c = grind (arith, common_steps)
+
+pub read_block-requires-clause-len : goal.read_block-requires-clause-len
+read_block-requires-clause-len c = grind (arith, elements)
+
+pub overflow_add-at : goal.overflow_add-at
+overflow_add-at c = grind (arith, common_steps)

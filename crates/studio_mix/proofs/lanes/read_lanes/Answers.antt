@@ -1,4 +1,5 @@
-use Rattle.std.proofs.Common.{◌≡◌, get_or, refl, ap}
+use Rattle.std.proofs.lemmas.Grind.{common_steps}
+use Rattle.std.proofs.Common.{◌≡◌, get_or, refl, ap, arith}
 use Rattle.lane_align.specs.Lane.{LaneState}
 use Rattle.studio_mix.proofs.BlockLemmas.{read_alone}
 use Rattle.studio_mix.proofs.lanes.read_lanes.Goals as goal
@@ -19,3 +20,6 @@ returns-then-lanes-eq1 c =
       stands = λ stream from marks t. read.stands stream from c.args.frames marks t;
     })
     c.requires.in_24_bits read.in_24_bits
+
+pub read_block-requires-clause-len : goal.read_block-requires-clause-len
+read_block-requires-clause-len c = grind (arith, common_steps)

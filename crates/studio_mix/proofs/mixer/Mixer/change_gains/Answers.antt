@@ -1,3 +1,4 @@
+use Rattle.std.proofs.lemmas.Grind.{elements}
 use Rattle.std.proofs.Common.{◌≡◌, ◌*◌, ◌≤ℤ◌, length, sym, ap, subst, ◌∙◌, to_z, of_z, w64, arith}
 use Rattle.std.proofs.lemmas.Int.{ints, to_z-of_z}
 use Rattle.std.proofs.lemmas.Result.{on_ok_weaker}
@@ -70,3 +71,6 @@ returns-clause-later c =
     let at : to_z w64 (of_z w64 c.args.at) ≡ c.args.at = to_z-of_z w64 c.args.at c.ranges.at in
     omega (arith, ints, later, begin, time, at))
     c.change.ensures.later
+
+pub returns-clause-kept : goal.returns-clause-kept
+returns-clause-kept c = grind (arith, elements)

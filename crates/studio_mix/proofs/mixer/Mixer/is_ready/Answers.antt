@@ -1,3 +1,4 @@
+use Rattle.std.proofs.lemmas.Grind.{elements}
 use Rattle.std.proofs.Common.{◌≡◌, ◌&&◌, ◌+ℤ◌, Bool, pos, refl, sym, ap, subst, ◌∙◌, arith, to_z, of_z, w64, true}
 use Rattle.std.proofs.lemmas.Int.{ints}
 use Rattle.std.specs.List.{list_all, list_any, All}
@@ -48,3 +49,12 @@ returns-else-are_covered-clause-stands c = λ studio feeds number fed.
     c.if-are_covered.false
     ∙ ap (λ b. b && past) (sym c.if-are_covered.false)
     ∙ ready_answer studio mixer feeds number i.output i.time i.one.items i.ins.items i.outs.items sound fed' _ i.time _ i.lanes.items same refl c.as_slice.ensures.value refl c.are_covered.result past c.are_covered.ensures refl
+
+pub reach_past-requires-clause-covered : goal.reach_past-requires-clause-covered
+reach_past-requires-clause-covered c = grind (arith, elements)
+
+pub returns-else-are_covered-clause-early : goal.returns-else-are_covered-clause-early
+returns-else-are_covered-clause-early c = grind (arith, elements)
+
+pub returns-then-are_covered-clause-early : goal.returns-then-are_covered-clause-early
+returns-then-are_covered-clause-early c = grind (arith, elements)

@@ -1,4 +1,5 @@
-use Rattle.std.proofs.Common.{sym, ap, subst, ◌∙◌}
+use Rattle.std.proofs.lemmas.Grind.{common_steps, elements}
+use Rattle.std.proofs.Common.{sym, ap, subst, ◌∙◌, arith}
 use Rattle.std.proofs.Math.Seq.{map-set_same}
 use Rattle.lane_align.specs.Lane.{LaneState}
 use Rattle.mix_packets.specs.Block.{block_start}
@@ -24,3 +25,15 @@ returns-clause-rooms c =
     let i = c.self.inside in
     map-set_same (λ (l : LaneState). l.room) i.lanes.items c.args.stream c.keep_ref.new.self c.index_mut-lane.result.now (c.keep_ref.ensures.facts.room ∙ ap (λ (l : LaneState). l.room) c.index_mut-lane.ensures.value)
     ∙ ap (λ (m : MixerState). rooms_of m.lanes) c.self.view_is
+
+pub keep_ref-requires-clause-room : goal.keep_ref-requires-clause-room
+keep_ref-requires-clause-room c = grind (arith, elements)
+
+pub index_mut-lane-requires : goal.index_mut-lane-requires
+index_mut-lane-requires c = grind (arith, elements)
+
+pub keep_ref-requires-clause-accepted : goal.keep_ref-requires-clause-accepted
+keep_ref-requires-clause-accepted c = grind (arith, elements)
+
+pub invariant_of-self : goal.invariant_of-self
+invariant_of-self c = grind (arith, common_steps)

@@ -1,3 +1,4 @@
+use Rattle.std.proofs.lemmas.Grind.{common_steps, elements}
 use Rattle.std.proofs.Common.{◌≡◌, ◌<◌, true, ◌+◌, ◌*◌, ◌++◌, ◌^◌, ℕ, ℤ, pos, ◌+ℤ◌, ◌≤ℤ◌, length, take, drop, All, sym, ap, subst, ◌∙◌, arith, to_z, of_z, w64, flat_map}
 use Rattle.std.proofs.lemmas.Int.{ints}
 use Rattle.std.specs.List.{range_with_len}
@@ -153,3 +154,54 @@ returns-clause-rooms c =
     let i = c.self.inside in
     let lanes = lent i.lanes.len (length c.read_lanes.new.lanes) c.read_lanes.new.lanes i.lanes.items (c.read_lanes.auto.lanes ∙ c.as_mut_slice.ensures.len) in
     ap rooms_of lanes ∙ c.read_lanes.ensures.rooms ∙ ap rooms_of c.as_mut_slice.ensures.value ∙ ap (λ (m : MixerState). rooms_of m.lanes) c.self.view_is
+
+pub mix_counted-requires-clause-counts_len : goal.mix_counted-requires-clause-counts_len
+mix_counted-requires-clause-counts_len c = grind (arith, elements)
+
+pub returns-clause-streams : goal.returns-clause-streams
+returns-clause-streams c = grind (arith, elements)
+
+pub mix_counted-requires-clause-not_late : goal.mix_counted-requires-clause-not_late
+mix_counted-requires-clause-not_late c = grind (arith, elements)
+
+pub mix_counted-requires-clause-outs_len : goal.mix_counted-requires-clause-outs_len
+mix_counted-requires-clause-outs_len c = grind (arith, elements)
+
+pub mix_counted-requires-clause-shift : goal.mix_counted-requires-clause-shift
+mix_counted-requires-clause-shift c = grind (arith, elements)
+
+pub next-len-requires-clause-whole : goal.next-len-requires-clause-whole
+next-len-requires-clause-whole c = grind (arith, elements)
+
+pub read_lanes-requires-clause-width : goal.read_lanes-requires-clause-width
+read_lanes-requires-clause-width c = grind (arith, elements)
+
+pub returns-clause-none : goal.returns-clause-none
+returns-clause-none c = grind (arith, elements)
+
+pub mix_counted-requires-clause-ins_len : goal.mix_counted-requires-clause-ins_len
+mix_counted-requires-clause-ins_len c = grind (arith, elements)
+
+pub returns-clause-len : goal.returns-clause-len
+returns-clause-len c = grind (arith, elements)
+
+pub returns-clause-number : goal.returns-clause-number
+returns-clause-number c = grind (arith, elements)
+
+pub read_lanes-requires-clause-in_24_bits : goal.read_lanes-requires-clause-in_24_bits
+read_lanes-requires-clause-in_24_bits c = grind (arith, elements)
+
+pub next-len-requires-clause-room : goal.next-len-requires-clause-room
+next-len-requires-clause-room c = grind (arith, elements)
+
+pub returns-clause-early : goal.returns-clause-early
+returns-clause-early c = grind (arith, common_steps)
+
+pub read_lanes-requires-clause-ins : goal.read_lanes-requires-clause-ins
+read_lanes-requires-clause-ins c = grind (arith, elements)
+
+pub overflow_add-self : goal.overflow_add-self
+overflow_add-self c = grind (arith, common_steps)
+
+pub mix_counted-requires-clause-not_early : goal.mix_counted-requires-clause-not_early
+mix_counted-requires-clause-not_early c = grind (arith, common_steps)
