@@ -1,4 +1,5 @@
-use Rattle.std.proofs.Common.{sym, subst, ◌∙◌, ◌+◌}
+use Rattle.std.proofs.lemmas.Grind.{elements}
+use Rattle.std.proofs.Common.{sym, subst, ◌∙◌, ◌+◌, arith}
 use Rattle.gain_mix.specs.Live.{HasFree}
 use Rattle.gain_mix.proofs.LiveLemmas.{HasFree-more, HasFree-none}
 use Rattle.gain_mix.proofs.live.with_free.Goals as goal
@@ -10,3 +11,6 @@ pub loop-preserved : goal.loop-preserved
 loop-preserved c =
     subst (λ slots. HasFree c.args.schedule.now.first c.args.schedule.now.later slots (c.loop.counter + 1)) (sym c.in_ok-push.ensures.items)
     (HasFree-more c.args.schedule.now.first c.args.schedule.now.later c.loop.slots.items c.loop.counter _ c.in_ok-matrix.matrix c.loop.invariant (c.in_ok-matrix.ensures ∙ c.first.ensures))
+
+pub returns-clause-free : goal.returns-clause-free
+returns-clause-free c = grind (arith, elements)

@@ -1,3 +1,4 @@
+use Rattle.std.proofs.lemmas.Grind.{elements}
 use Rattle.std.proofs.Common.{◌≡◌, ◌+◌, ◌<◌, ◌-◌, ◌^◌, ◌∙◌, min, ap, sym, arith, length, get_or, true, false, ℕ, subst}
 use Rattle.gain_mix.specs.Saturated.{saturated_at}
 use Rattle.gain_mix.proofs.SaturatedLemmas.{AreAddedTo, added_none, added_next, added_same, added_whole, at_output}
@@ -31,3 +32,9 @@ loop-output-preserved c =
 
 pub returns : goal.returns
 returns c = added_whole c.args.counts.now c.loop-output.counts (saturated_at c.args.matrix.now c.args.ins.now c.args.shift) c.loop-output.output c.loop-output.invariant.0 c.loop-output-test.false
+
+pub is_saturated-requires-clause-mixed : goal.is_saturated-requires-clause-mixed
+is_saturated-requires-clause-mixed c = grind (arith, elements)
+
+pub bounds-outs-output : goal.bounds-outs-output
+bounds-outs-output c = grind (arith, elements)

@@ -1,3 +1,4 @@
+use Rattle.std.proofs.lemmas.Grind.{elements}
 use Rattle.std.proofs.Common.{◌≡◌, ℕ, ℤ, pos, ◌<◌, ◌≤◌, ◌+◌, ◌-◌, ◌*◌, ◌+ℤ◌, ◌∙◌, refl, sym, ap, subst, arith, add-one, List, length, take, drop, to_z, of_z, w64}
 use Rattle.std.proofs.lemmas.Int.{ints}
 use Rattle.std.proofs.Math.Nat.{mul-le-mul_left}
@@ -62,3 +63,33 @@ returns c =
     subst (λ n. AreAdded c.args.counts.now c.loop-frame.counts (λ output. saturated_count (λ f. matrix_at c.args.schedule.now (c.args.t +ℤ pos f)) c.args.ins.now c.args.shift output n)) all
     (subst (λ t. AreAdded c.args.counts.now c.loop-frame.counts (λ output. saturated_count (λ f. matrix_at c.args.schedule.now (t +ℤ pos f)) c.args.ins.now c.args.shift output c.loop-frame.frame)) stored
     c.loop-frame.invariant)
+
+pub offset_bounds-ins-from : goal.offset_bounds-ins-from
+offset_bounds-ins-from c = grind (arith, elements)
+
+pub offset_bounds-outs-to : goal.offset_bounds-outs-to
+offset_bounds-outs-to c = grind (arith, elements)
+
+pub overflow_add-t : goal.overflow_add-t
+overflow_add-t c = grind (arith, elements)
+
+pub overflow_add-from : goal.overflow_add-from
+overflow_add-from c = grind (arith, elements)
+
+pub overflow_mul-to : goal.overflow_mul-to
+overflow_mul-to c = grind (arith, elements)
+
+pub count_frame-requires-clause-in_24_bits : goal.count_frame-requires-clause-in_24_bits
+count_frame-requires-clause-in_24_bits c = grind (arith, elements)
+
+pub slice_bounds-count_frame-end : goal.slice_bounds-count_frame-end
+slice_bounds-count_frame-end c = grind (arith, elements)
+
+pub overflow_add-to : goal.overflow_add-to
+overflow_add-to c = grind (arith, elements)
+
+pub overflow_mul-from : goal.overflow_mul-from
+overflow_mul-from c = grind (arith, elements)
+
+pub slice_bounds-count_frame-end-in-loop-frame : goal.slice_bounds-count_frame-end-in-loop-frame
+slice_bounds-count_frame-end-in-loop-frame c = grind (arith, elements)

@@ -1,3 +1,4 @@
+use Rattle.std.proofs.lemmas.Grind.{elements}
 use Rattle.std.proofs.Common.{arith, sym, ap, ◌∙◌, ◌≡◌, ◌+◌, ◌-◌, ◌*◌, ◌<◌, ◌≤◌, ℕ, ℤ, pos, ◌+ℤ◌, List, take, drop, length, to_z, of_z, w64}
 use Rattle.std.proofs.lemmas.Int.{ints}
 use Rattle.std.proofs.Math.Nat.{mul-le-mul_left}
@@ -40,3 +41,33 @@ returns-then-is_silent-clause-mixed c f h =
     ∙ frame_at-silence m f c.args.frames h
     ∙ sym (mixed_frame-silence rows n c.args.shift c.requires.shift)
     ∙ ap (λ (v : List ℤ). mixed_frame rows v c.args.shift) (sym (ap (frame_at n f) values ∙ frame_at-silence n f c.args.frames h))
+
+pub slice_bounds-mix_frame-end-in-loop-frame : goal.slice_bounds-mix_frame-end-in-loop-frame
+slice_bounds-mix_frame-end-in-loop-frame c = grind (arith, elements)
+
+pub overflow_add-from : goal.overflow_add-from
+overflow_add-from c = grind (arith, elements)
+
+pub overflow_add-t : goal.overflow_add-t
+overflow_add-t c = grind (arith, elements)
+
+pub overflow_mul-from : goal.overflow_mul-from
+overflow_mul-from c = grind (arith, elements)
+
+pub offset_bounds-outs-to : goal.offset_bounds-outs-to
+offset_bounds-outs-to c = grind (arith, elements)
+
+pub overflow_mul-to : goal.overflow_mul-to
+overflow_mul-to c = grind (arith, elements)
+
+pub overflow_add-to : goal.overflow_add-to
+overflow_add-to c = grind (arith, elements)
+
+pub mix_frame-requires-clause-in_24_bits : goal.mix_frame-requires-clause-in_24_bits
+mix_frame-requires-clause-in_24_bits c = grind (arith, elements)
+
+pub slice_bounds-mix_frame-end : goal.slice_bounds-mix_frame-end
+slice_bounds-mix_frame-end c = grind (arith, elements)
+
+pub offset_bounds-ins-from : goal.offset_bounds-ins-from
+offset_bounds-ins-from c = grind (arith, elements)

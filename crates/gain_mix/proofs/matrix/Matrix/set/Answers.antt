@@ -1,4 +1,5 @@
-use Rattle.std.proofs.Common.{rules, ap, sym, ◌∙◌, ◌≡◌, ◌*◌, length, vec_len}
+use Rattle.std.proofs.lemmas.Grind.{common_steps}
+use Rattle.std.proofs.Common.{rules, ap, sym, ◌∙◌, ◌≡◌, ◌*◌, length, vec_len, arith}
 use Rattle.gain_mix.specs.Gain.{rows_of}
 use Rattle.gain_mix.proofs.RowLemmas.{seen_ins, seen_outs}
 use Rattle.gain_mix.proofs.matrix.Matrix.set.Goals as goal
@@ -17,3 +18,6 @@ returns c =
     ap (rows_of c.self.inside.ins c.self.inside.outs) c.copy_from_slice.ensures.items
     ∙ ap (λ m. rows_of c.self.inside.ins m c.args.gains.now) (sym a)
     ∙ ap (λ n. rows_of n (length c.args.self.now) c.args.gains.now) (sym b)
+
+pub invariant_of-self : goal.invariant_of-self
+invariant_of-self c = grind (arith, common_steps)
