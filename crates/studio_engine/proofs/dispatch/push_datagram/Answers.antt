@@ -1,3 +1,4 @@
+use Rattle.std.proofs.lemmas.Grind.{elements}
 use Rattle.std.proofs.Common.{◌≡◌, ◌<◌, ◌+◌, length, get_or, set, sym, ap, subst, ◌∙◌, arith}
 use Rattle.std.proofs.lemmas.Option.{get_or_from_slice_get}
 use Rattle.studio_session.specs.Cursor.{CursorState, HasPulled, at_place}
@@ -33,3 +34,6 @@ returns-clause-receipt c = λ cursor spec number open_at events k at long pulled
     get_or_from_slice_get (set first stream passed) stream passed c.index-cursors-stream-2.result (set_at first stream passed within) ∙ c.pass_to.ensures in
     let same = was ∙ is_seen c.args.count first stream cursor c.index-cursors-stream.result at in
     c.push_datagram.ensures.receipt spec number open_at events k (ap (λ (s : CursorState). s.place) was ∙ long) (subst (λ s. HasPulled spec number open_at events s k) (sym same) pulled)
+
+pub push_datagram-requires-clause-path : goal.push_datagram-requires-clause-path
+push_datagram-requires-clause-path c = grind (arith, elements)

@@ -1,4 +1,5 @@
-use Rattle.std.proofs.Common.{◌≡◌, ◌++◌, length, take, drop, ap, sym, subst, ◌∙◌, ℕ, List}
+use Rattle.std.proofs.lemmas.Grind.{common_steps, elements}
+use Rattle.std.proofs.Common.{◌≡◌, ◌++◌, length, take, drop, ap, sym, subst, ◌∙◌, ℕ, List, arith}
 use Rattle.studio_mix.proofs.NextLemmas.{lent}
 use Rattle.studio_config.specs.Studio.{Studio}
 use Rattle.studio_session.specs.Event.{TraceEvent}
@@ -64,3 +65,9 @@ returns-clause-come c =
     let back : kept ≡ moved = lent i.cursors.len (length moved) moved (take i.cursors.len (caught ++ drop (length caught) i.cursors.items)) (c.keep_early_marks.auto.cursors ∙ ap length first ∙ long) in
     let come : HaveCome i.count moved = c.keep_early_marks.ensures.come i.count (subst (HaveCome i.count) (sym start) (all_come i.count i.cursors.items)) in
     all_come i.count kept
+
+pub returns-clause-cursors : goal.returns-clause-cursors
+returns-clause-cursors c = grind (arith, elements)
+
+pub returns-clause-all : goal.returns-clause-all
+returns-clause-all c = grind (arith, common_steps)

@@ -1,4 +1,5 @@
-use Rattle.std.proofs.Common.{◌≡◌, ◌++◌, length, take, drop, ap, sym, subst, ◌∙◌, ℕ, List, None, IfSome}
+use Rattle.std.proofs.lemmas.Grind.{elements}
+use Rattle.std.proofs.Common.{◌≡◌, ◌++◌, length, take, drop, ap, sym, subst, ◌∙◌, ℕ, List, None, IfSome, arith}
 use Rattle.studio_mix.proofs.NextLemmas.{lent}
 use Rattle.studio_config.specs.Studio.{Studio}
 use Rattle.studio_session.specs.Event.{TraceEvent}
@@ -87,3 +88,6 @@ returns-clause-come c =
     let back : kept ≡ moved = lent i.cursors.len (length moved) moved (take i.cursors.len (caught ++ drop (length caught) i.cursors.items)) (c.next_datagram.auto.cursors ∙ ap length first ∙ long) in
     let come : HaveCome i.count moved = c.next_datagram.ensures.come i.count (subst (HaveCome i.count) (sym start) (all_come i.count i.cursors.items)) in
     all_come i.count kept
+
+pub returns-clause-cursors : goal.returns-clause-cursors
+returns-clause-cursors c = grind (arith, elements)

@@ -1,4 +1,5 @@
-use Rattle.std.proofs.Common.{◌≡◌, ◌++◌, length, take, drop, ap, sym, subst, ◌∙◌, ◌+◌}
+use Rattle.std.proofs.lemmas.Grind.{elements}
+use Rattle.std.proofs.Common.{◌≡◌, ◌++◌, length, take, drop, ap, sym, subst, ◌∙◌, ◌+◌, arith}
 use Rattle.studio_mix.proofs.NextLemmas.{lent}
 use Rattle.studio_session.specs.Event.{Closing}
 use Rattle.studio_session.specs.PushedEvents.{AreHanded}
@@ -48,3 +49,9 @@ returns-clause-rested c =
     let come : HaveCome (i.count + 1) moved = c.push_close.ensures.come in
     let seen : moved ≡ all_at (i.count + 1) kept = sym (ap (all_at (i.count + 1)) back ∙ at_come (i.count + 1) moved come) in
     subst AreAtRest seen c.push_close.ensures.rested
+
+pub invariant_of-self : goal.invariant_of-self
+invariant_of-self c = grind (arith, elements)
+
+pub push_close-requires-clause-come : goal.push_close-requires-clause-come
+push_close-requires-clause-come c = grind (arith, elements)

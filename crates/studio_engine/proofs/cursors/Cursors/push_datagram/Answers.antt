@@ -1,3 +1,4 @@
+use Rattle.std.proofs.lemmas.Grind.{common_steps, elements}
 use Rattle.std.proofs.Common.{◌≡◌, ◌≤◌, ◌+◌, ◌++◌, None, Some, length, take, drop, slice_get, refl, sym, ap, subst, ◌∙◌, arith}
 use Rattle.studio_mix.proofs.NextLemmas.{lent}
 use Rattle.studio_session.specs.Cursor.{at_place}
@@ -39,3 +40,12 @@ returns-clause-rested c =
     let kept = take i.cursors.len (moved ++ drop (length moved) i.cursors.items) in
     let back : kept ≡ moved = lent i.cursors.len (length moved) moved i.cursors.items (c.push_datagram.auto.cursors ∙ c.as_mut_slice.ensures.len) in
     rest_at (i.count + 1) kept (subst AreAtRest (sym back) c.push_datagram.ensures.rested)
+
+pub invariant_of-self : goal.invariant_of-self
+invariant_of-self c = grind (arith, elements)
+
+pub invariant_of-self-2 : goal.invariant_of-self-2
+invariant_of-self-2 c = grind (arith, elements)
+
+pub returns-clause-handed : goal.returns-clause-handed
+returns-clause-handed c = grind (arith, common_steps)

@@ -1,4 +1,5 @@
-use Rattle.std.proofs.Common.{◌≡◌, ◌++◌, length, take, drop, ap, sym, subst, ◌∙◌, ◌+◌, to_z, of_z, w64}
+use Rattle.std.proofs.lemmas.Grind.{elements}
+use Rattle.std.proofs.Common.{◌≡◌, ◌++◌, length, take, drop, ap, sym, subst, ◌∙◌, ◌+◌, to_z, of_z, w64, arith}
 use Rattle.std.proofs.lemmas.Int.{to_z-of_z}
 use Rattle.studio_mix.proofs.NextLemmas.{lent}
 use Rattle.studio_session.specs.Event.{Reading}
@@ -36,3 +37,9 @@ returns-clause-come c =
     let back : kept ≡ moved = lent i.cursors.len (length moved) moved (take i.cursors.len (caught ++ drop (length caught) i.cursors.items)) (c.push_reading.auto.cursors ∙ ap length first ∙ long) in
     let come : HaveCome (i.count + 1) moved = c.push_reading.ensures.come in
     all_come (i.count + 1) kept
+
+pub invariant_of-self : goal.invariant_of-self
+invariant_of-self c = grind (arith, elements)
+
+pub push_reading-requires-clause-come : goal.push_reading-requires-clause-come
+push_reading-requires-clause-come c = grind (arith, elements)

@@ -1,4 +1,5 @@
-use Rattle.std.proofs.Common.{◌≡◌, Bool, length, false, true, not, refl, sym, ap, subst, ◌∙◌}
+use Rattle.std.proofs.lemmas.Grind.{elements}
+use Rattle.std.proofs.Common.{◌≡◌, Bool, length, false, true, not, refl, sym, ap, subst, ◌∙◌, arith}
 use Rattle.std.proofs.lemmas.Bool.{false≢true}
 use Rattle.studio_engine.specs.Engine.{EngineState, HaveCome}
 use Rattle.studio_engine.specs.Session.{HasSession}
@@ -62,3 +63,6 @@ returns-then-is_none-clause-none c = λ none studio events datagrams s.
     not_settled : (settled closed : Bool) → (settled ≡ true → closed ≡ true) → closed ≡ false → settled ≡ false
     not_settled true closed shut open_yet = absurd (false≢true (sym open_yet ∙ shut refl))
     not_settled false closed shut open_yet = refl
+
+pub returns-else-is_none-clause-some : goal.returns-else-is_none-clause-some
+returns-else-is_none-clause-some c = grind (arith, elements)

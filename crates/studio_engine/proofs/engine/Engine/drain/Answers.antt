@@ -1,4 +1,5 @@
-use Rattle.std.proofs.Common.{refl, sym, subst}
+use Rattle.std.proofs.lemmas.Grind.{elements}
+use Rattle.std.proofs.Common.{refl, sym, subst, arith}
 use Rattle.studio_engine.specs.Engine.{EngineState}
 use Rattle.studio_engine.specs.Session.{HasSession}
 use Rattle.studio_engine.proofs.EngineLemmas.{engine_kept, session_settles, taken_of}
@@ -22,3 +23,6 @@ returns-clause-none c = λ none studio events datagrams s.
     let s' : HasSession studio inside events datagrams = subst (λ e. HasSession studio e events datagrams) (sym c.self.view_is) s in
     let stop = c.next_datagram-given.ensures.none none studio events datagrams s'.runnable (taken_of events i.cursors.cursors i.cursors.count s'.count inv.taken) s'.given in
     session_settles studio inside _ events datagrams refl refl c.next_datagram-given.ensures.count c.if-not-self.false c.next_datagram-given.ensures.rooms s' stop
+
+pub returns-clause-some : goal.returns-clause-some
+returns-clause-some c = grind (arith, elements)

@@ -1,3 +1,4 @@
+use Rattle.std.proofs.lemmas.Grind.{elements}
 use Rattle.std.proofs.Common.{◌≡◌, ◌<ℤ◌, ◌≤ℤ◌, None, false, true, length, refl, sym, ap, subst, ◌∙◌, arith, to_z, of_z, w64}
 use Rattle.std.proofs.lemmas.Int.{ints, to_z-of_z}
 use Rattle.path_merge.specs.Clock.{clock_fault_of}
@@ -24,3 +25,6 @@ returns-clause-stands c = λ studio events datagrams s.
     let free : clock_fault_of i.time i.closed now ≡ None = still_no_fault i.time i.closed now before c.requires.not_far open_yet in
     session_handed studio inside _ (Reading now) (to_z w64 (of_z w64 now)) true i.closed _ events datagrams handed
     c.self.invariant.taken c.push_reading.ensures.count same refl (reading_fault studio.streams i.time i.closed now free) s'
+
+pub invariant_of-self : goal.invariant_of-self
+invariant_of-self c = grind (arith, elements)

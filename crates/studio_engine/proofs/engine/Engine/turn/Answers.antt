@@ -1,3 +1,4 @@
+use Rattle.std.proofs.lemmas.Grind.{elements}
 use Rattle.std.proofs.Common.{◌≡◌, ◌<◌, ◌<ℤ◌, ◌∷◌, [], ◌++◌, ℕ, IfSome, sym, ap, subst, ◌∙◌, arith, to_z, of_z, w64}
 use Rattle.std.proofs.lemmas.Bool.{false≢true}
 use Rattle.std.proofs.lemmas.Int.{ints, to_z-of_z}
@@ -78,3 +79,27 @@ returns-clause-there c = λ none studio events datagrams s.
 pub returns-clause-fewer : goal.returns-clause-fewer
 returns-clause-fewer c =
     subst (λ (p : PackerState). IfSome c.continue_turn-2.result (λ (len : ℕ). blocks_left c.continue_turn-2.new.self.mixer.packer < blocks_left p)) (c.set_out.ensures.packer ∙ c.continue_turn.ensures.left c.in_default-continue_turn.is) c.continue_turn-2.ensures.fewer
+
+pub continue_turn-requires-2-clause-room : goal.continue_turn-requires-2-clause-room
+continue_turn-requires-2-clause-room c = grind (arith, elements)
+
+pub returns-in-Some-continue_turn-clause-some : goal.returns-in-Some-continue_turn-clause-some
+returns-in-Some-continue_turn-clause-some c = grind (arith, elements)
+
+pub returns-clause-closed : goal.returns-clause-closed
+returns-clause-closed c = grind (arith, elements)
+
+pub set_out-requires-clause-open_yet : goal.set_out-requires-clause-open_yet
+set_out-requires-clause-open_yet c = grind (arith, elements)
+
+pub returns-clause-len : goal.returns-clause-len
+returns-clause-len c = grind (arith, elements)
+
+pub returns-clause-left : goal.returns-clause-left
+returns-clause-left c = grind (arith, elements)
+
+pub set_out-requires-clause-not_far : goal.set_out-requires-clause-not_far
+set_out-requires-clause-not_far c = grind (arith, elements)
+
+pub set_out-requires-clause-later : goal.set_out-requires-clause-later
+set_out-requires-clause-later c = grind (arith, elements)
