@@ -1,3 +1,4 @@
+use Rattle.std.proofs.lemmas.Grind.{elements}
 use Rattle.std.proofs.Common.{◌≡◌, ◌+◌, ◌*◌, ◌-◌, ℤ, pos, ap, sym, ◌∙◌, min, length, take, drop, replicate, arith, length-take, length-drop}
 use Rattle.std.proofs.lemmas.List.{length-replicate}
 use Rattle.circular_buffer.specs.Buffer.{Buffer}
@@ -31,3 +32,6 @@ returns-clause-rest c =
     ∙ ap (held_of q.channels q.block q.stored.capacity) (rest_read q.channels q.block q.lead q.front q.gap q.stored.items c.self.invariant c.min-silent.result c.read_into.result c.min-silent.ensures count)
     ∙ ap (λ (h : Held). held_of h.channels h.block h.room (drop (h.block * h.channels) h.values)) c.self.view_is
     ∙ ap (λ k. held_of c.args.self.now.channels c.args.self.now.block c.args.self.now.room (drop k c.args.self.now.values)) (sym c.requires.len)
+
+pub invariant_of-self : goal.invariant_of-self
+invariant_of-self c = grind (arith, elements)

@@ -1,3 +1,4 @@
+use Rattle.std.proofs.lemmas.Grind.{common_steps}
 use Rattle.std.specs.Prelude.{option_copied}
 use Rattle.std.proofs.Common.{◌≡◌, ◌≤◌, ◌-◌, ◌*◌, min, pos, ◌+ℤ◌, Some, length, ap, sym, subst, ◌∙◌, refl, arith, to_z, of_z, w64}
 use Rattle.std.proofs.lemmas.Int.{ints}
@@ -78,3 +79,6 @@ returns-clause-taken c =
 
 pub returns-clause-left : goal.returns-clause-left
 returns-clause-left c = subst (λ (l : LaneState). length l.values ≡ frames_left l.format.frames l.position l.slot * l.format.channels) c.self.view_is c.self.invariant.left
+
+pub overflow_sub-before : goal.overflow_sub-before
+overflow_sub-before c = grind (arith, common_steps)

@@ -1,3 +1,4 @@
+use Rattle.std.proofs.lemmas.Grind.{elements}
 use Rattle.std.proofs.Common.{◌≡◌, ◌*◌, ◌^◌, pos, ◌+ℤ◌, ◌<ℤ◌, length, drop, ap, sym, subst, ◌∙◌, arith, to_z, of_z, w64}
 use Rattle.std.proofs.lemmas.Int.{ints}
 use Rattle.lane_align.specs.HeldValues.{Held, first_values}
@@ -40,3 +41,9 @@ returns-clause-stands c = λ stream from size marks t fed.
     let rest = ap (λ (h : Held). h.values) c.read.ensures.rest ∙ ap (λ k. drop k i.values.values) len in
     let fed' : HasFeed stream from size lane marks t = subst (λ l. HasFeed stream from size l marks t) (sym c.self.view_is) fed in
     subst (λ p. HasFeed stream from size (lane_of i.format i.start i.block p i.slot i.quiet i.ended i.room c.read.new.self.values) marks (t +ℤ pos size)) (sym moved) (block_read stream from size lane marks t c.read.new.self.values fed' rest)
+
+pub returns-clause-position : goal.returns-clause-position
+returns-clause-position c = grind (arith, elements)
+
+pub returns-clause-in_24_bits : goal.returns-clause-in_24_bits
+returns-clause-in_24_bits c = grind (arith, elements)

@@ -1,3 +1,4 @@
+use Rattle.std.proofs.lemmas.Grind.{elements}
 use Rattle.std.specs.Prelude.{option_copied}
 use Rattle.std.proofs.Common.{◌≡◌, ◌∙◌, ◌++◌, ◌∷◌, [], Some, sym, ap, subst, arith, rules, to_z, of_z, w64}
 use Rattle.std.proofs.lemmas.Int.{ints}
@@ -65,3 +66,9 @@ returns-in-End-clause-stands c = λ stream from size marks t fed.
     let fed' : HasFeed stream from size lane marks t = subst (λ l. HasFeed stream from size l marks t) (sym c.self-in-End.view_is) fed in
     let listed = sym (fed_next stream from size c.args.self.now marks t c.args.mark.now fed) ∙ c.requires.accepted in
     fed_end stream from size lane marks t c.args.mark.now fed' (sym c.kind.ensures.value ∙ ap kind_of c.in-End.is) listed
+
+pub take_slot-requires-clause-small : goal.take_slot-requires-clause-small
+take_slot-requires-clause-small c = grind (arith, elements)
+
+pub keep_slot-requires-clause-small : goal.keep_slot-requires-clause-small
+keep_slot-requires-clause-small c = grind (arith, elements)

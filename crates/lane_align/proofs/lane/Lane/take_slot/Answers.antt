@@ -1,3 +1,4 @@
+use Rattle.std.proofs.lemmas.Grind.{common_steps, elements}
 use Rattle.std.specs.Prelude.{option_copied}
 use Rattle.std.proofs.Common.{◌≡◌, ◌≤◌, ◌<◌, ◌+◌, ◌-◌, ◌*◌, ◌^◌, min, pos, ◌+ℤ◌, Some, true, length, ap, sym, subst, ◌∙◌, refl, arith, to_z, of_z, w64}
 use Rattle.std.proofs.lemmas.Int.{ints}
@@ -107,3 +108,9 @@ add_slot-requires-clause-room c =
     let i = c.self.inside in
     let s = c.self.invariant in
     slot_room i.values.block i.block i.values.channels i.format.channels i.format.frames i.room i.values.room c.frames_before-skipped.result s.held_block s.channels s.enough_room s.room
+
+pub add_slot-requires-clause-len : goal.add_slot-requires-clause-len
+add_slot-requires-clause-len c = grind (arith, elements)
+
+pub overflow_sub-before : goal.overflow_sub-before
+overflow_sub-before c = grind (arith, common_steps)
