@@ -59,7 +59,7 @@ pub enum CommandFault {
 }
 
 /// The fault of files of one command that are one file.
-// An enum of its own, since a command compares many pairs of files, and each `?` is proved along all parts of its fault.
+// An enum of its own: a command compares many pairs of files, and each `?` is proved along all parts of its fault.
 #[derive(Clone, Copy, Debug, PartialEq, Eq, Error)]
 pub enum FileClash {
     /// The file to write is also read. The file's path was written to `faults`.

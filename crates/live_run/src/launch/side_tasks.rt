@@ -43,9 +43,9 @@ impl<R: Wait + Clock, D: GainDesk> SideTask<R> for PageThread<D> {
     }
 }
 
-/// Calls `run` in this thread, and in a thread of its own each task that there is: the writers of the raw PCM and of the
-/// WAV files, and the server of the page. Returns the result of `run` once all have ended. Returns `LiveFault::Thread`
-/// if a thread cannot be started; then `run` is not called.
+/// Calls `run` in this thread, with each task that there is in a thread of its own: the writers of the raw PCM and of
+/// the WAV files, and the server of the page. Returns the result of `run` once all have ended. Returns
+/// `LiveFault::Thread` if a thread cannot be started; then `run` is not called.
 pub(crate) fn with_all_tasks<
     'a,
     R: Threads + Wait + Sync,
