@@ -1,3 +1,4 @@
+use Rattle.std.proofs.lemmas.Grind.{elements}
 use Rattle.std.proofs.Common.{◌≡◌, [], ◌∷◌, ◌++◌, None, Some, arith, append-nil, sym, subst, ◌∙◌, w64, true, false}
 use Rattle.std.proofs.lemmas.Int.{ints, to_z-of_z}
 use Rattle.rtp_stream.specs.declared.event.Event.TheVariants.{Tick}
@@ -46,3 +47,6 @@ advances-preserved g c =
           let w = c.advances.invariant.on_way stream open_at events given in
           rw c.in_ok-push-in-Ok-Some.ensures.items (one_more stream open_at c.advances.merge c.advance.new.self _ events w.0 c.advances.marks.items w.1 w.2 c.in-Ok-Some.mark is_slot_mark (rw c.in-Ok-Some.field-0-is at (c.in-Ok-Some.ensures.stands stream open_at w.0 _ w.1.stands)));
     }
+
+pub returns-in-Err : goal.returns-in-Err
+returns-in-Err c = grind (arith, elements)

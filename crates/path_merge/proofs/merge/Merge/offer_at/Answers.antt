@@ -1,4 +1,5 @@
-use Rattle.std.proofs.Common.{◌≡◌, FitsSigned, to_z, of_z, w64, rules, ap, sym, subst, true, ◌∙◌}
+use Rattle.std.proofs.lemmas.Grind.{elements}
+use Rattle.std.proofs.Common.{◌≡◌, FitsSigned, to_z, of_z, w64, rules, ap, sym, subst, true, ◌∙◌, arith}
 use Rattle.std.proofs.lemmas.Int.{to_z-of_z}
 use Rattle.rtp_stream.specs.PacketRef.{packet_of}
 use Rattle.rtp_stream.specs.Anchor.{is_restart_in_reach, media_time_of, restart_media_time}
@@ -51,3 +52,9 @@ returns-in-None-clause-next g c = λ stays.
       hears = subst (λ (m : MergeState). IsHeardStep c.args.self.now m c.args.anchor c.args.path (packet_of c.args.packet.now)) changed c.note_arrival.ensures.step;
       puts = subst (λ (m : MergeState). IsPutStep m.spec (room_by c.args.self.now.spec c.args.anchor c.args.self.now.base c.args.self.now.tracks) m c.put_or_refuse.new.self c.args.anchor c.args.path (packet_of c.args.packet.now) c.put_or_refuse.result) changed (c.put_or_refuse.ensures (room_by c.args.self.now.spec c.args.anchor c.args.self.now.base c.args.self.now.tracks) place);
     }
+
+pub restart-requires-clause-fits : goal.restart-requires-clause-fits
+restart-requires-clause-fits c = grind (arith, elements)
+
+pub put_or_refuse-requires-clause-fits : goal.put_or_refuse-requires-clause-fits
+put_or_refuse-requires-clause-fits c = grind (arith, elements)

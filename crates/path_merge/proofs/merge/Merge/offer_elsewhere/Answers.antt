@@ -1,3 +1,4 @@
+use Rattle.std.proofs.lemmas.Grind.{common_steps}
 use Rattle.std.proofs.Common.{◌≡◌, Some, None, false, true, arith, ap, sym, subst, ◌∙◌, rules}
 use Rattle.std.proofs.lemmas.Int.{ints}
 use Rattle.rtp_stream.specs.declared.anchor.Anchor.{Anchor}
@@ -76,3 +77,6 @@ pub place_of-place-requires-clause-anchor_high : goal.place_of-place-requires-cl
 place_of-place-requires-clause-anchor_high g c =
     let is_a = c.in-Some.is in
     omega (arith, ints, (anchored_at _ c.self.inside.next_media _ c.in-Some.anchor is_a c.self.invariant.anchored).bounds.media_high)
+
+pub place_of-place-requires-clause-media_is : goal.place_of-place-requires-clause-media_is
+place_of-place-requires-clause-media_is c = grind (arith, common_steps)

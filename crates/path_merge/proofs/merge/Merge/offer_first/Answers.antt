@@ -1,3 +1,4 @@
+use Rattle.std.proofs.lemmas.Grind.{elements}
 use Rattle.std.proofs.Common.{◌≡◌, ℤ, ◌^◌, ◌+◌, ◌<◌, true, false, to_z, of_z, w64, FitsSigned, rules, arith, ap, sym, subst, refl, ◌∙◌}
 use Rattle.std.proofs.lemmas.Int.{ints}
 use Rattle.rtp_stream.specs.PacketRef.{packet_of}
@@ -80,3 +81,15 @@ returns-clause-step g c =
     let put = first_put (packet_of c.args.packet.now) c.first-anchor.result.number (g.V.Window.held c.begin_at.new.self) (g.V.Window.held c.put_ref.new.self) c.put_ref.result number c.begin_at.ensures.held c.put_ref.ensures.answer c.put_ref.ensures.held in
     let base : g.V.Window.base c.put_ref.new.self ≡ 65536 + (packet_of c.args.packet.now).seq = c.put_ref.ensures.base ∙ c.begin_at.ensures.base ∙ number in
     rw (← c.self.view_is) (first_step_taken _ c.args.path (packet_of c.args.packet.now) c.first-anchor.result (g.V.Window.held c.begin_at.new.self) _ _ _ _ taken anchor c.begin_at.ensures.held put base (c.put_ref.ensures.size ∙ c.begin_at.ensures.size) c.add_fate-2.ensures)
+
+pub begin_at-requires-clause-small : goal.begin_at-requires-clause-small
+begin_at-requires-clause-small c = grind (arith, elements)
+
+pub put_ref-requires-clause-short : goal.put_ref-requires-clause-short
+put_ref-requires-clause-short c = grind (arith, elements)
+
+pub add_fate-requires : goal.add_fate-requires
+add_fate-requires c = grind (arith, elements)
+
+pub add_fate-requires-2 : goal.add_fate-requires-2
+add_fate-requires-2 c = grind (arith, elements)

@@ -1,3 +1,4 @@
+use Rattle.std.proofs.lemmas.Grind.{common_steps}
 use Rattle.std.proofs.Common.{arith, ap, sym, ◌∙◌, rules}
 use Rattle.std.proofs.lemmas.Int.{ints}
 use Rattle.rtp_stream.specs.PacketRef.{packet_of}
@@ -78,3 +79,6 @@ pub place_of-requires-clause-anchor_high : goal.place_of-requires-clause-anchor_
 place_of-requires-clause-anchor_high g c =
     let is_a = ap (λ (m : MergeState). m.anchor) c.self.view_is ∙ c.requires.anchored in
     omega (arith, ints, (anchored_at _ c.self.inside.next_media _ c.args.anchor is_a c.self.invariant.anchored).bounds.media_high)
+
+pub place_of-requires-clause-media_is : goal.place_of-requires-clause-media_is
+place_of-requires-clause-media_is c = grind (arith, common_steps)

@@ -1,3 +1,4 @@
+use Rattle.std.proofs.lemmas.Grind.{common_steps, elements}
 use Rattle.std.proofs.Common.{◌≡◌, false, arith, ap, subst, sym, ◌∙◌, rules}
 use Rattle.std.proofs.lemmas.Int.{ints}
 use Rattle.rtp_stream.specs.PacketRef.{packet_of}
@@ -52,3 +53,9 @@ returns-in-Ok-clause-restart g c = λ opens.
 
 pub returns-in-Err-clause-next : goal.returns-in-Err-clause-next
 returns-in-Err-clause-next g c = c.offer_elsewhere.ensures.next c.args.anchor c.requires.anchored
+
+pub returns-in-Err-clause-restart : goal.returns-in-Err-clause-restart
+returns-in-Err-clause-restart c = grind (arith, elements)
+
+pub place_of-requires-clause-media_is : goal.place_of-requires-clause-media_is
+place_of-requires-clause-media_is c = grind (arith, common_steps)

@@ -1,4 +1,5 @@
-use Rattle.std.proofs.Common.{◌≡◌, ◌<◌, true, false, Some, IfSome, ap, sym, subst, ◌∙◌, rules}
+use Rattle.std.proofs.lemmas.Grind.{common_steps}
+use Rattle.std.proofs.Common.{◌≡◌, ◌<◌, true, false, Some, IfSome, ap, sym, subst, ◌∙◌, rules, arith}
 use Rattle.path_merge.specs.MergeState.{MergeState, IsSound}
 use Rattle.path_merge.specs.NextMark.{next_left}
 use Rattle.path_merge.specs.Steps.{Drains, marks_left}
@@ -124,3 +125,6 @@ returns-in-Some-clause-spec g c = search rules
 
 pub pass_slot_left-requires-clause-anchored : goal.pass_slot_left-requires-clause-anchored
 pass_slot_left-requires-clause-anchored g c = search rules
+
+pub returns-then-not-self-clause-stands : goal.returns-then-not-self-clause-stands
+returns-then-not-self-clause-stands c = grind (arith, common_steps)

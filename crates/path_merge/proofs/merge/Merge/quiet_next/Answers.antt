@@ -1,3 +1,4 @@
+use Rattle.std.proofs.lemmas.Grind.{elements}
 use Rattle.std.proofs.Common.{◌≡◌, true, false, to_z, of_z, ◌-ℤ◌, pos, FitsSigned, w64, rules, arith, sym, ap, subst, ◌∙◌}
 use Rattle.std.proofs.lemmas.Int.{ints}
 use Rattle.path_merge.specs.MergeState.{MergeState}
@@ -41,3 +42,6 @@ returns-else-is_silence_new g c =
     let back = r.not_back in
     let from_0 = r.sound.time_low in
     no_quiet_is c.args.self.now c.args.now (subst (λ (m : MergeState). is_quiet_due (no_slot_of m.counts) m.quiet (c.args.now -ℤ pos m.spec.latency) ≡ false) c.self.view_is (ap (λ b. is_quiet_due b c.self.inside.quiet (c.args.now -ℤ pos c.self.inside.spec.latency)) (sym c.is_slotless.ensures) ∙ quiet_due_is c.is_slotless.result _ (to_z w64 (of_z w64 c.self.inside.quiet)) c.self.inside.quiet (to_z w64 (of_z w64 (to_z w64 (of_z w64 c.args.now) -ℤ to_z w64 (of_z w64 c.from.result)))) (c.args.now -ℤ pos c.self.inside.spec.latency) c.is_silence_new.ensures (omega (arith, ints)) (omega (arith, ints, c.from.ensures, value, back, from_0)) ∙ c.if-is_silence_new.false))
+
+pub overflow_sub-until : goal.overflow_sub-until
+overflow_sub-until c = grind (arith, elements)

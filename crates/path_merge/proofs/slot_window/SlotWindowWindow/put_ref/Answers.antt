@@ -1,3 +1,4 @@
+use Rattle.std.proofs.lemmas.Grind.{elements}
 use Rattle.std.proofs.Common.{◌≡◌, ◌+◌, ◌-◌, max, Some, length, if◌then◌else◌, arith, ap, sym, ◌∙◌}
 use Rattle.std.specs.Prelude.{nat_eq, slice_set}
 use Rattle.std.specs.Ordering.{nat_cmp}
@@ -53,3 +54,6 @@ returns-in-Taken-clause-held c n =
     ∙ put_slot ring c.self.invariant (c.args.number - c.self.inside.base) p.1 (packet_of c.args.packet) n
     ∙ ap (λ m. if nat_eq n m then Some (packet_of c.args.packet) else slot_of ring n) p.2
     ∙ ap (λ o. if nat_eq n c.args.number then Some (packet_of c.args.packet) else o) (sym (held_is ring n) ∙ ap (λ x. get (from_entries {R = nat_cmp} (packets_in x)) n) c.self.view_is))
+
+pub returns-in-Taken-clause-size : goal.returns-in-Taken-clause-size
+returns-in-Taken-clause-size c = grind (arith, elements)
