@@ -1,5 +1,7 @@
 """What the scripts here share: the program built, the machine's name and load, and a saved output."""
+import contextlib
 import datetime
+import itertools
 import os
 import re
 import shutil
@@ -57,6 +59,14 @@ def taken():
     return 100 * host / max(every, 1)
 
 
+def create(name, day):
+    """A new file for the output of a run: NAME-DAY.txt, or NAME-DAY-2.txt and so on if the day has some already."""
+    for number in itertools.count(1):
+        suffix = f"-{number}" if number > 1 else ""
+        with contextlib.suppress(FileExistsError):
+            return open(os.path.join(HERE, "results", f"{name}-{day}{suffix}.txt"), "x")
+
+
 def save(name, words, before, lines):
     """Prints the lines under a head that names the run and the machine, and saves them by the day."""
     with open("/proc/cpuinfo") as file:
@@ -66,5 +76,5 @@ def save(name, words, before, lines):
     script = os.path.basename(sys.argv[0])
     text = "\n".join([f"bench/{script} {words}".strip() + f", {day}, {machine}, load {before} to {load()}, {taken():.0f} % taken by the host", "", *lines]) + "\n"
     print(text, end="")
-    with open(os.path.join(HERE, "results", f"{name}-{day}.txt"), "w") as file:
+    with create(name, day) as file:
         file.write(text)
