@@ -6,11 +6,12 @@
 //!
 //! The modules, in the order of a run:
 //!
-//! - `launch` opens sockets and status, creates the files, and calls one of the two forms with a
-//!   `RunContext`. If a WAV file or raw PCM is asked for, a thread of its own writes it.
-//! - `status` opens the page and the other outputs of the status, and writes the line of addresses
-//!   and, at a terminal, how to end the run with its report. `shown_health` reads what the status
-//!   shows of sockets, sends and the record. `gain_control` opens the control of gains that a page has.
+//! - `launch` opens sockets, page and status, creates the files, and calls one of the two forms with
+//!   a `RunContext`. The page is served by a thread of its own, and a WAV file and raw PCM are each
+//!   written by one.
+//! - `status` opens the outputs of the status, and writes the line of addresses and, at a terminal,
+//!   how to end the run with its report. `shown_health` reads what the status shows of sockets, sends
+//!   and the record. `gain_control` opens the control of gains that a page has.
 //! - `workers` is the form with a thread for each path and stream and one for the mix,
 //!   `run_in_workers`.
 //! - `single_thread` is the form with an engine in one thread, `run_in_one_thread`. It waits by
