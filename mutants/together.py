@@ -1,8 +1,9 @@
-"""Tries edits of a crate together: those that change different functions, in one check.
+"""Tries edits of a crate over what its check kept: those that change different functions in one check, and then each that is left alone.
 
 A contract is not changed by an edit, so whether a function meets its own says nothing of another function. Of a check with several edits
 those are refused whose own functions the prover says are not proved, with a message that points into the function or into its proofs.
-What such a check does not decide is left to a try of its own.
+What such a check does not decide is tried alone, and is refused by the rules of `rt must-fail`, which begins with a proof of the crate from
+nothing where these checks begin with what is kept.
 """
 import re
 import subprocess
@@ -16,6 +17,10 @@ MESSAGE = re.compile(r"(?:note: )?(?:\./)?(src|proofs)/(\S+?):(\d+):\d+: (error|
 UNPROVED = re.compile(r"fn (\w+)::(\S+): (?:not proved|no proof)")
 # A proof names what an edit took away: that says nothing of a contract.
 NAMES = re.compile(r"has no field|is not in scope|has no `|was not admitted")
+# A place in a file, of which an error or a note says something.
+PLACED = re.compile(r"(note: )?\S+:\d+:\d+:")
+# antt could not read a text, or a library's kept work could not be used: no contract was tried.
+UNTRIED = re.compile(r"is no name|operand is missing|expected the end|cannot continue|Run the lower steps again")
 # The front end did not take the code.
 UNREAD = re.compile(r"\berror\[[\w-]+\]")
 
@@ -167,6 +172,38 @@ def refused_in(home, edits):
     return found
 
 
+def changed(edit, home):
+    """The texts of the files with an edit; None if its lines are not there once."""
+    texts = {}
+    for change in edit.changes:
+        text = texts.get(change.file) or (home / change.file).read_text()
+        if not change.old or text.count(change.old) != 1:
+            return None
+        texts[change.file] = text.replace(change.old, change.new)
+    return texts
+
+
+def is_refused_alone(home, edit):
+    """Whether a check of the crate with this edit alone refuses it, by a message that says more than that a name is gone."""
+    texts = changed(edit, home)
+    if not texts:
+        return False
+    ran = check(home, texts)
+    lines = (ran.stdout + ran.stderr).rstrip().splitlines()
+    placed = [line for line in lines if PLACED.match(line) and ": warning" not in line]
+    unread = [line for line in placed if UNTRIED.search(line) or NAMES.search(line) and not re.match(r"(\./)?proofs/", line)]
+    verdict = any(line.startswith("logic=not-proved") for line in lines)
+    return ran.returncode == 1 and verdict and not unread and not UNREAD.search("\n".join(lines)) and any(not NAMES.search(line) for line in placed)
+
+
 def refused(home, files):
-    """Of these files of edits of the crate in a folder, those that checks of several at once refuse."""
-    return [edit.file for group in batches([read(file) for file in files], home) for edit in refused_in(home, group)]
+    """Of these files of edits of the crate in a folder, those that checks over what is kept there refuse."""
+    edits = [read(file) for file in files]
+    found = [edit.file for group in batches(edits, home) for edit in refused_in(home, group)]
+    left = [edit for edit in edits if edit.file not in found]
+    if not left:
+        return found
+    if check(home, {}).returncode:
+        # The crate itself is not proved over what is kept here, so that no refusal says anything of an edit.
+        return []
+    return found + [edit.file for edit in left if is_refused_alone(home, edit)]
