@@ -21,12 +21,12 @@ imported_output streams frames = record { enc = L24; channels = output_channels 
 abbrev pub unit_gain : ℕ → ℕ → ℤ
 unit_gain output input = if output == input then pos 65536 else pos 0
 
--- an output's gains from so many inputs
+-- an output's gains from this many inputs
 abbrev pub unit_row : ℕ → ℕ → List ℤ
 unit_row output zero = []
 unit_row output (suc inputs) = unit_row output inputs ++ unit_gain output inputs ∷ []
 
--- the gains of so many outputs, row by row
+-- the gains of this many outputs, row by row
 abbrev pub unit_gains : ℕ → ℕ → List ℤ
 unit_gains zero inputs = []
 unit_gains (suc outputs) inputs = unit_gains outputs inputs ++ unit_row outputs inputs

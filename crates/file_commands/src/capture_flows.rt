@@ -49,7 +49,7 @@ pub(crate) fn addresses_in(
 }
 
 /// Tests that the time of the capture at a path steps back by at most a second, and forward by at most `gap` seconds.
-/// The times of a live run's record are those of its own clock, which never jumps.
+/// The times of a live run's record are readings of its own clock, which never jumps.
 pub(crate) fn check_times<H: Host>(
     host: &H,
     alloc: Global,

@@ -91,25 +91,38 @@ pub(crate) fn explained_studio(
     path: &str,
     octets: &[u8],
 ) -> Result<StudioSpec, CommandFault> {
-    let text = match text_in(octets) {
-        Ok(text) => text,
-        Err(CommandFault::Config(ConfigFault::NotToml)) => {
-            let explained = format!(in alloc; "{path}: the file is not UTF-8")?;
-            return Err(CommandFault::Explained(ConfigFault::NotToml, explained));
-        }
-        Err(fault) => return Err(fault),
-    };
-    let table = match toml::table_from_str(alloc, text) {
-        Ok(table) => table,
-        Err(error) if error.is_memory() => return Err(CommandFault::Memory),
-        Err(error) => {
-            let explained = explain_toml(alloc, path, text, &error)?;
-            return Err(CommandFault::Explained(ConfigFault::NotToml, explained));
-        }
-    };
+    let text = explained_text(alloc, path, octets)?;
+    let table = explained_table(alloc, path, text)?;
     match StudioSpec::from_table(alloc, &table) {
         Ok(studio) => Ok(studio),
         Err(error) => Err(explained_error(alloc, path, text, &table, error)?),
+    }
+}
+
+/// Returns the text of a configuration's octets. Explains that they are not UTF-8.
+fn explained_text<'a>(
+    alloc: Global,
+    path: &str,
+    octets: &'a [u8],
+) -> Result<&'a str, CommandFault> {
+    match text_in(octets) {
+        Err(CommandFault::Config(ConfigFault::NotToml)) => {
+            let explained = format!(in alloc; "{path}: the file is not UTF-8")?;
+            Err(CommandFault::Explained(ConfigFault::NotToml, explained))
+        }
+        read => read,
+    }
+}
+
+/// Returns the TOML table of a configuration's text. Explains why the text is no TOML.
+fn explained_table(alloc: Global, path: &str, text: &str) -> Result<Table, CommandFault> {
+    match toml::table_from_str(alloc, text) {
+        Ok(table) => Ok(table),
+        Err(error) if error.is_memory() => Err(CommandFault::Memory),
+        Err(error) => {
+            let explained = explain_toml(alloc, path, text, &error)?;
+            Err(CommandFault::Explained(ConfigFault::NotToml, explained))
+        }
     }
 }
 
@@ -150,8 +163,8 @@ fn text_in(octets: &[u8]) -> Result<&str, CommandFault> {
     }
 }
 
-/// Returns the studio of a command line without words, that of examples/first: one mono stream of L24 on two paths, in
-/// packets of 6 sampling instants.
+/// Returns the studio of a command line without words, the one of examples/first: one mono stream of L24 on two paths,
+/// in packets of 6 sampling instants.
 pub(crate) fn quick_start_studio(alloc: Global) -> Result<StudioSpec, CommandFault> {
     let text = "open_at = 0\n[[stream]]\nencoding = \"L24\"\nchannels = 1\nframes = 6\npt = 96\n\
         clock = \"media\"\nlatency = 12\nwindow = 8\n[output]\nencoding = \"L24\"\nchannels = 1\n\

@@ -5,7 +5,7 @@ use std::io::Write;
 use studio_config::{ConfigTable, Key};
 
 /// The tables of a configuration, each with its line in the help.
-// A stream and a change stand for all of them: their keys do not depend on their numbers.
+// One stream and one change are enough: their keys do not depend on their numbers.
 const TABLES: [(ConfigTable, &str); 4] = [
     (ConfigTable::Top, "At the top:"),
     (ConfigTable::Stream(0), "In each table [[stream]]:"),

@@ -66,7 +66,7 @@ pub(crate) fn explain_toml(
     Ok(said)
 }
 
-/// Returns the line and the column, from 1, of the octet behind so many others. A column counts characters.
+/// Returns the line and the column, from 1, of the octet behind this many others. A column counts characters.
 fn line_and_column(text: &[u8], start: usize) -> (usize, usize) {
     let (mut line, mut column) = (1usize, 1usize);
     for octet in text.iter().take(start) {
@@ -179,7 +179,7 @@ fn push_text(said: &mut String, text: &str) -> Result<(), AllocError> {
     Ok(())
 }
 
-/// Appends what is allowed where a fault of this kind is: by the rule that is broken, or at the key.
+/// Appends the values that are allowed: by the rule that a fault breaks, or at its key.
 fn push_allowed(
     said: &mut String,
     kind: SpecErrorKind,

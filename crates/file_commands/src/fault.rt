@@ -120,7 +120,7 @@ pub enum CaptureInputFault {
     /// The capture's first fault in its format, with the octet at which it is.
     #[error("capture {0}")]
     Octet(CaptureFault),
-    /// The capture's time steps back by more than a second: at the octet behind so many others, by so many seconds.
+    /// The capture's time steps back by more than a second: the number of octets before the place, and the seconds.
     #[error("capture octet {place}: time jumps by -{seconds} s")]
     TimeBack {
         /// The number of octets before the record or block.
@@ -128,7 +128,7 @@ pub enum CaptureInputFault {
         /// The step's length in seconds, rounded up.
         seconds: u64,
     },
-    /// The capture's time steps forward by more than `--gap`: at the octet behind so many others, by so many seconds.
+    /// The capture's time steps forward by more than `--gap`: the number of octets before the place, and the seconds.
     #[error("capture octet {place}: time jumps by {seconds} s; --gap allows it")]
     TimeAhead {
         /// The number of octets before the record or block.

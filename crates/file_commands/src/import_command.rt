@@ -24,11 +24,10 @@ pub fn run_import<H: Host>(
 ) -> Result<(), CommandFault> {
     let addresses = addresses_in(alloc, args.addresses.as_slice())?;
     let octets = read_capture(host, alloc, path)?;
-    let table = FlowTable::of(alloc, octets.as_slice())?;
-    check_times(host, alloc, path, &table, args.gap)?;
-    import_octets::<H>(
+    import_octets(
+        host,
         alloc,
-        &table,
+        path,
         octets.as_slice(),
         addresses.as_slice(),
         args,
@@ -37,22 +36,30 @@ pub fn run_import<H: Host>(
     )
 }
 
-/// Writes the trace or the configuration of a capture's octets, for the flows of its table to these addresses.
+/// Writes the trace or the configuration of the octets of the capture at a path, for its flows to these addresses.
 fn import_octets<H: Host>(
+    host: &H,
     alloc: Global,
-    table: &FlowTable,
+    path: &str,
     octets: &[u8],
     addresses: &[SocketAddrV4],
     args: &ImportArgs<'_>,
     output: &mut H::Stdout,
     faults: &mut H::Stderr,
 ) -> Result<(), CommandFault> {
-    let left_out = import_flows(alloc, table, octets, addresses, args, output)?;
+    let table = FlowTable::of(alloc, octets)?;
+    check_times(host, alloc, path, &table, args.gap)?;
+    let left_out = import_flows(alloc, &table, octets, addresses, args, output)?;
+    note_left_out(left_out, faults);
+    own_fault(&table)
+}
+
+/// Writes the number of flows that were left out, if there are some.
+fn note_left_out<E: Write>(left_out: usize, faults: &mut E) {
     if left_out > 0 {
         // If this line cannot be written it is lost, as a fault's line is.
         let _ = writeln!(faults, "capture: flows left out: {left_out}");
     }
-    own_fault(table)
 }
 
 /// Writes the trace or the configuration of a capture's flows to these addresses, and returns the number of flows that
@@ -93,7 +100,7 @@ fn route_fault(table: &FlowTable, fault: ImportFault) -> CommandFault {
     }
 }
 
-/// Writes the configuration if it is asked for, or else the trace.
+/// Writes the configuration if `--config` was passed, or else the trace.
 fn write_import<W: Write>(
     alloc: Global,
     table: &FlowTable,

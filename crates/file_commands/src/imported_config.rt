@@ -65,7 +65,7 @@ fn reads_back(
     }
 }
 
-/// Returns true if a studio is that of an import with these streams.
+/// Returns true if a studio is what an import with these streams describes.
 fn is_imported(
     alloc: Global,
     studio: &StudioSpec,
@@ -85,7 +85,7 @@ fn is_imported(
     has_unit_gains(alloc, studio.schedule(), channels, inputs)
 }
 
-/// Returns true if streams are those of these parts, in this order.
+/// Returns true if streams are what these parts describe, in this order.
 fn are_same(streams: &[StreamSpec], parts: &[Stream]) -> bool
     ensures { IsTrue result → streams.now ≡ parts.now }
 {
@@ -98,7 +98,7 @@ fn are_same(streams: &[StreamSpec], parts: &[Stream]) -> bool
     }
 }
 
-/// Returns true if a stream is that of these parts.
+/// Returns true if a stream is what these parts describe.
 #[tactic(auto, using(crate::proofs::ImportedConfigLemmas::same_stream))]
 fn is_same(stream: &StreamSpec, parts: &Stream) -> bool
     ensures { IsTrue result → stream.now ≡ parts.now }
@@ -134,7 +134,7 @@ fn has_reception(stream: &StreamSpec, parts: &Stream) -> bool
         && stream.paths() == parts.paths
 }
 
-/// Returns true if an output is that of an import, with so many channels.
+/// Returns true if an output is the one of an import, with this many channels.
 fn is_imported_output(output: &OutSpec, channels: usize, frames: u16) -> bool
     ensures { IsTrue result ↔ (output.now ≡ record {
       enc = Enc.L24;
@@ -155,7 +155,7 @@ fn is_imported_output(output: &OutSpec, channels: usize, frames: u16) -> bool
     has_packets && has_numbers && output.start() == 0 && output.offset() == 0
 }
 
-/// Returns true if gains never change, and pass on to each of so many outputs its own input alone, unchanged.
+/// Returns true if gains never change, and pass on to each of this many outputs its own input alone, unchanged.
 fn has_unit_gains(
     alloc: Global,
     schedule: &Schedule,
@@ -178,7 +178,7 @@ fn has_unit_gains(
     Ok(true)
 }
 
-/// Returns gains that pass on to each of so many outputs its own input alone, unchanged.
+/// Returns gains that pass on to each of this many outputs its own input alone, unchanged.
 fn unit_gains(alloc: Global, outputs: usize, inputs: usize) -> Result<Vec<i32>, AllocError>
     ensures { IfOk result (λ gains. gains.items ≡ unit_gains outputs inputs) }
 {
@@ -189,7 +189,7 @@ fn unit_gains(alloc: Global, outputs: usize, inputs: usize) -> Result<Vec<i32>, 
     Ok(gains)
 }
 
-/// Appends the gains of an output from so many inputs.
+/// Appends the gains of an output from this many inputs.
 fn push_unit_row(gains: &mut Vec<i32>, output: usize, inputs: usize) -> Result<(), AllocError>
     ensures { OnOk result (gains.new.items ≡ gains.old.items ++ unit_row output inputs) }
 {

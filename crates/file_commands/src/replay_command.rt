@@ -20,7 +20,9 @@ use crate::stream_output::{
 use command_line::ReplayArgs;
 use pcap_file::CaptureFault;
 use pcap_flows::Routes;
-use pcap_replay::{RecordedChanges, ReplayObserver, WavObserver, replay, replay_record};
+use pcap_replay::{
+    RecordedChanges, RecordedPath, ReplayObserver, WavObserver, replay, replay_record,
+};
 use reception_chart::{Extent, StudioTracker};
 use std::alloc::Global;
 use std::io;
@@ -47,13 +49,13 @@ struct ReplaySource {
 }
 
 /// Writes the report of a capture, by the configuration at a path, and the files that are asked for. The gains change
-/// as the file of gains says, if there is one; for a record, its times are those of the recorded run. Without such a
+/// as the file of gains says, if there is one; for a record, its times are times of the recorded run. Without such a
 /// file they change as they did in the recorded run. Before a fault that is put at a file its path is written to
 /// `faults`.
 ///
 /// A capture in a file is opened several times, so that it need not fit in memory: for its start up to the first
 /// packet, which says if it is the record of a live run and of which configuration; for its flows, if it is not a
-/// record; for the report; and for the chart, if one is asked for. The capture `-` is a record on `input`, which is
+/// record; for the report; and for the chart, if there is one. The capture `-` is a record on `input`, which is
 /// read once.
 pub fn run_replay<H: Host>(
     host: &H,
@@ -71,12 +73,27 @@ pub fn run_replay<H: Host>(
     let gains = gains.as_slice();
     let stream = stream_output(file, &studio, faults)?;
     if args.is_stdin() {
-        return replay_input(
+        replay_input(
             host, alloc, studio, gains, &args, stream, input, output, faults,
-        );
+        )
+    } else {
+        replay_file(host, alloc, studio, gains, &args, stream, output, faults)
     }
-    let source = source_of(host, alloc, studio, gains, &args)?;
-    source.replay(host, alloc, &args, stream, output, faults)
+}
+
+/// Writes the report of the capture in a file, and the files that are asked for.
+fn replay_file<H: Host>(
+    host: &H,
+    alloc: Global,
+    studio: StudioSpec,
+    gains: &[u8],
+    args: &ReplayArgs<'_>,
+    stream: Option<NumberedStream>,
+    output: &mut H::Stdout,
+    faults: &mut H::Stderr,
+) -> Result<(), CommandFault> {
+    let source = source_of(host, alloc, studio, gains, args)?;
+    source.replay(host, alloc, args, stream, output, faults)
 }
 
 /// Returns the text of the file of gains at a path. Without a path the text is empty, which changes nothing.
@@ -91,7 +108,7 @@ fn gains_of<H: Host>(host: &H, alloc: Global, path: Option<&str>) -> Result<Vec<
 
 /// Returns the rule for the changes of gains of a record: a file of gains takes their place.
 // A mix of both would be that of no desk: the changes of the file would meet gains that they were not made for. So a
-// file asks what the run would have sent with its own changes and no others.
+// file says what the run would have sent with its own changes and no others.
 fn recorded_changes(args: &ReplayArgs<'_>) -> RecordedChanges
     ensures taken { args.now.gains ≡ None → result ≡ RecordedChanges.Taken }
     ensures skipped { args.now.gains ≢ None → result ≡ RecordedChanges.Skipped }
@@ -143,7 +160,7 @@ fn refuse_gains<H: Host>(
     refuse_inputs(host, "gains", Some(gains), &[capture], faults)
 }
 
-/// Refuses the files of two options if both are one file, of which the later would take the place of the earlier.
+/// Refuses the files of two options if both are one file, in which the later text would replace the earlier.
 fn refuse_one_file<H: Host>(
     host: &H,
     one: (&'static str, Option<&str>),
@@ -170,11 +187,29 @@ fn replay_input<H: Host>(
     faults: &mut H::Stderr,
 ) -> Result<(), CommandFault> {
     let front = read_front(alloc, input)?;
-    let studio = recorded_studio(alloc, studio, front.as_slice(), gains)?;
-    let mut outputs = create_files::<H, Extent>(host, alloc, &studio, args, stream, None, faults)?;
-    let mut record = PeekedInput::new(front.as_slice(), input);
+    let front = front.as_slice();
+    let studio = recorded_studio(alloc, studio, front, gains)?;
+    replay_record_behind(
+        host, alloc, &studio, front, args, stream, input, output, faults,
+    )
+}
+
+/// Writes the report of a record, and the WAV files that are asked for. Its first octets were already read.
+fn replay_record_behind<H: Host>(
+    host: &H,
+    alloc: Global,
+    studio: &StudioSpec,
+    front: &[u8],
+    args: &ReplayArgs<'_>,
+    stream: Option<NumberedStream>,
+    input: &mut H::Stdin,
+    output: &mut H::Stdout,
+    faults: &mut H::Stderr,
+) -> Result<(), CommandFault> {
+    let mut outputs = create_files::<H, Extent>(host, alloc, studio, args, stream, None, faults)?;
+    let mut record = PeekedInput::new(front, input);
     let changes = recorded_changes(args);
-    let played = play_record(alloc, &studio, changes, &mut record, output, &mut outputs);
+    let played = play_record(alloc, studio, changes, &mut record, output, &mut outputs);
     let ReplayOutputs {
         wav,
         stream: file,
@@ -248,7 +283,7 @@ fn without_cut(
     }
 }
 
-/// Returns the fault of a record's last block as that of the command, if it is cut.
+/// Returns the fault of a record's last block as the command's, if the block is cut.
 fn cut_result(cut: Option<CaptureFault>) -> Result<(), CommandFault> {
     match cut {
         Some(fault) => Err(CommandFault::Capture(CaptureInputFault::Octet(fault))),
@@ -269,26 +304,65 @@ fn source_of<H: Host>(
     ensures flows { IfOk result (λ source. source.kind ≢ CaptureKind.Record
         → HasGains studio gains.now source.studio) }
 {
-    match opening_in(alloc, &mut open_capture(host, args.file)?)? {
-        Some(opening) => {
-            let paths = paths_in(alloc, &mut open_capture(host, args.file)?)?;
-            Ok(ReplaySource {
-                studio: studio_for(alloc, studio, opening, paths.as_slice(), gains)?,
-                kind: CaptureKind::Record,
-                changes: recorded_changes(args),
-            })
-        }
-        None => {
-            // Before the capture is read, which may take long.
-            let studio = changed_studio(alloc, &studio, gains)?;
-            let kind = flows_at(host, alloc, args)?;
-            Ok(ReplaySource {
-                studio,
-                kind,
-                changes: RecordedChanges::Skipped,
-            })
-        }
+    match opening_at(host, alloc, args.file)? {
+        Some(opening) => record_source(host, alloc, studio, opening, gains, args),
+        None => flow_source(host, alloc, &studio, gains, args),
     }
+}
+
+/// Returns the opening time of the run, in sampling instants, if the capture at a path is the record of one.
+fn opening_at<H: Host>(host: &H, alloc: Global, path: &str) -> Result<Option<u64>, CommandFault> {
+    opening_in(alloc, &mut open_capture(host, path)?)
+}
+
+/// Returns the paths that the record at a path describes.
+fn paths_at<H: Host>(
+    host: &H,
+    alloc: Global,
+    path: &str,
+) -> Result<Vec<RecordedPath>, CommandFault> {
+    paths_in(alloc, &mut open_capture(host, path)?)
+}
+
+/// Returns a record as a source: with a configuration's studio, opened when the recorded run was, and the changes of a
+/// text of gains.
+fn record_source<H: Host>(
+    host: &H,
+    alloc: Global,
+    studio: StudioSpec,
+    opening: u64,
+    gains: &[u8],
+    args: &ReplayArgs<'_>,
+) -> Result<ReplaySource, CommandFault>
+    ensures kind { IfOk result (λ source. source.kind ≡ CaptureKind.Record) }
+    ensures studio { IfOk result (λ source. HasGains (shifted (pos opening) studio) gains.now source.studio) }
+{
+    let paths = paths_at(host, alloc, args.file)?;
+    Ok(ReplaySource {
+        studio: studio_for(alloc, studio, opening, paths.as_slice(), gains)?,
+        kind: CaptureKind::Record,
+        changes: recorded_changes(args),
+    })
+}
+
+/// Returns a capture that is no record as a source: with a configuration's studio, and the changes of a text of gains.
+fn flow_source<H: Host>(
+    host: &H,
+    alloc: Global,
+    studio: &StudioSpec,
+    gains: &[u8],
+    args: &ReplayArgs<'_>,
+) -> Result<ReplaySource, CommandFault>
+    ensures kind { IfOk result (λ source. source.kind ≢ CaptureKind.Record) }
+    ensures studio { IfOk result (λ source. HasGains studio.now gains.now source.studio) }
+{
+    // Before the capture is read, which may take long.
+    let studio = changed_studio(alloc, studio, gains)?;
+    Ok(ReplaySource {
+        studio,
+        kind: flows_at(host, alloc, args)?,
+        changes: RecordedChanges::Skipped,
+    })
 }
 
 /// Returns the kind of the capture at a path that is no record.
@@ -314,11 +388,7 @@ impl ReplaySource {
         output: &mut H::Stdout,
         faults: &mut H::Stderr,
     ) -> Result<(), CommandFault> {
-        let streams = match args.chart {
-            Some(_) => Some(StudioTracker::measure(alloc, &self.studio)?),
-            None => None,
-        };
-        let mut outputs = create_files(host, alloc, &self.studio, args, stream, streams, faults)?;
+        let mut outputs = self.create_outputs(host, alloc, args, stream, faults)?;
         let played = self.play(host, alloc, args.file, output, &mut outputs);
         let ReplayOutputs {
             wav,
@@ -331,6 +401,25 @@ impl ReplaySource {
             self.draw(host, alloc, args.file, &streams, chart, faults)?;
         }
         cut_result(cut)
+    }
+
+    /// Creates the WAV files that are asked for, and returns them with the tracker of the chart, if there is a chart.
+    fn create_outputs<H: Host>(
+        &self,
+        host: &H,
+        alloc: Global,
+        args: &ReplayArgs<'_>,
+        stream: Option<NumberedStream>,
+        faults: &mut H::Stderr,
+    ) -> Result<ReplayOutputs<H::Target, Extent>, CommandFault>
+        ensures { IfOk result (λ files. HasSoundedIf files.wav files.wav [] []
+            × HasFollowedIf files.stream files.stream [] []) }
+    {
+        let streams = match args.chart {
+            Some(_) => Some(StudioTracker::measure(alloc, &self.studio)?),
+            None => None,
+        };
+        create_files(host, alloc, &self.studio, args, stream, streams, faults)
     }
 
     /// Writes the report of the capture at a path, and reports each event and each datagram to an observer. Returns the

@@ -1,4 +1,4 @@
-//! The capture that `replay` reads: a file, or a record on standard input, of which the first octets were read.
+//! The capture that `replay` reads: a file, or a record on standard input whose first octets were already read.
 ghost use Rattle.std.specs.Prelude.{◌≡◌, pos, IfOk, IfSome};
 ghost use Rattle.pcap_file.specs.Entries.{entries_of};
 ghost use Rattle.pcap_replay.specs.Record as spec;
@@ -20,7 +20,7 @@ const FRONT_OCTETS: usize = 16_384;
 /// More reads than `FRONT_OCTETS` take, each of which brings an octet or the input's end.
 const MAX_READS: u32 = 1_000_000;
 
-/// A reader of which the first octets were already read.
+/// A reader whose first octets were already read.
 #[derive(Drop)]
 pub(crate) struct PeekedInput<'a, R> {
     /// The octets that were read, and not returned yet.
@@ -89,7 +89,7 @@ pub(crate) fn paths_in<R: Read>(
     Ok(recorded_paths(alloc, input)?)
 }
 
-/// Returns a configuration's studio as that of the record that begins with these octets, with the changes of a text of
+/// Returns a configuration's studio, moved to the record that begins with these octets, with the changes of a text of
 /// gains. Returns `CaptureInputFault::NoRecord` if no record begins so.
 pub(crate) fn recorded_studio(
     alloc: Global,
@@ -108,9 +108,9 @@ pub(crate) fn recorded_studio(
     studio_for(alloc, studio, opening, paths.as_slice(), gains)
 }
 
-/// Returns a configuration's studio as that of a record: opened when the recorded run was, with the changes of a text
+/// Returns a configuration's studio, moved to a record: opened when the recorded run was, with the changes of a text
 /// of gains. Returns a fault if the record is of another configuration.
-// The gains of a live run change by the run's own clock, so the times of the text are those of the run. The studio is
+// The gains of a live run change by the run's own clock, so the times of the text are times of the run. The studio is
 // moved to the run's opening first, with the changes that the configuration plans, and the text changes that studio.
 pub(crate) fn studio_for(
     alloc: Global,

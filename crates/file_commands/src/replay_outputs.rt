@@ -57,7 +57,7 @@ impl<F: Overwrite + Drop, O: ReceptionObserver + Drop> ReplayObserver for Replay
     }
 }
 
-/// Creates the mix's WAV file and writes its header, if one is asked for.
+/// Creates the mix's WAV file and writes its header, if there is a path for it.
 pub(crate) fn create_wav<H: Host>(
     host: &H,
     path: Option<&str>,

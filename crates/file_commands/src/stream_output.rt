@@ -29,8 +29,8 @@ pub(crate) struct NumberedStream {
     spec: StreamSpec,
 }
 
-/// Returns the stream's number and its file's path, if a stream is asked for. Returns `StreamNumber` if the stream's
-/// word is not a number from 0 to 255.
+/// Returns the stream's number and its file's path, if there is a `--wav-stream`. Returns `StreamNumber` if the word of
+/// the stream is not a number from 0 to 255.
 pub(crate) fn numbered_file<'a>(
     args: Option<StreamWavArgs<'a>>,
 ) -> Result<Option<NumberedFile<'a>>, CommandFault> {
@@ -43,8 +43,8 @@ pub(crate) fn numbered_file<'a>(
     }))
 }
 
-/// Returns the stream of a studio, if one is asked for. If the studio has none of this number, or the stream has too
-/// many channels, writes the file's path to `faults` and returns the fault.
+/// Returns the stream of a studio, if one is to be written. If the studio has none of this number, or the stream has
+/// too many channels, writes the file's path to `faults` and returns the fault.
 pub(crate) fn stream_output<E: Write>(
     file: Option<NumberedFile<'_>>,
     studio: &StudioSpec,
@@ -65,7 +65,7 @@ pub(crate) fn stream_output<E: Write>(
     }
 }
 
-/// Creates the stream's WAV file and writes its header, if one is asked for. All memory is taken before that.
+/// Creates the stream's WAV file and writes its header, if there is a path for it. All memory is taken before that.
 pub(crate) fn create_stream_wav<H: Host>(
     host: &H,
     alloc: Global,

@@ -7,7 +7,7 @@ use pcap_flows::{FlowTable, StreamList, table_text};
 use std::alloc::Global;
 use studio_run::write_text;
 
-/// The greatest number of passes over a capture for the skews of its paths: those of 256 flows, 16 at a time.
+/// The greatest number of passes over a capture for the skews of its paths: 256 flows, 16 at a time.
 const MAX_PASSES: u32 = 16;
 
 /// Writes a line for each path of the RTP streams of a capture, stream by stream, and lines for its other flows. A

@@ -1,7 +1,7 @@
 //! The commands over a trace on standard input, with or without a WAV file of the mix or of one stream, and `check`.
 use crate::config::{explained_studio, played_studio, quick_start_studio, read_config, studio_of};
 use crate::config_summary::write_summary;
-use crate::fault::{CommandFault, output_result};
+use crate::fault::{CommandFault, FileClash, output_result};
 use crate::host::{Host, NamedFile, STDIN_PATH, begin_fault_line, refuse_inputs};
 use command_line::{PlayArgs, StreamWavArgs};
 use reception_chart::chart;
@@ -82,14 +82,25 @@ pub fn run_play<H: Host>(
     output: &mut H::Stdout,
     faults: &mut H::Stderr,
 ) -> Result<(), CommandFault> {
-    refuse_inputs(host, "wav", args.wav, &[config, STDIN_PATH], faults)?;
-    if let Some(gains) = args.gains {
-        refuse_inputs(host, "wav", args.wav, &[gains], faults)?;
-        // The trace would be read as gains too, and the first of its lines would be at fault.
-        refuse_inputs(host, "gains", Some(gains), &[STDIN_PATH], faults)?;
-    }
+    refuse_play(host, config, &args, faults)?;
     let studio = played_studio(host, alloc, config, args.gains)?;
     play_studio(host, alloc, &studio, args.wav, input, output, faults)
+}
+
+/// Refuses to write a file that is also read, and to read standard input as gains.
+fn refuse_play<H: Host>(
+    host: &H,
+    config: &str,
+    args: &PlayArgs<'_>,
+    faults: &mut H::Stderr,
+) -> Result<(), FileClash> {
+    refuse_inputs(host, "wav", args.wav, &[config, STDIN_PATH], faults)?;
+    let Some(gains) = args.gains else {
+        return Ok(());
+    };
+    refuse_inputs(host, "wav", args.wav, &[gains], faults)?;
+    // The trace would be read as gains too, and the first of its lines would be at fault.
+    refuse_inputs(host, "gains", Some(gains), &[STDIN_PATH], faults)
 }
 
 /// Writes the report of the trace in `input` by a studio, and the mix to the WAV file at a path, if there is one.
@@ -129,8 +140,23 @@ pub fn run_marks_to_wav<H: Host>(
     let path = args.file;
     refuse_inputs(host, "wav", Some(path), &[config, STDIN_PATH], faults)?;
     let studio = studio_of(host, alloc, config)?;
+    list_stream(host, alloc, &studio, stream, path, input, output, faults)
+}
+
+/// Writes the marks of the trace in `input` by a studio, and the samples of the stream of this number to the WAV file
+/// at a path.
+fn list_stream<H: Host>(
+    host: &H,
+    alloc: Global,
+    studio: &StudioSpec,
+    stream: u8,
+    path: &str,
+    input: &mut H::Stdin,
+    output: &mut H::Stdout,
+    faults: &mut H::Stderr,
+) -> Result<(), CommandFault> {
     let file = NamedFile { host, path };
-    match list_to_wav(alloc, &studio, stream, input, output, &file) {
+    match list_to_wav(alloc, studio, stream, input, output, &file) {
         Ok(_file) => Ok(()),
         Err(fault) => Err(wav_fault(fault, path, faults)),
     }

@@ -1,13 +1,13 @@
-//! The lines of a configuration on which its tables and keys stand.
+//! The lines of a configuration on which its tables and keys are.
 //!
 //! A TOML table keeps no places. So the lines are read once more, for headers such as `[[stream]]` and for keys that
-//! stand first on a line. A key that is written in another way has no line.
+//! come first on a line. A key that is written in another way has no line.
 use studio_config::ConfigTable;
 
 /// The place in a configuration while its lines are read.
 #[derive(Clone, Copy)]
 struct Section {
-    /// The table whose keys stand here; `None` for a table that configurations don't have.
+    /// The table whose keys come here; `None` for a table that configurations don't have.
     place: Option<ConfigTable>,
     /// The number of streams' headers so far.
     streams: usize,
@@ -101,7 +101,7 @@ fn header_of(line: &str) -> &str {
     }
 }
 
-/// Returns true if a line gives a value to a key.
+/// Returns true if a line sets a key.
 fn is_line_of(line: &str, key: &str) -> bool {
     match line.strip_prefix(key) {
         Some(rest) => rest.trim_start().starts_with('='),
