@@ -4,6 +4,7 @@ use rtp_stats::{ArrivalMargin, CopyTracker, Drift, MarginMinute};
 use rtp_stream::{Fate, Path, StreamClock, StreamSpec};
 use rtp_wire::Enc;
 use std::alloc::Global;
+use std::ops::Range;
 use std::process::Abort;
 
 /// A path of which each second's packets have one margin, which changes by the same amount from second to second.
@@ -160,12 +161,27 @@ fn shown(drift: Option<Drift>) -> Option<(i64, u64)> {
     Some((drift.ppm, drift.left))
 }
 
+/// Tests the drift of a path with each of these margins.
+// The rows of a test are an argument: a constant would be followed row by row when the test is proved.
+fn show_drifts(rt: &impl Abort, rows: &[Margins]) {
+    for margins in rows {
+        let (shows, found) = (margins.shows, drift_of(margins));
+        assert!(rt; found == margins.wanted, "{shows}: {found:?}");
+    }
+}
+
 /// The drift is the least-squares slope over the seconds of a minute. The time left is that until the window's edge.
 #[test]
 fn margins_that_change_show_a_drift(rt: HostRuntime) {
-    for margins in &MARGINS {
-        let (shows, found) = (margins.shows, drift_of(margins));
-        assert!(rt; found == margins.wanted, "{shows}: {found:?}");
+    show_drifts(&rt, &MARGINS);
+}
+
+/// Notes each of these margins in each of these seconds.
+fn note_seconds(minute: &mut MarginMinute, seconds: Range<u64>, margins: &[u32]) {
+    for second in seconds {
+        for own in margins {
+            minute.note(margin(second, *own));
+        }
     }
 }
 
@@ -173,9 +189,7 @@ fn margins_that_change_show_a_drift(rt: HostRuntime) {
 #[test]
 fn a_drift_begins_again_with_an_epoch(rt: HostRuntime) {
     let mut minute = MarginMinute::new();
-    for second in 0..20 {
-        minute.note(margin(second, 480));
-    }
+    note_seconds(&mut minute, 0..20, &[480]);
     assert!(rt; shown(minute.drift(20, 3_072)) == Some((0, 31_536_000)));
     minute.begin(20);
     minute.note(margin(20, 960));
@@ -183,10 +197,7 @@ fn a_drift_begins_again_with_an_epoch(rt: HostRuntime) {
         minute.drift(21, 3_072) == None,
         "the second in which the epoch began"
     );
-    for second in 21..31u64 {
-        minute.note(margin(second, 960));
-        minute.note(margin(second, 7));
-    }
+    note_seconds(&mut minute, 21..31, &[960, 7]);
     assert!(rt;
         shown(minute.drift(31, 3_072)) == Some((0, 31_536_000)),
         "ten seconds with 960"
@@ -218,17 +229,22 @@ fn new_tracker(rt: &impl Abort, alloc: Global) -> CopyTracker {
     tracker.expect(rt, "there is memory")
 }
 
+/// Offers these packets, and tests the row of path a after each.
+fn count_repeats(rt: &impl Abort, tracker: &mut CopyTracker, rows: &[Offered]) {
+    let a = Path::new(0).expect(rt, "there is a path a");
+    for (number, fate, seq, ts, wanted) in rows {
+        let path = Path::new(*number).expect(rt, "the path is one of four");
+        tracker.note(path, *seq, *ts, *fate, Some(4_896), 4_800);
+        let found = tracker.stats(a, 4_800).tally.repeated;
+        assert!(rt; found == *wanted, "{fate:?} {seq}: {found}");
+    }
+}
+
 /// A sender that is started again with the same numbers repeats numbers that were received in time: its packets are
 /// late, and at or below the last one that was taken. A late packet of a greater number ends the row, and so does a new
 /// epoch.
 #[test]
 fn late_packets_that_repeat_numbers_are_counted_in_a_row(rt: HostRuntime) {
     let mut tracker = new_tracker(&rt, rt.alloc());
-    let a = Path::new(0).expect(&rt, "there is a path a");
-    for (number, fate, seq, ts, wanted) in &REPEATS {
-        let path = Path::new(*number).expect(&rt, "the path is one of four");
-        tracker.note(path, *seq, *ts, *fate, Some(4_896), 4_800);
-        let found = tracker.stats(a, 4_800).tally.repeated;
-        assert!(rt; found == *wanted, "{fate:?} {seq}: {found}");
-    }
+    count_repeats(&rt, &mut tracker, &REPEATS);
 }

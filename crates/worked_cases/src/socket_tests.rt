@@ -10,6 +10,7 @@ use live_io::{
 use std::cell::Cell;
 use std::io::ErrorKind;
 use std::net::Ipv4Addr;
+use std::process::Abort;
 use std::sync::atomic::{AtomicBool, Ordering};
 use std::time::Duration;
 use std::{io, time};
@@ -311,20 +312,28 @@ const TABLE: &[u8] =
            0 31527 2 0000000000000000 0             \n 8107: 0109EFE0:138C 00000000:0000 07 00000000:00002280 \
     00:00000000 00000000     0        0 4026531 2 0000000000000000 18446744073709551615\n";
 
+/// An inode, and the drops of its socket, if the table has it.
+const DROPS: [(u64, Option<u64>); 6] = [
+    (31_527, Some(0)),
+    (4_026_531, Some(u64::MAX)),
+    (61, None),
+    (1_000, None),
+    (0, None),
+    (402_653, None),
+];
+
+/// Tests the drops of each inode in a table.
+// The rows of a test are an argument: a constant would be followed row by row when the test is proved.
+fn have_drops(rt: &impl Abort, table: &[u8], rows: &[(u64, Option<u64>)]) {
+    for (inode, drops) in rows {
+        assert_eq!(rt; drops_in(table, *inode), *drops, "inode {inode}");
+    }
+}
+
 /// The drops of a socket are those of the line with its inode; no other number of a line is taken for one.
 #[test]
 fn drops_are_read_by_the_inode(rt: HostRuntime) {
-    let cases = [
-        (31_527, Some(0)),
-        (4_026_531, Some(u64::MAX)),
-        (61, None),
-        (1_000, None),
-        (0, None),
-        (402_653, None),
-    ];
-    for (inode, drops) in cases {
-        assert_eq!(rt; drops_in(TABLE, inode), drops, "inode {inode}");
-    }
+    have_drops(&rt, TABLE, &DROPS);
     // A last line without its end is not read: the kernel writes whole lines.
     let [whole @ .., _] = TABLE else {
         return;
@@ -378,6 +387,33 @@ fn the_opening_is_read_again_after_a_preemption(rt: HostRuntime) {
     }
 }
 
+/// The group and the port of a path, the sources of the path before it and of this one, and whether the two collide.
+type Pair = (Ipv4Addr, u16, Option<Ipv4Addr>, Option<Ipv4Addr>, bool);
+
+/// Tests three paths for each row: one at an interface, one at a group on port 5004, and one at the place of the row.
+fn collide_as_said(rt: &impl Abort, interface: Ipv4Addr, group: Ipv4Addr, rows: &[Pair]) {
+    for (at, port, first, second, collide) in rows {
+        let places = [
+            PathPlace {
+                at: interface,
+                port: 5004,
+                from: None,
+            },
+            PathPlace {
+                at: group,
+                port: 5004,
+                from: *first,
+            },
+            PathPlace {
+                at: *at,
+                port: *port,
+                from: *second,
+            },
+        ];
+        assert_eq!(rt; have_collision(&places), *collide, "{places:?}");
+    }
+}
+
 /// Two paths at one place collide, unless it is a group and both have sources, which differ.
 #[test]
 fn paths_at_one_place_collide_unless_their_sources_differ(rt: HostRuntime) {
@@ -392,26 +428,7 @@ fn paths_at_one_place_collide_unless_their_sources_differ(rt: HostRuntime) {
         (group, 5006, None, None, false),
         (Ipv4Addr::new(239, 71, 1, 2), 5004, None, None, false),
     ];
-    for (at, port, first, second, collide) in cases {
-        let places = [
-            PathPlace {
-                at: own,
-                port: 5004,
-                from: None,
-            },
-            PathPlace {
-                at: group,
-                port: 5004,
-                from: first,
-            },
-            PathPlace {
-                at,
-                port,
-                from: second,
-            },
-        ];
-        assert_eq!(rt; have_collision(&places), collide, "{places:?}");
-    }
+    collide_as_said(&rt, own, group, &cases);
     let interface = PathPlace {
         at: own,
         port: 5004,

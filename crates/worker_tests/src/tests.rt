@@ -4,6 +4,7 @@ mod fakes;
 mod gain_moves;
 mod holding;
 mod memory;
+mod order_of_calls;
 mod parts;
 mod rings;
 mod stats;

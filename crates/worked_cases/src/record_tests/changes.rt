@@ -42,15 +42,25 @@ fn is_written(out: &[u8], len: usize, want: &[u8]) -> bool {
     out.get(..len) == Some(want) && out.get(len) == Some(&0x55)
 }
 
+/// Returns true if the change is written as these octets.
+fn is_change_written(want: &[u8]) -> bool {
+    let mut out = [0x55u8; MAX_BLOCK_LEN];
+    let len = write_change(&change(), &mut out);
+    is_written(&out, len, want)
+}
+
+/// Returns true if the interface is written as these octets.
+fn is_interface_written(want: &[u8]) -> bool {
+    let mut out = [0x55u8; MAX_BLOCK_LEN];
+    let len = write_gains_interface(&mut out);
+    is_written(&out, len, want)
+}
+
 /// Numbers have their most significant octet first in a change's payload, and negative ones are two's complements.
 #[test]
 fn a_change_and_its_interface_are_these_octets(rt: HostRuntime) {
-    let mut out = [0x55u8; MAX_BLOCK_LEN];
-    let len = write_change(&change(), &mut out);
-    assert!(rt; is_written(&out, len, &CHANGE), "the change");
-    let mut out = [0x55u8; MAX_BLOCK_LEN];
-    let len = write_gains_interface(&mut out);
-    assert!(rt; is_written(&out, len, &INTERFACE), "the interface");
+    assert!(rt; is_change_written(&CHANGE), "the change");
+    assert!(rt; is_interface_written(&INTERFACE), "the interface");
 }
 
 /// A change is on the interface behind those of the paths, so it is no datagram of a path.

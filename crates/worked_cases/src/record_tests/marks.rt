@@ -29,19 +29,27 @@ fn goes_on<'a>(
     }
 }
 
+/// Returns the octets after the next blocks, if these have the lengths and the marks of the rows.
+// The rows of a test are an argument: a constant would be followed row by row when the test is proved.
+fn rest_after<'a>(
+    parts: &mut BlockParser,
+    octets: &'a [u8],
+    rows: &[(usize, Option<RecordMark>)],
+) -> Option<&'a [u8]> {
+    let mut rest = octets;
+    for (len, mark) in rows {
+        rest = goes_on(parts, rest, *len, *mark)?;
+    }
+    Some(rest)
+}
+
 /// A record has the time at which its studio was opened and the time at which it was closed.
 #[test]
 fn a_record_says_its_opening_and_its_close(rt: HostRuntime) {
     let record = record();
     let mut parts = BlockParser::open(&record).expect(&rt, "a record");
-    let mut left = Some(record.as_slice());
-    for (len, mark) in &PARTS {
-        let Some(rest) = left else {
-            break;
-        };
-        left = goes_on(&mut parts, rest, *len, *mark);
-    }
-    assert!(rt; left == Some(&[]), "five blocks, and nothing more");
+    let rest = rest_after(&mut parts, &record, &PARTS);
+    assert!(rt; rest == Some(&[]), "five blocks, and nothing more");
 }
 
 /// A place in the header of the latest opening, the octet that is written there, and the mark that the header has then.
@@ -74,14 +82,19 @@ fn mark_of(rt: &impl Abort, header: &[u8; 76]) -> Option<RecordMark> {
     parts.next(header).expect(rt, "a block").mark
 }
 
+/// Tests the mark of the latest header with each of these octets in it.
+fn have_marks(rt: &impl Abort, rows: &[(usize, u8, Option<RecordMark>)]) {
+    for (place, octet, mark) in rows {
+        let mut octets = latest_header();
+        // The remainder shows that the place is one of the header's.
+        octets[*place % 76] = *octet;
+        assert!(rt; mark_of(rt, &octets) == *mark, "{octet} at {place}");
+    }
+}
+
 /// A comment of another form, of another writer or of 2^63 and more is no opening. Neither are options that are cut.
 /// None of them is a fault.
 #[test]
 fn only_a_whole_number_of_ours_is_an_opening(rt: HostRuntime) {
-    for (place, octet, mark) in &CHANGES {
-        let mut octets = latest_header();
-        // The remainder shows that the place is one of the header's.
-        octets[*place % 76] = *octet;
-        assert!(rt; mark_of(&rt, &octets) == *mark, "{octet} at {place}");
-    }
+    have_marks(&rt, &CHANGES);
 }

@@ -2,23 +2,21 @@
 ghost use Rattle.std.specs.Prelude.{◌≡◌, ◌++◌, ◌∷◌, [], List, ℤ, None, Some, true, map};
 
 use super::fakes::{FaultyFeed, NoRest};
+use super::order_of_calls::OrderOfCalls;
 use super::workers::{gave_both, list_of, one_stream, try_open, two_packets};
 use engine_run::{NoObserver, RunObserver, run_engine};
 use gain_mix::ChangeFault;
-use path_merge::Path;
 use std::alloc::Global;
 use std::process::Abort;
 use std::sync::Wait;
 use std::sync::atomic::AtomicBool;
 use std::thread::Threads;
 use studio_config::StudioSpec;
-use studio_engine::Engine;
 use studio_io::{
     Clock, Feed, GainAction, GainAnswer, GainRequest, GainSource, MemoryClock, MemoryFeed,
     MemorySink, WorkReport,
 };
 use studio_rings::{run_mixer, run_workers_with_gains};
-use studio_session::ArriveOutcome;
 
 /// A request, the round in which it is made, and its outcome. A gain of 65,536 leaves samples unchanged.
 struct Move {
@@ -37,7 +35,13 @@ struct Move {
 }
 
 /// Keeps a change that was taken.
-fn keep(rt: &impl Abort, alloc: Global, taken: &mut Vec<(i64, Vec<i32>)>, at: i64, gains: &[i32])
+pub(super) fn keep(
+    rt: &impl Abort,
+    alloc: Global,
+    taken: &mut Vec<(i64, Vec<i32>)>,
+    at: i64,
+    gains: &[i32],
+)
     ensures { map {B = ℤ × List ℤ} (λ change. (change.0, change.1.items)) taken.new.items
         ≡ map {B = ℤ × List ℤ} (λ change. (change.0, change.1.items)) taken.old.items ++ (at, gains.now) ∷ [] }
 {
@@ -314,65 +318,6 @@ fn sent_both<R: Abort>(
     assert!(rt; kept.len() == 2);
     assert!(rt; kept[0].as_slice() == datagrams[0], "the first");
     assert!(rt; kept[1].as_slice() == datagrams[1], "the second");
-}
-
-/// Keeps the order of the calls that an observer gets, and the changes of gains.
-#[derive(Drop)]
-struct OrderOfCalls<'a, R: Abort> {
-    rt: &'a R,
-    alloc: Global,
-    /// A letter for each call: `d` for a datagram, `g` for a change of gains, and `c` for the close.
-    calls: Vec<u8>,
-    noted: Vec<(i64, Vec<i32>)>,
-}
-
-impl<'a, R: Abort> OrderOfCalls<'a, R> {
-    fn new(rt: &'a R, alloc: Global) -> OrderOfCalls<'a, R> {
-        OrderOfCalls {
-            rt,
-            alloc,
-            calls: Vec::new(alloc),
-            noted: Vec::new(alloc),
-        }
-    }
-
-    /// Keeps the letter of a call.
-    fn keep_letter(&mut self, letter: u8)
-        ensures noted { self.new.noted ≡ self.old.noted }
-    {
-        if self.calls.push(letter).is_err() {
-            panic!(self.rt; "no memory for a letter")
-        }
-    }
-}
-
-impl<'a, F, R: Abort> RunObserver<F> for OrderOfCalls<'a, R> {
-    ghost heard = { λ tap. None };
-
-    ghost noted = { λ tap. Some (map (λ change. (change.0, change.1.items)) tap.noted.items) };
-
-    fn arrived(
-        &mut self,
-        _engine: &Engine,
-        _stream: usize,
-        _path: Path,
-        _octets: &[u8],
-        _receipt: ArriveOutcome,
-        _feed: &F,
-    ) {
-        self.keep_letter(b'd');
-    }
-
-    fn changed(&mut self, _engine: &Engine, at: i64, gains: &[i32]) {
-        self.keep_letter(b'g');
-        keep(self.rt, self.alloc, &mut self.noted, at, gains);
-    }
-
-    fn before_wait(&mut self, _engine: &Engine) {}
-
-    fn closed(&mut self, _engine: &Engine) {
-        self.keep_letter(b'c');
-    }
 }
 
 /// Runs one stream in this thread, with a source of gains.
