@@ -1,3 +1,4 @@
+use Rattle.std.proofs.lemmas.Grind.{elements}
 use Rattle.std.proofs.Common.{◌≡◌, ◌<◌, ◌&&◌, Bool, true, false, nat_eq, ◌++◌, ◌∷◌, [], ◌∙◌, drop, length, map, take, Vec, Global, refl, sym, ap, arith}
 use Rattle.std.proofs.lemmas.Bool.Decides.{nat_tests}
 use Rattle.std.proofs.lemmas.List.{length-map, map-append, take-map}
@@ -51,3 +52,9 @@ loop-stream-preserved g c =
           grind (arith, nat_tests, same, len, from, size, items, mapped, count)) in
           total-next specs i stream all old (into_iter_items c.next_readers.new.feeds) within is left full (inv.enough test.0);
     }
+
+pub returns-clause-begun : goal.returns-clause-begun
+returns-clause-begun c = grind (arith, elements)
+
+pub returns-clause-fits : goal.returns-clause-fits
+returns-clause-fits c = grind (arith, elements)

@@ -1,4 +1,5 @@
-use Rattle.std.proofs.Common.{◌≡◌, ◌++◌, ◌∷◌, [], ◌∙◌, drop, map, take, sym, ap}
+use Rattle.std.proofs.lemmas.Grind.{elements, common_steps}
+use Rattle.std.proofs.Common.{◌≡◌, ◌++◌, ◌∷◌, [], ◌∙◌, drop, map, take, sym, ap, arith}
 use Rattle.std.proofs.lemmas.List.{map-append}
 use Rattle.std.specs.Vec.Iter.{into_iter_items}
 use Rattle.engine_run.specs.Intake.{new_reader}
@@ -18,3 +19,15 @@ loop-preserved g c =
           ∙ sym (ap (map new_reader) more.0 ∙ map-append new_reader (take k old) (c.in-Some.feed ∷ []))));
       left = more.1;
     }
+
+pub returns-in_default-clause-taken : goal.returns-in_default-clause-taken
+returns-in_default-clause-taken c = grind (arith, elements)
+
+pub returns-clause-taken : goal.returns-clause-taken
+returns-clause-taken c = grind (arith, elements)
+
+pub returns-clause-left : goal.returns-clause-left
+returns-clause-left c = grind (arith, elements)
+
+pub returns-in_default-clause-left : goal.returns-in_default-clause-left
+returns-in_default-clause-left c = grind (arith, common_steps)

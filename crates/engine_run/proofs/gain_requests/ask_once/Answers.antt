@@ -1,4 +1,5 @@
-use Rattle.std.proofs.Common.{◌++◌, ap, ◌∙◌}
+use Rattle.std.proofs.lemmas.Grind.{common_steps}
+use Rattle.std.proofs.Common.{◌++◌, ap, ◌∙◌, arith}
 use Rattle.studio_io.specs.Gains.{changes_in}
 use Rattle.engine_run.proofs.gain_requests.ask_once.Goals as goal
 
@@ -15,3 +16,12 @@ returns-clause-noted g c = record {
   taken = c.answer.ensures.taken c.in-Some.ensures.asks ∙ ap (λ l. l ++ changes_in c.answer_request-answer.result c.answer_request-answer.new.gains) c.next.ensures.taken;
   noted = c.notify_change.ensures.noted;
 }
+
+pub returns-in_default-clause-noted : goal.returns-in_default-clause-noted
+returns-in_default-clause-noted c = grind (arith, common_steps)
+
+pub returns-in_default-clause-heard : goal.returns-in_default-clause-heard
+returns-in_default-clause-heard c = grind (arith, common_steps)
+
+pub returns-in_default-clause-stands : goal.returns-in_default-clause-stands
+returns-in_default-clause-stands c = grind (arith, common_steps)

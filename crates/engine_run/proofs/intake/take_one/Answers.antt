@@ -1,3 +1,4 @@
+use Rattle.std.proofs.lemmas.Grind.{elements}
 use Rattle.std.proofs.Common.{[], ◌∷◌, take, refl, arith}
 use Rattle.studio_io.specs.declared.feed.FeedAnswer.TheVariants.{Datagram, Nothing, Fault, Ended}
 use Rattle.engine_run.proofs.AnswerLemmas.{goes-answer, goes-nowhere}
@@ -38,3 +39,6 @@ pub returns-in-Ended-clause-takes : goal.returns-in-Ended-clause-takes
 returns-in-Ended-clause-takes g c = λ studio events datagrams s. takes-none g.F.Feed.told studio _ events datagrams _ _ _ _ _ 1 s
     (goes-answer g.F.Feed.told c.args.reader.now (record { feed = c.next-answer.new.self; state = c.note.new.self }) c.next-answer.new.buf _ Ended c.in-Ended.is c.if-reader.false c.note.ensures.noted (c.next-answer.ensures.tells c.requires.room))
     (asks-answer g.F.Feed.told c.args.reader.now (record { feed = c.next-answer.new.self; state = c.note.new.self }) c.next-answer.new.buf _ Ended c.in-Ended.is c.if-reader.false c.note.ensures.noted (c.next-answer.ensures.tells c.requires.room))
+
+pub slice_bounds-arrived-end-in-Datagram : goal.slice_bounds-arrived-end-in-Datagram
+slice_bounds-arrived-end-in-Datagram c = grind (arith, elements)

@@ -1,3 +1,4 @@
+use Rattle.std.proofs.lemmas.Grind.{common_steps}
 use Rattle.std.proofs.Common.{◌≡◌, ◌<◌, ◌++◌, length, get_or, refl, subst, ◌∙◌, arith}
 use Rattle.engine_run.specs.Intake.{Takes, TakesStream}
 use Rattle.engine_run.proofs.TakeLemmas.{stream-more, stream-none}
@@ -32,3 +33,6 @@ returns-clause-takes g c = λ studio events datagrams s.
     let end = c.loop-number.auto.number-end in
     let all : c.loop-number.number ≡ length c.args.readers.now = omega (arith, c.loop-number-test.false, end) in
     subst (λ n. TakesStream g.F.Feed.told studio c.loop-number.engine events datagrams c.args.stream c.args.readers.now c.loop-number.readers (g.T.RunObserver.heard c.args.tap.now) (g.T.RunObserver.heard c.loop-number.tap) n) all (c.loop-number.invariant.takes studio events datagrams s)
+
+pub offset_bounds-readers-number : goal.offset_bounds-readers-number
+offset_bounds-readers-number c = grind (arith, common_steps)

@@ -1,3 +1,4 @@
+use Rattle.std.proofs.lemmas.Grind.{elements}
 use Rattle.std.proofs.Common.{◌≡◌, ◌≤◌, inl, ◌++◌, length, refl, sym, ap, subst, ◌∙◌, arith, w64, to_z, of_z}
 use Rattle.std.proofs.lemmas.Int.{to_z-of_z}
 use Rattle.mix_packets.specs.OutSpec.{datagram_length}
@@ -66,3 +67,12 @@ returns-clause-there g c = λ studio events datagrams s.
     let before = c.loop-len.invariant.sent studio events datagrams s in
     let there = c.in_ok-len.ensures.there c.in_default.is studio (turned c.args.engine.now.time c.loop-len.engine.time events) (datagrams ++ before.more) before.stands in
     there.1 ∙ to_z-of_z w64 c.args.now c.ranges.now
+
+pub slice_bounds-out-end : goal.slice_bounds-out-end
+slice_bounds-out-end c = grind (arith, elements)
+
+pub slice_bounds-send-end : goal.slice_bounds-send-end
+slice_bounds-send-end c = grind (arith, elements)
+
+pub loop-len-smaller : goal.loop-len-smaller
+loop-len-smaller c = grind (arith, elements)

@@ -1,3 +1,4 @@
+use Rattle.std.proofs.lemmas.Grind.{elements}
 use Rattle.std.proofs.Common.{◌≡◌, ◌≤◌, ◌++◌, length, refl, sym, ap, subst, ◌∙◌, arith}
 use Rattle.mix_packets.specs.OutSpec.{datagram_length}
 use Rattle.engine_run.proofs.SendLemmas.{sent_more, sent_none}
@@ -37,3 +38,6 @@ pub returns-clause-sent : goal.returns-clause-sent
 returns-clause-sent g c = λ studio events datagrams s.
     let before = c.loop-len.invariant.sent studio events datagrams s in
     record { more = before.more; stands = c.drain.ensures.none c.in_default.is studio events (datagrams ++ before.more) before.stands; count = before.count; handed = before.handed }
+
+pub slice_bounds-send-end : goal.slice_bounds-send-end
+slice_bounds-send-end c = grind (arith, elements)

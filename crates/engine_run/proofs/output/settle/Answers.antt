@@ -1,4 +1,5 @@
-use Rattle.std.proofs.Common.{◌≡◌, false, is_err, sym, ◌∙◌}
+use Rattle.std.proofs.lemmas.Grind.{elements}
+use Rattle.std.proofs.Common.{◌≡◌, false, is_err, sym, ◌∙◌, arith}
 use Rattle.engine_run.specs.Rounds.{events_by}
 use Rattle.engine_run.proofs.RunLemmas.{on-fine, run-ends}
 use Rattle.engine_run.proofs.output.settle.Goals as goal
@@ -11,3 +12,6 @@ returns-clause-done g c = λ e studio all clock before earlier ended h.
     (λ events s. c.send_rest.ensures.sent studio events h.datagrams s)
     c.closed.ensures.heard
     (sym c.settled.ensures.value ∙ e) (c.settled.ensures.whole e)
+
+pub returns-then-is_err-clause-done : goal.returns-then-is_err-clause-done
+returns-then-is_err-clause-done c = grind (arith, elements)

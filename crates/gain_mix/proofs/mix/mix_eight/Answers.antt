@@ -23,3 +23,9 @@ returns c =
     let low = HasMixed-four c.args.matrix.now xs s i c.args.outs.now c.four_rows-low.result c.weigh_eight.result.0 (omega (arith, c.requires.within)) c.four_rows-low.ensures.at w.low c.requires.before in
     let high = HasMixed-four c.args.matrix.now xs s (i + 4) _ c.four_rows-high.result c.weigh_eight.result.1 (omega (arith, c.requires.within)) c.four_rows-high.ensures.at w.high (subst (Mixed (i + 4)) (sym c.put_four.ensures) low) in
     subst (λ (n : ℕ). Mixed n c.put_four-2.new.outs) (omega arith) (subst (Mixed (i + 4 + 4)) (sym c.put_four-2.ensures) high)
+
+pub weigh_eight-requires-clause-low : goal.weigh_eight-requires-clause-low
+weigh_eight-requires-clause-low c = omega arith
+
+pub weigh_eight-requires-clause-high : goal.weigh_eight-requires-clause-high
+weigh_eight-requires-clause-high c = omega arith

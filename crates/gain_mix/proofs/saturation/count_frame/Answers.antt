@@ -38,3 +38,6 @@ is_saturated-requires-clause-mixed c = grind (arith, elements)
 
 pub bounds-outs-output : goal.bounds-outs-output
 bounds-outs-output c = grind (arith, elements)
+
+pub bounds-counts-output-then-is_saturated : goal.bounds-counts-output-then-is_saturated
+bounds-counts-output-then-is_saturated c = omega arith

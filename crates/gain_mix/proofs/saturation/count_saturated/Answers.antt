@@ -93,3 +93,12 @@ overflow_mul-from c = grind (arith, elements)
 
 pub slice_bounds-count_frame-end-in-loop-frame : goal.slice_bounds-count_frame-end-in-loop-frame
 slice_bounds-count_frame-end-in-loop-frame c = grind (arith, elements)
+
+pub count_frame-requires-clause-counts_len : goal.count_frame-requires-clause-counts_len
+count_frame-requires-clause-counts_len c = omega arith
+
+pub count_frame-requires-clause-ins_len : goal.count_frame-requires-clause-ins_len
+count_frame-requires-clause-ins_len c = omega arith
+
+pub overflow_cast-frame : goal.overflow_cast-frame
+overflow_cast-frame c = grind (arith, elements)

@@ -71,3 +71,21 @@ slice_bounds-mix_frame-end c = grind (arith, elements)
 
 pub offset_bounds-ins-from : goal.offset_bounds-ins-from
 offset_bounds-ins-from c = grind (arith, elements)
+
+pub mix_frame-requires-clause-ins_len : goal.mix_frame-requires-clause-ins_len
+mix_frame-requires-clause-ins_len c = omega arith
+
+pub mix_frame-requires-clause-outs_len : goal.mix_frame-requires-clause-outs_len
+mix_frame-requires-clause-outs_len c = omega arith
+
+pub returns-then-is_silent-clause-outs : goal.returns-then-is_silent-clause-outs
+returns-then-is_silent-clause-outs c = omega arith
+
+pub returns-clause-outs : goal.returns-clause-outs
+returns-clause-outs c = omega arith
+
+pub returns-then-is_silent-clause-ins : goal.returns-then-is_silent-clause-ins
+returns-then-is_silent-clause-ins c = omega arith
+
+pub overflow_cast-frame : goal.overflow_cast-frame
+overflow_cast-frame c = grind (arith, elements)

@@ -1,3 +1,4 @@
+use Rattle.std.proofs.lemmas.Grind.{common_steps}
 use Rattle.std.specs.Prelude.{option_copied}
 use Rattle.std.proofs.Common.{◌≡◌, ap, sym, ◌∙◌, ◌*◌, length, take, arith, length-take}
 use Rattle.rtp_stream.specs.MarkRef.{body_from}
@@ -14,3 +15,6 @@ returns-in-None-clause-samples c =
     let part : length (take (c.from.result * c.from-in-None.result) c.args.room.now) ≡ n = length-take (c.from.result * c.from-in-None.result) c.args.room.now ∙ omega arith in
     silence_at_front n (length (take (c.from.result * c.from-in-None.result) c.args.room.now)) c.fill.new.self _ part (c.fill.ensures.after (λ y e. e))
     ∙ ap (λ p. body_samples c.args.format (body_from (option_copied p))) (sym c.in-None.is)
+
+pub returns-in-Some-clause-samples : goal.returns-in-Some-clause-samples
+returns-in-Some-clause-samples c = grind (arith, common_steps)

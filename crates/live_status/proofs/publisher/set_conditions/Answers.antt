@@ -1,3 +1,4 @@
+use Rattle.std.proofs.lemmas.Grind.{elements}
 use Rattle.std.proofs.Common.{ℤ, to_z, of_z, w64, arith, refl, length, sym, ◌∙◌, subst}
 use Rattle.std.proofs.lemmas.Int.{to_z-of_z}
 use Rattle.std.proofs.lemmas.Option.{slice_get_read}
@@ -36,3 +37,6 @@ pub returns-clause-statuses : goal.returns-clause-statuses
 returns-clause-statuses c =
     subst (λ (now : ℤ). AreEach (Updates c.args.streams.now now) c.args.statuses.now c.loop-number.statuses) (to_z-of_z w64 c.args.now c.ranges.now)
     (updates-all c.args.streams.now (to_z w64 (of_z w64 c.args.now)) c.loop-number.number c.args.statuses.now c.loop-number.statuses c.loop-number-test.false c.loop-number.invariant.1)
+
+pub loop-number-init : goal.loop-number-init
+loop-number-init c = grind (arith, elements)

@@ -1,3 +1,4 @@
+use Rattle.std.proofs.lemmas.Grind.{elements}
 use Rattle.std.proofs.Common.{◌<◌, ℤ, length, sym, refl, subst, ◌∙◌, to_z, of_z, w64, arith}
 use Rattle.std.proofs.lemmas.Int.{to_z-of_z}
 use Rattle.std.proofs.lemmas.Option.{slice_get_read}
@@ -26,3 +27,6 @@ pub returns : goal.returns
 returns c =
     subst (λ (now : ℤ). AreEach (NotesStreamAt now c.args.streams.now) c.args.watches.now c.loop-number.watches) (to_z-of_z w64 c.args.now c.ranges.now)
     (upto-all (NotesStreamAt (to_z w64 (of_z w64 c.args.now)) c.args.streams.now) c.loop-number.number c.args.watches.now c.loop-number.watches c.loop-number-test.false c.loop-number.invariant)
+
+pub loop-number-init : goal.loop-number-init
+loop-number-init c = grind (arith, elements)

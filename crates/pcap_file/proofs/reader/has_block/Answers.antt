@@ -1,4 +1,5 @@
-use Rattle.std.proofs.Common.{sym, ◌∙◌, rules}
+use Rattle.std.proofs.lemmas.Grind.{elements, common_steps}
+use Rattle.std.proofs.Common.{sym, ◌∙◌, rules, arith}
 use Rattle.std.proofs.lemmas.List.{nil_from_length}
 use Rattle.pcap_file.proofs.ReaderLemmas.{none_taken, told_end}
 use Rattle.pcap_file.proofs.reader.has_block.Goals as goal
@@ -9,3 +10,9 @@ returns-then-is_empty-clause-end g c = λ _ file entries told.
 
 pub returns-then-is_empty-clause-none : goal.returns-then-is_empty-clause-none
 returns-then-is_empty-clause-none g c = λ _. none_taken _ (sym c.front.ensures ∙ nil_from_length c.front.result.now (search rules))
+
+pub returns-then-is_empty-clause-next : goal.returns-then-is_empty-clause-next
+returns-then-is_empty-clause-next c = grind (arith, elements)
+
+pub returns-clause-next : goal.returns-clause-next
+returns-clause-next c = grind (arith, common_steps)

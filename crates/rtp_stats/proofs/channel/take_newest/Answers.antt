@@ -1,3 +1,4 @@
+use Rattle.std.proofs.lemmas.Grind.{common_steps}
 use Rattle.std.proofs.Common.{◌∷◌, [], ◌++◌, List, None, sym, ap, ◌∙◌, append_assoc, length-append, rules, arith}
 use Rattle.rtrb.specs.Ring.{known_items, received}
 use Rattle.rtp_stats.proofs.Takes.{last_or-push, seen-push}
@@ -16,3 +17,6 @@ loop-preserved g c =
       ),
       search rules,
     )
+
+pub returns-in-Err-clause-newest : goal.returns-in-Err-clause-newest
+returns-in-Err-clause-newest c = grind (arith, common_steps)

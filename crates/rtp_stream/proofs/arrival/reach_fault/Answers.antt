@@ -1,3 +1,4 @@
+use Rattle.std.proofs.lemmas.Grind.{common_steps}
 use Rattle.std.proofs.Common.{◌≡◌, ◌*ℤ◌, ◌*◌, ◌≤◌, pos, true, false, to_z, of_z, w64, arith, ap, ◌∙◌}
 use Rattle.std.proofs.lemmas.Int.{ints}
 use Rattle.std.proofs.lemmas.Nat.{mul-le}
@@ -36,3 +37,6 @@ returns c =
     let small : c.args.spec.now.window * c.args.spec.now.frames ≤ 16384 * 192 = mul-le c.args.spec.now.window c.args.spec.now.frames 16384 192 c.window.ensures.sound.narrow c.window.ensures.sound.few_frames in
     let latency = c.latency.ensures.sound.small_latency in
     reach_fault_is c.args.spec.now c.args.time c.args.media false false (grind (arith, ints, c.if-media-earliest.false, fl)) (grind (arith, ints, c.if-media-earliest-2.false, fl, x, small, latency))
+
+pub returns-then-media-earliest : goal.returns-then-media-earliest
+returns-then-media-earliest c = grind (arith, common_steps)

@@ -1,3 +1,4 @@
+use Rattle.std.proofs.lemmas.Grind.{elements, pieces}
 use Rattle.std.proofs.Common.{◌≡◌, ◌-◌, length, take, drop, refl, ap, ◌∙◌, arith, Some}
 use Rattle.std.specs.Result.{result_ok}
 use Rattle.rtp_wire.specs.Datagram.{head_at, payload_at, padding_count}
@@ -28,3 +29,9 @@ returns-clause-datagram c =
 
 pub returns-clause-head : goal.returns-clause-head
 returns-clause-head c = head_at-read c.args.d.now _ _ _ (omega arith) c.read_u16.ensures c.read_u32.ensures c.read_u32-2.ensures
+
+pub slice_bounds-result-count : goal.slice_bounds-result-count
+slice_bounds-result-count c = search (pieces, arith)
+
+pub slice_bounds-result-end : goal.slice_bounds-result-end
+slice_bounds-result-end c = grind (arith, elements)

@@ -1,3 +1,4 @@
+use Rattle.std.proofs.lemmas.Grind.{elements, common_steps}
 use Rattle.std.proofs.Common.{arith, ◌+◌, ◌++◌, ◌∷◌, [], ap, sym, subst, ◌∙◌, append_assoc, length-append}
 use Rattle.studio_ends.specs.FreshEnds.{AllFreshPaths}
 use Rattle.studio_ends.proofs.OpenLemmas.{fresh_paths-snoc}
@@ -14,3 +15,9 @@ loop-preserved c =
       c.in_ok-push-2.ensures.len ∙ ap (λ n. n + 1) i.3,
       subst (AllFreshPaths c.args.spec.now c.args.ring_len (i.0 ++ end ∷ [])) (sym c.in_ok-push-2.ensures.items) (fresh_paths-snoc c.args.spec.now c.args.ring_len i.0 c.loop.sides.items end c.in_ok-end.side i.4 c.in_ok-end.ensures),
     )
+
+pub returns : goal.returns
+returns c = grind (arith, elements)
+
+pub loop-init : goal.loop-init
+loop-init c = grind (arith, common_steps)

@@ -1,4 +1,5 @@
-use Rattle.std.proofs.Common.{rules, ◌≡◌, [], refl}
+use Rattle.std.proofs.lemmas.Grind.{elements, common_steps}
+use Rattle.std.proofs.Common.{rules, ◌≡◌, [], refl, arith}
 use Rattle.path_merge.specs.Merge.{HasHistory}
 use Rattle.studio_ends.proofs.OpenLemmas.{stands-fresh}
 use Rattle.studio_ends.proofs.ends.open_stream.Goals as goal
@@ -15,3 +16,15 @@ returns-clause-fresh c = λ own count paths.
       count = count;
       paths = paths;
     }
+
+pub same-side : goal.same-side
+same-side c = grind (arith, elements)
+
+pub same-merge : goal.same-merge
+same-merge c = grind (arith, elements)
+
+pub open_marks-requires : goal.open_marks-requires
+open_marks-requires c = grind (arith, elements)
+
+pub new-requires-clause-not_low : goal.new-requires-clause-not_low
+new-requires-clause-not_low c = grind (arith, common_steps)

@@ -1,3 +1,4 @@
+use Rattle.std.proofs.lemmas.Grind.{elements}
 use Rattle.std.proofs.Common.{◌≡◌, arith, subst, take, to_z, of_z, w64}
 use Rattle.std.proofs.lemmas.Int.{to_z-of_z}
 use Rattle.studio_ends.specs.Opening.{AreFreshEnds}
@@ -12,3 +13,6 @@ returns c =
     let z : to_z w64 (of_z w64 c.args.open_at) ≡ c.args.open_at = to_z-of_z w64 c.args.open_at c.ranges.open_at in
     ends-all _ _ c.args.specs.now c.loop-spec.spec-index c.loop-spec.ends (omega (arith, c.loop-spec-test.false, c.loop-spec.auto.spec-index-end))
     (subst (λ t. AreFreshEnds t c.args.ring_len (take c.loop-spec.spec-index c.args.specs.now) c.loop-spec.ends) z c.loop-spec.invariant)
+
+pub loop-spec-init : goal.loop-spec-init
+loop-spec-init c = grind (arith, elements)

@@ -1,3 +1,4 @@
+use Rattle.std.proofs.lemmas.Grind.{elements}
 use Rattle.std.proofs.Common.{◌≡◌, ◌+◌, ◌-◌, ◌*◌, take, drop, sym, ap, subst, ◌∙◌, arith, All}
 use Rattle.gain_mix.specs.Mix.{Is24Bits}
 use Rattle.std.proofs.lemmas.List.Elements.{All-take, All-drop}
@@ -18,3 +19,15 @@ loop-frame-preserved c =
       in_24_bits = All-put_mid Is24Bits (i * w + c.args.at) _ c.loop-frame.wide c.copy_from_slice.new.self c.loop-frame.invariant.in_24_bits
           (subst (All Is24Bits) (sym copied) (All-take Is24Bits n (drop (i * n) values) (All-drop Is24Bits (i * n) values c.requires.in_24_bits)));
     }
+
+pub overflow_add-to-in-loop-frame : goal.overflow_add-to-in-loop-frame
+overflow_add-to-in-loop-frame c = grind (arith, elements)
+
+pub offset_bounds-values-from : goal.offset_bounds-values-from
+offset_bounds-values-from c = grind (arith, elements)
+
+pub slice_bounds-copy_from_slice-end : goal.slice_bounds-copy_from_slice-end
+slice_bounds-copy_from_slice-end c = grind (arith, elements)
+
+pub overflow_add-from : goal.overflow_add-from
+overflow_add-from c = grind (arith, elements)

@@ -1,3 +1,4 @@
+use Rattle.std.proofs.lemmas.Grind.{elements}
 use Rattle.std.proofs.Common.{◌≡◌, ◌+◌, ◌*◌, ℕ, ℤ, pos, get_or, set, sym, subst, ◌∙◌, arith, to_z, of_z, w32}
 use Rattle.std.proofs.lemmas.List.Elements.{All-set}
 use Rattle.gain_mix.specs.Mix.{Is24Bits}
@@ -21,3 +22,18 @@ loop-frame-preserved c =
       in_24_bits = All-set Is24Bits (set c.loop-frame.wide to (to_z w32 (of_z w32 v))) (to + 1) (to_z w32 (of_z w32 u)) (subst Is24Bits (sym u_same) u_has)
           (All-set Is24Bits c.loop-frame.wide to (to_z w32 (of_z w32 v)) (subst Is24Bits (sym v_same) v_has) c.loop-frame.invariant.in_24_bits);
     }
+
+pub bounds-wide-place-in-loop-frame : goal.bounds-wide-place-in-loop-frame
+bounds-wide-place-in-loop-frame c = grind (arith, elements)
+
+pub bounds-wide-place : goal.bounds-wide-place
+bounds-wide-place c = grind (arith, elements)
+
+pub offset_bounds-wide-place-in-loop-frame : goal.offset_bounds-wide-place-in-loop-frame
+offset_bounds-wide-place-in-loop-frame c = grind (arith, elements)
+
+pub overflow_add-place-in-loop-frame : goal.overflow_add-place-in-loop-frame
+overflow_add-place-in-loop-frame c = grind (arith, elements)
+
+pub offset_bounds-wide-place : goal.offset_bounds-wide-place
+offset_bounds-wide-place c = grind (arith, elements)

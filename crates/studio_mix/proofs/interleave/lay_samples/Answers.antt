@@ -1,3 +1,4 @@
+use Rattle.std.proofs.lemmas.Grind.{elements}
 use Rattle.std.proofs.Common.{◌≡◌, ◌+◌, ◌*◌, ℤ, pos, get_or, sym, subst, ◌∙◌, arith, to_z, of_z, w32}
 use Rattle.std.proofs.lemmas.List.Elements.{All-set}
 use Rattle.gain_mix.specs.Mix.{Is24Bits}
@@ -19,3 +20,12 @@ loop-frame-preserved c =
 pub returns-clause-laid : goal.returns-clause-laid
 returns-clause-laid c f h =
     laid_samples c.args.width c.args.at c.loop-frame.frame c.args.values.now c.args.wide.now c.loop-frame.wide c.loop-frame.invariant.laid f (omega (arith, h, c.loop-frame-test.false))
+
+pub overflow_mul-frame : goal.overflow_mul-frame
+overflow_mul-frame c = grind (arith, elements)
+
+pub overflow_add-frame : goal.overflow_add-frame
+overflow_add-frame c = grind (arith, elements)
+
+pub offset_bounds-wide-frame : goal.offset_bounds-wide-frame
+offset_bounds-wide-frame c = grind (arith, elements)

@@ -30,3 +30,6 @@ returns-clause-rooms c =
 
 pub returns-clause-channels : goal.returns-clause-channels
 returns-clause-channels c = grind (arith, elements)
+
+pub loop-stream-init : goal.loop-stream-init
+loop-stream-init c = grind (arith, elements)

@@ -1,4 +1,4 @@
-use Rattle.std.proofs.lemmas.Grind.{common_steps}
+use Rattle.std.proofs.lemmas.Grind.{common_steps, elements}
 use Rattle.std.proofs.Common.{◌≡◌, get_or, sym, subst, ◌∙◌, arith, below_more, to_z, of_z, w64, false, slice_get, Some, ℕ}
 use Rattle.std.proofs.lemmas.Int.{ints}
 use Rattle.std.proofs.lemmas.Option.{get_or_from_slice_get, slice_get-get_or}
@@ -31,3 +31,6 @@ returns-then-time-end-clause-value c = grind (arith, common_steps)
 
 pub returns-in_default : goal.returns-in_default
 returns-in_default c = grind (arith, common_steps)
+
+pub returns-then-time-end-clause-early : goal.returns-then-time-end-clause-early
+returns-then-time-end-clause-early c = grind (arith, elements)

@@ -1,3 +1,5 @@
+use Rattle.std.proofs.lemmas.Grind.{elements}
+use Rattle.std.proofs.Common.{arith}
 use Rattle.studio_run.specs.Play.{FailsWriting}
 use Rattle.studio_run.specs.StudioReport.{IsReport}
 use Rattle.studio_run.specs.declared.player.PlayFault.TheVariants.{Write}
@@ -17,3 +19,6 @@ pub returns-clause-ok : goal.returns-clause-ok
 returns-clause-ok g c =
     let whole = c.in_ok-write_whole_report.ensures.ok c.args.spec.now c.requires.runnable (c.in_ok-session.ensures.stands c.args.events.now) in
     record { text = whole.0; is = whole.1; wrote = whole.2 }
+
+pub write_whole_report-requires-clause-short : goal.write_whole_report-requires-clause-short
+write_whole_report-requires-clause-short c = grind (arith, elements)

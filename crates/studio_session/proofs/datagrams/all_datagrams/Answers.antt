@@ -1,3 +1,4 @@
+use Rattle.std.proofs.lemmas.Grind.{elements}
 use Rattle.std.proofs.Common.{◌≡◌, ◌≤◌, ◌∷◌, [], ◌++◌, List, ℕ, length, map, is_some, true, refl, sym, subst, ap, ◌∙◌, arith}
 use Rattle.std.proofs.lemmas.List.{length-map, length-take-le, map_push}
 use Rattle.mix_packets.specs.OutSpec.{datagram_length}
@@ -70,3 +71,6 @@ returns-in-None-clause-played g c = λ studio run played.
     let given = c.rounds.invariant.stands studio run played in
     let long : length (map (λ d. d.items) c.rounds.datagrams.items) ≡ length c.rounds.datagrams.items = length-map c.rounds.datagrams.items (λ d. d.items) in
     subst (HasPlayed studio events c.next_datagram.new.self) long (c.in-None.ensures.none refl studio (length (map (λ d. d.items) c.rounds.datagrams.items)) run given.played)
+
+pub rounds-init : goal.rounds-init
+rounds-init c = grind (arith, elements)

@@ -1,5 +1,6 @@
+use Rattle.std.proofs.lemmas.Grind.{elements}
 use Rattle.std.specs.Prelude.{IfSome}
-use Rattle.std.proofs.Common.{length, ◌∙◌, subst}
+use Rattle.std.proofs.Common.{length, ◌∙◌, subst, arith}
 use Rattle.studio_session.specs.Cursor.{next_of}
 use Rattle.studio_session.specs.Play.{Plays, TakesMark}
 use Rattle.studio_session.proofs.CursorLemmas.{none_due}
@@ -44,3 +45,6 @@ returns-then-not-wants-clause-covered c = λ no studio events feeds next run wit
     plays_covered studio events feeds next c.args.stream c.marks.mixer c.marks.cursor c.wants.result within
     (c.marks.invariant.stands studio events feeds next run within plays) c.if-not-wants.true
     (λ fs f fed at. c.wants.ensures.stands studio fs next f fed at)
+
+pub returns-then-not-pass-clause-covered : goal.returns-then-not-pass-clause-covered
+returns-then-not-pass-clause-covered c = grind (arith, elements)

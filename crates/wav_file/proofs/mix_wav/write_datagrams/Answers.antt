@@ -1,3 +1,4 @@
+use Rattle.std.proofs.lemmas.Grind.{elements}
 use Rattle.std.proofs.Common.{◌≡◌, ◌<◌, ◌≤◌, ◌+◌, ◌-◌, ◌∙◌, ℕ, Err, rules, length, is_some, take, drop, refl, sym, ap, subst, arith}
 use Rattle.std.proofs.lemmas.List.{take_rest}
 use Rattle.std.specs.Io.KnownBytes.{Appends}
@@ -147,3 +148,15 @@ pub rounds-smaller : goal.rounds-smaller
 rounds-smaller g c =
     let some = subst (λ (output : Output). 0 < output.frames) (sym c.rounds.invariant.spec) c.requires.some in
     fewer_left c.rounds.session.mixer.packer c.next_datagram.new.self.mixer.packer some c.next_datagram.ensures.spec c.in-Some.ensures.number c.in-Some.ensures.early
+
+pub slice_bounds-push-count : goal.slice_bounds-push-count
+slice_bounds-push-count c = grind (arith, elements)
+
+pub push-requires : goal.push-requires
+push-requires c = grind (arith, elements)
+
+pub slice_bounds-datagram-end : goal.slice_bounds-datagram-end
+slice_bounds-datagram-end c = grind (arith, elements)
+
+pub slice_bounds-push-start : goal.slice_bounds-push-start
+slice_bounds-push-start c = grind (arith, elements)

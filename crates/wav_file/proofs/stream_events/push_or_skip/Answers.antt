@@ -1,3 +1,4 @@
+use Rattle.std.proofs.lemmas.Grind.{elements}
 use Rattle.std.proofs.Common.{◌≡◌, ◌≢◌, sym, subst, arith}
 use Rattle.studio_session.specs.Event.{Arrival}
 use Rattle.studio_session.specs.PushedEvents.{IsHanded}
@@ -19,3 +20,6 @@ returns-clause-handed c = λ is.
     let own = c.number.ensures in
     let same : c.args.stream ≡ number = let t = c.if-stream-from.false in omega (arith, t, from, own) in
     subst (λ n. IsHanded (Arrival n c.args.path c.args.octets.now) number c.args.cursor.now c.push_datagram.new.self) (sym same) (c.push_datagram.ensures.handed number)
+
+pub returns-then-number-paths-clause-handed : goal.returns-then-number-paths-clause-handed
+returns-then-number-paths-clause-handed c = grind (arith, elements)

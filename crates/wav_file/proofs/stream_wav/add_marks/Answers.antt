@@ -1,4 +1,5 @@
-use Rattle.std.proofs.Common.{◌≡◌, Err, rules}
+use Rattle.std.proofs.lemmas.Grind.{elements}
+use Rattle.std.proofs.Common.{◌≡◌, Err, rules, arith}
 use Rattle.wav_file.proofs.StreamTrackLemmas.{taken_all, taken_next, taken_none}
 use Rattle.wav_file.proofs.stream_wav.add_marks.Goals as goal
 
@@ -30,3 +31,6 @@ returns-in_err-add_taken-clause-part g c =
     let is : c.from_residual.result ≡ Err c.in_err-add_taken.field-0.0 = search rules in
     rw is (λ stream number open_at run pulled.
     c.in_err-add_taken.ensures.part stream number open_at (g.E.EventSource.events c.args.source.now) _ _ run (c.events.invariant.stands stream number open_at run pulled))
+
+pub events-smaller : goal.events-smaller
+events-smaller c = grind (arith, elements)

@@ -1,4 +1,5 @@
-use Rattle.std.proofs.Common.{◌≡◌, ◌∙◌, Err, rules}
+use Rattle.std.proofs.lemmas.Grind.{elements}
+use Rattle.std.proofs.Common.{◌≡◌, ◌∙◌, Err, rules, arith}
 use Rattle.studio_session.specs.Cursor.{next_of}
 use Rattle.studio_session.proofs.CursorLemmas.{none_due}
 use Rattle.wav_file.proofs.StreamPartLemmas.{taken_part}
@@ -32,3 +33,6 @@ returns-in_err-wrote-clause-part g c =
     let t = c.marks.invariant.stands stream number open_at events made first run some in
     taken_part stream number open_at events made (g.F.Write.contents c.marks.file) (g.F.Write.contents c.add_next-wrote.new.file) first c.marks.track c.add_next-wrote.new.self.wav c.marks.cursor c.pass-more.new.self (next_of c.marks.cursor) _ run t
     (c.pass-more.ensures.stands stream number open_at events t.given run t.pulled) c.mark.ensures c.in_err-wrote.ensures.part)
+
+pub returns-then-not-more-clause-all : goal.returns-then-not-more-clause-all
+returns-then-not-more-clause-all c = grind (arith, elements)

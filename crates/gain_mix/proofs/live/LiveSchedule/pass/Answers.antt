@@ -1,3 +1,4 @@
+use Rattle.std.proofs.lemmas.Grind.{elements}
 use Rattle.std.proofs.Common.{arith, ap, sym, subst, ◌∙◌, ◌≡◌, take, ◌-◌, true, to_z, of_z, w64}
 use Rattle.gain_mix.specs.Live.{is_due}
 use Rattle.gain_mix.proofs.LiveLemmas.{HasPassed, HasPassed-more, first_slot}
@@ -15,3 +16,12 @@ loop-self-preserved c =
     subst (λ first. HasPassed t c.args.self.now first c.pass_first.new.slots.items (used - 1)) (sym moved.0)
     (subst (λ slots'. HasPassed t c.args.self.now slot.1 slots' (used - 1)) (sym moved.1)
     (HasPassed-more t c.args.self.now c.loop-self.self-inside.first slots used slot c.loop-self.invariant due found.1))
+
+pub loop-self-init : goal.loop-self-init
+loop-self-init c = grind (arith, elements)
+
+pub overflow_sub-self : goal.overflow_sub-self
+overflow_sub-self c = grind (arith, elements)
+
+pub loop-self-smaller : goal.loop-self-smaller
+loop-self-smaller c = grind (arith, elements)

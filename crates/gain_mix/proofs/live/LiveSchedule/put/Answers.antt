@@ -39,3 +39,9 @@ returns c =
           ∙ ap (λ (s : Changes). with_change s at (rows_of (ins_of s.first) (length s.first) c.args.gains.now)) c.self.view_is
           ∙ ap (λ u. with_change c.args.self.now u (rows_of (ins_of c.args.self.now.first) (length c.args.self.now.first) c.args.gains.now)) (sym same);
     }
+
+pub write_slot-requires-clause-in_range : goal.write_slot-requires-clause-in_range
+write_slot-requires-clause-in_range c = omega arith
+
+pub write_slot-requires-clause-outs : goal.write_slot-requires-clause-outs
+write_slot-requires-clause-outs c = omega arith

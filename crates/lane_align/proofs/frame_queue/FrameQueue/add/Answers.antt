@@ -15,3 +15,6 @@ returns c =
 
 pub invariant_of-self : goal.invariant_of-self
 invariant_of-self c = grind (arith, elements)
+
+pub store_silence-requires-clause-room : goal.store_silence-requires-clause-room
+store_silence-requires-clause-room c = grind (arith, elements)

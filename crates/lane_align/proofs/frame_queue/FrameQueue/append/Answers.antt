@@ -1,4 +1,5 @@
-use Rattle.std.proofs.Common.{◌+◌, ◌*◌, ◌≤◌, ◌++◌, ap, sym, subst, refl, ◌∙◌, length}
+use Rattle.std.proofs.lemmas.Grind.{elements}
+use Rattle.std.proofs.Common.{◌+◌, ◌*◌, ◌≤◌, ◌++◌, ap, sym, subst, refl, ◌∙◌, length, arith}
 use Rattle.lane_align.specs.HeldValues.{Held, silence}
 use Rattle.lane_align.proofs.HeldLemmas.{values_appended, held_of}
 use Rattle.lane_align.proofs.frame_queue.FrameQueue.append.Goals as goal
@@ -10,3 +11,9 @@ returns c =
     values_appended q.channels q.block q.lead q.front q.gap q.stored.items c.self.invariant c.args.silent q.stored.capacity c.fill_from_slice.result c.args.samples.now q.stored c.store_silence.new.stored c.fill_from_slice.new.self
     refl (subst Q (sym c.self.view_is) c.requires.room) c.store_silence.ensures c.fill_from_slice.ensures.count c.fill_from_slice.ensures.items
     ∙ ap (λ (h : Held). held_of h.channels h.block h.room (h.values ++ (silence h.channels c.args.silent ++ c.args.samples.now))) c.self.view_is
+
+pub store_silence-requires-clause-room : goal.store_silence-requires-clause-room
+store_silence-requires-clause-room c = grind (arith, elements)
+
+pub invariant_of-self : goal.invariant_of-self
+invariant_of-self c = grind (arith, elements)

@@ -35,3 +35,9 @@ returns-clause-rest c =
 
 pub invariant_of-self : goal.invariant_of-self
 invariant_of-self c = grind (arith, elements)
+
+pub slice_bounds-read_into-count : goal.slice_bounds-read_into-count
+slice_bounds-read_into-count c = grind (arith, elements)
+
+pub slice_bounds-read_into-start : goal.slice_bounds-read_into-start
+slice_bounds-read_into-start c = grind (arith, elements)

@@ -1,4 +1,4 @@
-use Rattle.std.proofs.lemmas.Grind.{common_steps}
+use Rattle.std.proofs.lemmas.Grind.{common_steps, elements}
 use Rattle.std.specs.Prelude.{option_copied}
 use Rattle.std.proofs.Common.{◌≡◌, ◌≤◌, ◌-◌, ◌*◌, min, pos, ◌+ℤ◌, Some, length, ap, sym, subst, ◌∙◌, refl, arith, to_z, of_z, w64}
 use Rattle.std.proofs.lemmas.Int.{ints}
@@ -82,3 +82,6 @@ returns-clause-left c = subst (λ (l : LaneState). length l.values ≡ frames_le
 
 pub overflow_sub-before : goal.overflow_sub-before
 overflow_sub-before c = grind (arith, common_steps)
+
+pub append_slot-requires-clause-len : goal.append_slot-requires-clause-len
+append_slot-requires-clause-len c = grind (arith, elements)

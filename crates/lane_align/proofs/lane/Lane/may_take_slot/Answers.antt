@@ -1,3 +1,4 @@
+use Rattle.std.proofs.lemmas.Grind.{elements}
 use Rattle.std.proofs.Common.{◌≡◌, ◌∙◌, Some, false, ap, sym, arith, to_z, of_z, w64}
 use Rattle.std.proofs.lemmas.Int.{ints}
 use Rattle.rtp_stream.specs.MarkList.{can_follow}
@@ -17,3 +18,6 @@ returns-in-Some-default c = λ body.
     ∙ ap (λ m. can_follow c.self.inside.format.frames (Some (Slot s.epoch s.number s.media Lost)) (Slot c.args.epoch c.args.number m body)) same
     ∙ ap (λ (l : LaneState). can_follow l.format.frames (Some (Slot s.epoch s.number s.media Lost)) next) c.self.view_is
     ∙ sym (ap (λ e. can_follow lane.format.frames (last_kind e lane.slot lane.quiet) next) c.requires ∙ ap (λ o. can_follow lane.format.frames (last_kind false o lane.quiet) next) slot)
+
+pub may_follow_slot-requires-clause-slot : goal.may_follow_slot-requires-clause-slot
+may_follow_slot-requires-clause-slot c = grind (arith, elements)

@@ -47,3 +47,12 @@ returns-clause-position c = grind (arith, elements)
 
 pub returns-clause-in_24_bits : goal.returns-clause-in_24_bits
 returns-clause-in_24_bits c = grind (arith, elements)
+
+pub overflow_add-self : goal.overflow_add-self
+overflow_add-self c = grind (arith, elements)
+
+pub returns-clause-end : goal.returns-clause-end
+returns-clause-end c = grind (arith, elements)
+
+pub read-requires : goal.read-requires
+read-requires c = grind (arith, elements)

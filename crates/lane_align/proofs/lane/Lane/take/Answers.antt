@@ -72,3 +72,15 @@ take_slot-requires-clause-small c = grind (arith, elements)
 
 pub keep_slot-requires-clause-small : goal.keep_slot-requires-clause-small
 keep_slot-requires-clause-small c = grind (arith, elements)
+
+pub keep_slot-requires-clause-room : goal.keep_slot-requires-clause-room
+keep_slot-requires-clause-room c = grind (arith, elements)
+
+pub invariant_of-self : goal.invariant_of-self
+invariant_of-self c = grind (arith, elements)
+
+pub take_slot-requires-clause-len : goal.take_slot-requires-clause-len
+take_slot-requires-clause-len c = grind (arith, elements)
+
+pub keep_slot-requires-clause-len : goal.keep_slot-requires-clause-len
+keep_slot-requires-clause-len c = grind (arith, elements)

@@ -1,4 +1,5 @@
-use Rattle.std.proofs.Common.{◌≡◌, ap, ◌∙◌}
+use Rattle.std.proofs.lemmas.Grind.{elements}
+use Rattle.std.proofs.Common.{◌≡◌, ap, ◌∙◌, arith}
 use Rattle.std.specs.Prelude.{false}
 use Rattle.rtp_wire.specs.Head.{Head}
 use Rattle.mix_packets.specs.Packer.{PackerState}
@@ -18,3 +19,9 @@ returns-clause-written c =
     c.requires.whole
     c.write_head-start.ensures.written
     c.write_samples-octets.ensures.written
+
+pub write_samples-octets-requires-clause-fit : goal.write_samples-octets-requires-clause-fit
+write_samples-octets-requires-clause-fit c = grind (arith, elements)
+
+pub invariant_of-self : goal.invariant_of-self
+invariant_of-self c = grind (arith, elements)

@@ -1,3 +1,4 @@
+use Rattle.std.proofs.lemmas.Grind.{elements}
 use Rattle.std.proofs.Common.{◌≡◌, ℕ, ◌-◌, ◌<◌, ◌≤◌, true, false, Some, IsSome, FitsSigned, to_z, of_z, w64, rules, arith, ap, refl, subst, sym, ◌∙◌}
 use Rattle.std.specs.FinMap.{get}
 use Rattle.std.specs.Prelude.{nat_le}
@@ -51,3 +52,15 @@ returns g c = λ a is_a.
     let there : to_z w64 (of_z w64 c.media_of_restart-media.result) ≡ restart_media_time c.args.self.now.spec.clock (packet_of c.args.packet.now).ts c.args.self.now.time (media_time_of c.args.self.now.spec a c.args.self.now.base) = omega (arith, ints, media_is) in
     let reach : is_restart_in_reach c.args.self.now.spec c.args.self.now.time (media_time_of c.args.self.now.spec a c.args.self.now.base) (restart_media_time c.args.self.now.spec.clock (packet_of c.args.packet.now).ts c.args.self.now.time (media_time_of c.args.self.now.spec a c.args.self.now.base)) ≡ true = sym (c.continues_media_time.ensures ∙ rw (time_is, due_is, there, spec_is) refl) ∙ c.if-not-continues_media_time.false in
     ap (λ z. Some z) there ∙ epoch_media_is c.args.self.now a (packet_of c.args.packet.now) true true (nothing_is c.args.self.now c.self.inside.next_media a sound is_a c.requires.open_yet c.end.result past_all reached ∙ none) reach
+
+pub media_of_restart-media-requires-clause-low : goal.media_of_restart-media-requires-clause-low
+media_of_restart-media-requires-clause-low c = grind (arith, elements)
+
+pub media_of_restart-media-requires-clause-high : goal.media_of_restart-media-requires-clause-high
+media_of_restart-media-requires-clause-high c = grind (arith, elements)
+
+pub continues_media_time-requires-clause-low : goal.continues_media_time-requires-clause-low
+continues_media_time-requires-clause-low c = grind (arith, elements)
+
+pub continues_media_time-requires-clause-high : goal.continues_media_time-requires-clause-high
+continues_media_time-requires-clause-high c = grind (arith, elements)

@@ -1,4 +1,5 @@
-use Rattle.std.proofs.Common.{◌≡◌, Some, ap, subst, sym, ◌∙◌}
+use Rattle.std.proofs.lemmas.Grind.{elements}
+use Rattle.std.proofs.Common.{◌≡◌, Some, ap, subst, sym, ◌∙◌, arith}
 use Rattle.rtp_stream.specs.Fate.{place_of}
 use Rattle.rtp_stream.specs.Grid.{in_room}
 use Rattle.rtp_stream.specs.PacketRef.{packet_of}
@@ -44,3 +45,9 @@ returns-else-is_either-clause-opening g c =
     let slip = subst (λ (m : MergeState). c.update_track-slips.result ≡ (is_source_wanted m.spec.ssrc (packet_of c.args.packet.now).ssrc && is_slip_by m.spec c.args.anchor m.base m.tracks c.args.path (packet_of c.args.packet.now))) c.self.view_is (c.update_track-slips.ensures.slip ∙ ap (λ b. is_source_wanted c.self.inside.spec.ssrc (packet_of c.args.packet.now).ssrc && is_slip_by c.self.inside.spec c.args.anchor b c.self.inside.tracks c.args.path (packet_of c.args.packet.now)) c.base-next.ensures) in
     let either = either_is c.args.self.now c.args.anchor c.args.path (packet_of c.args.packet.now) c.is_off_place-off.result c.update_probation-completes.result c.update_track-slips.result c.is_either.result c.update_probation-completes.new.probations off heard complete slip c.is_either.ensures in
     opening_none c.args.self.now c.args.anchor c.args.path (packet_of c.args.packet.now) c.is_either.result either c.if-is_either.false
+
+pub invariant_of-self : goal.invariant_of-self
+invariant_of-self c = grind (arith, elements)
+
+pub invariant_of-self-else-is_either : goal.invariant_of-self-else-is_either
+invariant_of-self-else-is_either c = grind (arith, elements)

@@ -58,3 +58,18 @@ restart-requires-clause-fits c = grind (arith, elements)
 
 pub put_or_refuse-requires-clause-fits : goal.put_or_refuse-requires-clause-fits
 put_or_refuse-requires-clause-fits c = grind (arith, elements)
+
+pub restart-requires-clause-room : goal.restart-requires-clause-room
+restart-requires-clause-room c = grind (arith, elements)
+
+pub restart-requires-clause-few_epochs : goal.restart-requires-clause-few_epochs
+restart-requires-clause-few_epochs c = grind (arith, elements)
+
+pub returns-in-Some-clause-next : goal.returns-in-Some-clause-next
+returns-in-Some-clause-next c = grind (arith, elements)
+
+pub put_or_refuse-requires-clause-room : goal.put_or_refuse-requires-clause-room
+put_or_refuse-requires-clause-room c = grind (arith, elements)
+
+pub returns-in-None-clause-restart : goal.returns-in-None-clause-restart
+returns-in-None-clause-restart c = grind (arith, elements)

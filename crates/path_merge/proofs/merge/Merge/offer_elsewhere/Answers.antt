@@ -1,4 +1,4 @@
-use Rattle.std.proofs.lemmas.Grind.{common_steps}
+use Rattle.std.proofs.lemmas.Grind.{common_steps, elements}
 use Rattle.std.proofs.Common.{◌≡◌, Some, None, false, true, arith, ap, sym, subst, ◌∙◌, rules}
 use Rattle.std.proofs.lemmas.Int.{ints}
 use Rattle.rtp_stream.specs.declared.anchor.Anchor.{Anchor}
@@ -80,3 +80,6 @@ place_of-place-requires-clause-anchor_high g c =
 
 pub place_of-place-requires-clause-media_is : goal.place_of-place-requires-clause-media_is
 place_of-place-requires-clause-media_is c = grind (arith, common_steps)
+
+pub place_of-place-requires-clause-low : goal.place_of-place-requires-clause-low
+place_of-place-requires-clause-low c = grind (arith, elements)

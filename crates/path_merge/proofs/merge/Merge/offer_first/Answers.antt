@@ -93,3 +93,6 @@ add_fate-requires c = grind (arith, elements)
 
 pub add_fate-requires-2 : goal.add_fate-requires-2
 add_fate-requires-2 c = grind (arith, elements)
+
+pub media_of_first-media-requires-clause-high : goal.media_of_first-media-requires-clause-high
+media_of_first-media-requires-clause-high c = grind (arith, elements)

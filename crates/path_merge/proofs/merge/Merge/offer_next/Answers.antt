@@ -59,3 +59,9 @@ returns-in-Err-clause-restart c = grind (arith, elements)
 
 pub place_of-requires-clause-media_is : goal.place_of-requires-clause-media_is
 place_of-requires-clause-media_is c = grind (arith, common_steps)
+
+pub offer_elsewhere-requires-clause-fits : goal.offer_elsewhere-requires-clause-fits
+offer_elsewhere-requires-clause-fits c = omega arith
+
+pub offer_in_time-requires-clause-fits : goal.offer_in_time-requires-clause-fits
+offer_in_time-requires-clause-fits c = omega arith

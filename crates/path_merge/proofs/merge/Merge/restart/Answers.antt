@@ -1,4 +1,5 @@
-use Rattle.std.proofs.Common.{◌≡◌, ◌^◌, ◌+◌, ◌<◌, true, to_z, of_z, w64, ap, sym, subst, ◌∙◌}
+use Rattle.std.proofs.lemmas.Grind.{elements}
+use Rattle.std.proofs.Common.{◌≡◌, ◌^◌, ◌+◌, ◌<◌, true, to_z, of_z, w64, ap, sym, subst, ◌∙◌, arith}
 use Rattle.rtp_stream.specs.PacketRef.{packet_of}
 use Rattle.rtp_stream.specs.declared.anchor.Anchor.{Anchor}
 use Rattle.path_merge.specs.MergeState.{MergeState}
@@ -37,3 +38,12 @@ returns g c =
     let put = first_put (packet_of c.args.packet.now) c.following-next.result.number (g.V.Window.held c.begin_at.new.self) (g.V.Window.held c.put_ref.new.self) c.put_ref.result number c.begin_at.ensures.held c.put_ref.ensures.answer c.put_ref.ensures.held in
     let anchor = c.following-next.ensures.value ∙ ap (made_by (packet_of c.args.packet.now) (c.args.anchor.epoch + 1)) (media_is ∙ media) in
     rw (← c.self.view_is) (restart_step _ c.args.path (packet_of c.args.packet.now) c.args.anchor c.following-next.result (g.V.Window.held c.begin_at.new.self) _ _ _ _ c.new-self-inside.result c.new-self-inside-2.result anchor c.begin_at.ensures.held put (c.put_ref.ensures.base ∙ c.begin_at.ensures.base ∙ number) (c.put_ref.ensures.size ∙ c.begin_at.ensures.size) c.add_fate.ensures c.new-self-inside.ensures c.new-self-inside-2.ensures)
+
+pub add_fate-requires : goal.add_fate-requires
+add_fate-requires c = grind (arith, elements)
+
+pub begin_at-requires-clause-small : goal.begin_at-requires-clause-small
+begin_at-requires-clause-small c = grind (arith, elements)
+
+pub put_ref-requires-clause-short : goal.put_ref-requires-clause-short
+put_ref-requires-clause-short c = grind (arith, elements)

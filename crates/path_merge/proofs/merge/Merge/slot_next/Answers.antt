@@ -1,3 +1,4 @@
+use Rattle.std.proofs.lemmas.Grind.{elements}
 use Rattle.std.proofs.Common.{arith, ap, ◌∙◌}
 use Rattle.std.proofs.lemmas.Int.{ints}
 use Rattle.path_merge.specs.MergeState.{MergeState}
@@ -20,3 +21,6 @@ pub slot-requires-clause-short : goal.slot-requires-clause-short
 slot-requires-clause-short g c =
     let is_a = ap (λ (m : MergeState). m.anchor) c.self.view_is ∙ c.requires.anchored in
     rw (c.octets_of-payload.ensures, c.front.ensures) (short_body _ _ (base_fits _ c.self.inside.next_media c.args.anchor c.self.invariant is_a) c.self.invariant.spec_ok.short)
+
+pub slot-requires-clause-epoch : goal.slot-requires-clause-epoch
+slot-requires-clause-epoch c = grind (arith, elements)

@@ -1,3 +1,4 @@
+use Rattle.std.proofs.lemmas.Grind.{elements}
 use Rattle.std.proofs.Common.{◌≡◌, ◌+◌, ◌-◌, length, None, if◌then◌else◌, arith, ap, sym, ◌∙◌}
 use Rattle.std.specs.Prelude.{nat_eq, slice_set}
 use Rattle.path_merge.specs.SlotWindow.{SlotRing, place_at}
@@ -19,3 +20,6 @@ returns-clause-held c n =
     let front = c.place_after-self-inside.ensures.place ∙ ap (λ size. place_at c.self.inside.front size 1) size in
     rw (front, c.free.ensures, ← c.self.view_is) (held_is (record ring { base = ring.base + 1; front = place_at ring.front (length ring.slots) 1; span = ring.span - 1; slots = slice_set ring.slots ring.front None }) n
     ∙ take_slot ring c.self.invariant n ∙ ap (λ o. if nat_eq n ring.base then None else o) (sym (held_is ring n)))
+
+pub returns-clause-size : goal.returns-clause-size
+returns-clause-size c = grind (arith, elements)

@@ -57,3 +57,6 @@ returns-in-Taken-clause-held c n =
 
 pub returns-in-Taken-clause-size : goal.returns-in-Taken-clause-size
 returns-in-Taken-clause-size c = grind (arith, elements)
+
+pub returns-in-Taken-clause-base : goal.returns-in-Taken-clause-base
+returns-in-Taken-clause-base c = grind (arith, elements)

@@ -1,4 +1,5 @@
-use Rattle.std.proofs.Common.{◌≡◌, sym, subst, ◌∙◌, rules, FitsSigned, to_z, of_z, w64}
+use Rattle.std.proofs.lemmas.Grind.{elements}
+use Rattle.std.proofs.Common.{◌≡◌, sym, subst, ◌∙◌, rules, FitsSigned, to_z, of_z, w64, arith}
 use Rattle.std.proofs.lemmas.Int.{to_z-of_z}
 use Rattle.rtp_stats.proofs.DeadlineLemmas.{margin_found}
 use Rattle.rtp_stats.specs.Deadlines.{HasMargin}
@@ -17,3 +18,6 @@ returns-in-Some-clause-margin c =
     (λ is. sym found ∙ c.deadline.ensures.unplaced is)
     (λ none closed. sym found ∙ c.deadline.ensures.unknown none closed)
     left
+
+pub returns-in-None-clause-margin : goal.returns-in-None-clause-margin
+returns-in-None-clause-margin c = grind (arith, elements)

@@ -1,3 +1,4 @@
+use Rattle.std.proofs.lemmas.Grind.{elements}
 use Rattle.std.proofs.Common.{◌≡◌, ◌∷◌, length, arith, sym, subst, w64}
 use Rattle.std.proofs.lemmas.Int.{to_z-of_z}
 use Rattle.std.proofs.lemmas.List.{with_items_is}
@@ -36,3 +37,9 @@ returns-in-Some c stream offers has0 =
       entries = rw (with_items_is c.self.inside.entries c.note_copy.new.entries long) (tally_entries stream.window o offers c.self.inside.entries.items c.as_mut_slice.result.now c.note_copy.new.entries c.as_mut_slice.ensures.value c.note_copy.ensures.kept c.self.invariant.places c.add.ensures.path has.entries);
       seconds = rw (with_items_is c.self.inside.seconds c.note_spare.new.seconds eight) (tally_seconds o offers c.self.inside.seconds.items c.as_mut_slice-in-Some.result.now c.note_spare.new.seconds c.in-Some.spare c.as_mut_slice-in-Some.ensures.value (λ d. rw (to_z-of_z w64 c.args.now c.ranges.now) at (c.note_spare.ensures d)) c.in-Some.is c.add.ensures.path has.seconds);
     }
+
+pub invariant_of-self-in_default : goal.invariant_of-self-in_default
+invariant_of-self-in_default c = grind (arith, elements)
+
+pub invariant_of-self : goal.invariant_of-self
+invariant_of-self c = grind (arith, elements)

@@ -1,4 +1,5 @@
-use Rattle.std.proofs.Common.{refl, sym, subst, ◌∙◌, ap, replicate}
+use Rattle.std.proofs.lemmas.Grind.{elements}
+use Rattle.std.proofs.Common.{refl, sym, subst, ◌∙◌, ap, replicate, arith}
 use Rattle.std.specs.Prelude.{[]}
 use Rattle.rtp_stats.specs.WindowCopies.{empty_entry}
 use Rattle.rtp_stats.specs.Tally.{HasEntries}
@@ -22,3 +23,6 @@ returns c =
       entries = subst (HasEntries c.args.spec.now.window []) (sym places) (entries_new c.args.spec.now.window);
       seconds = seconds_new c.in_ok-seconds.seconds.items c.in_ok-seconds.ensures;
     }
+
+pub invariant_of-result : goal.invariant_of-result
+invariant_of-result c = grind (arith, elements)

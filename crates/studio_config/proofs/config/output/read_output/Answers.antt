@@ -1,4 +1,5 @@
-use Rattle.std.proofs.Common.{◌≡◌, Err, None, inr, ap, sym, ◌∙◌, rules}
+use Rattle.std.proofs.lemmas.Grind.{elements}
+use Rattle.std.proofs.Common.{◌≡◌, Err, None, inr, ap, sym, ◌∙◌, rules, arith}
 use Rattle.toml.specs.View.{table_view}
 use Rattle.studio_config.specs.OutputTable.{each_fault, change_fault}
 use Rattle.studio_config.specs.declared.config.keys.Key.TheVariants as key
@@ -48,3 +49,6 @@ returns-in_err-check_known-clause-fault c =
     let is : c.from_residual-in_err-check_known.result ≡ Err c.in_err-check_known.field-0.0 = search rules in
     let each : each_fault change_fault 0 (tables_at (table_view c.args.table.now) key.Change) ≡ None = ap (each_fault change_fault 0) (sym c.in_ok-changes.ensures.tables) ∙ c.in_ok-check_changes.ensures.ok in
     rw is (inr (output_fault-unknown c.args.ins (table_view c.args.table.now) _ c.in_ok-packets.ensures.ok c.in_ok-numbers.ensures.ok c.in_ok-check_gains.ensures.ok c.in_ok-changes.ensures.ok each c.in_ok-addresses.ensures.ok c.in_ok-senders.ensures.ok c.in_err-check_known.ensures.fault))
+
+pub read_schedule-requires-clause-same : goal.read_schedule-requires-clause-same
+read_schedule-requires-clause-same c = grind (arith, elements)

@@ -1,4 +1,5 @@
-use Rattle.std.proofs.Common.{◌≡◌, Err, None, Some, map, ap, sym, ◌∙◌, inl, inr, ⊎_elim, rules}
+use Rattle.std.proofs.lemmas.Grind.{elements, pieces}
+use Rattle.std.proofs.Common.{◌≡◌, Err, None, Some, map, ap, sym, ◌∙◌, inl, inr, ⊎_elim, rules, arith}
 use Rattle.toml.specs.View.{table_view}
 use Rattle.studio_config.specs.Values.{tables_at, gains_at}
 use Rattle.studio_config.specs.OutputTable.{each_fault, matrix_fault, change_of}
@@ -26,3 +27,15 @@ returns-clause-fault c =
     let first : gains_at m key.Gains ≡ c.in_ok-first.first = sym c.in_ok-first.ensures.matrix in
     let later : map change_of (tables_at m key.Change) ≡ c.in_ok-later.later.items = ap (map change_of) (sym c.requires.same) ∙ sym c.in_ok-later.ensures.changes in
     err_map _ _ c.make_schedule.result c.make_schedule.ensures.fault (λ e fault. inr (rw (c.in_ok-first.ensures.ok, none, first, later, fault)))
+
+pub returns-clause-schedule : goal.returns-clause-schedule
+returns-clause-schedule c = grind (arith, elements)
+
+pub returns-clause-ins : goal.returns-clause-ins
+returns-clause-ins c = grind (arith, elements)
+
+pub returns-clause-outs : goal.returns-clause-outs
+returns-clause-outs c = grind (arith, elements)
+
+pub returns-clause-ok : goal.returns-clause-ok
+returns-clause-ok c = search (pieces, arith)

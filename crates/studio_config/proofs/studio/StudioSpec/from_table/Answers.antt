@@ -1,3 +1,4 @@
+use Rattle.std.proofs.lemmas.Grind.{elements}
 use Rattle.std.proofs.Common.{◌≡◌, List, length, Err, None, Some, pos, map, ap, sym, ◌∙◌, inl, inr, ⊎_elim, rules, arith, to_z, w64}
 use Rattle.std.proofs.Math.Facts.{to_z_pos}
 use Rattle.std.proofs.lemmas.List.{length-map}
@@ -106,3 +107,9 @@ returns-clause-studio c =
     let to_b : c.in_ok-output.output.addresses.to_b ≡ number_at (table_at m key.Output) key.ToB = sym c.in_ok-output.ensures.to_b ∙ ap (λ t. number_at t key.ToB) table in
     let senders : c.in_ok-output.output.senders ≡ senders_of (table_at m key.Output) = c.in_ok-output.ensures.senders ∙ ap senders_of table in
     rw (c.with_networks.ensures, c.with_ports.ensures, c.new-studio.ensures, open_at, streams, paths, receive_at, sources, output, schedule, to_a, to_b, senders)
+
+pub read_streams-requires-clause-few : goal.read_streams-requires-clause-few
+read_streams-requires-clause-few c = grind (arith, elements)
+
+pub new-studio-requires-clause-ins : goal.new-studio-requires-clause-ins
+new-studio-requires-clause-ins c = grind (arith, elements)

@@ -1,4 +1,5 @@
-use Rattle.std.proofs.Common.{◌≡◌, ℤ, refl, to_z, of_z, w64}
+use Rattle.std.proofs.lemmas.Grind.{elements}
+use Rattle.std.proofs.Common.{◌≡◌, ℤ, refl, to_z, of_z, w64, arith}
 use Rattle.std.proofs.lemmas.Int.{to_z-of_z}
 use Rattle.studio_mix.proofs.ChangedLemmas.{both_ok}
 use Rattle.studio_ends.specs.AcceptedFeeds.{accepted_feeds}
@@ -10,3 +11,12 @@ returns-clause-given c =
     both_ok c.change_gains.result _ _ _ (λ later stands studio datagrams given.
     given_changed_at studio c.args.self.now _ (to_z w64 (of_z w64 c.args.at)) c.args.at c.args.gains.now datagrams (to_z-of_z w64 c.args.at c.ranges.at) refl (λ s number fed. stands s (accepted_feeds s.streams c.args.self.now.sides.items) number fed) later given)
     c.change_gains.ensures.later c.change_gains.ensures.stands
+
+pub returns-clause-fault : goal.returns-clause-fault
+returns-clause-fault c = grind (arith, elements)
+
+pub returns-clause-fine : goal.returns-clause-fine
+returns-clause-fine c = grind (arith, elements)
+
+pub returns-clause-stands : goal.returns-clause-stands
+returns-clause-stands c = grind (arith, elements)

@@ -1,4 +1,5 @@
-use Rattle.std.proofs.Common.{◌≡◌, Bool, true, false, not, refl, subst, sym, ◌∙◌}
+use Rattle.std.proofs.lemmas.Grind.{elements}
+use Rattle.std.proofs.Common.{◌≡◌, Bool, true, false, not, refl, subst, sym, ◌∙◌, arith}
 use Rattle.studio_mix.specs.Mixer.{HasFeeds}
 use Rattle.studio_mix.specs.Blocks.{AreBlocks}
 use Rattle.studio_ends.proofs.DatagramLemmas.{given-same, told-all}
@@ -21,3 +22,6 @@ returns-clause-accepted c is = λ studio feeds told. told-all studio _ feeds tol
 pub returns-clause-all : goal.returns-clause-all
 returns-clause-all c is = λ studio feeds datagrams told given.
     subst (λ fs. AreBlocks studio fs datagrams) (sym (feeds-looked _ _ _ c.any_stream_open.ensures.looked) ∙ returns-clause-accepted c is studio feeds told) given
+
+pub returns-clause-value : goal.returns-clause-value
+returns-clause-value c = grind (arith, elements)

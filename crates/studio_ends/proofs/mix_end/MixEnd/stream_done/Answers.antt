@@ -1,4 +1,5 @@
-use Rattle.std.proofs.Common.{rules, refl, subst, sym, IsSome, IfSome, ◌≡◌}
+use Rattle.std.proofs.lemmas.Grind.{elements}
+use Rattle.std.proofs.Common.{rules, refl, subst, sym, IsSome, IfSome, ◌≡◌, arith}
 use Rattle.rtrb.specs.Ring.{all_sent}
 use Rattle.studio_mix.specs.Mixer.{HasFeeds}
 use Rattle.studio_ends.proofs.DatagramLemmas.{given-same}
@@ -19,3 +20,6 @@ returns-clause-stands c = λ studio number h.
 pub returns-clause-given : goal.returns-clause-given
 returns-clause-given c = λ studio datagrams h.
     given-same studio c.args.self.now _ datagrams refl (feeds-handed studio.streams c.args.stream c.args.self.now.sides.items _ (all_sent c.args.done.token) (returns-clause-sides c)) h
+
+pub hand_in-requires : goal.hand_in-requires
+hand_in-requires c = grind (arith, elements)

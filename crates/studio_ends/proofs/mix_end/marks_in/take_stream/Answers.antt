@@ -1,3 +1,4 @@
+use Rattle.std.proofs.lemmas.Grind.{elements}
 use Rattle.std.proofs.Common.{rules, arith, ◌≡◌, ◌∙◌, sym, if◌then◌else◌, not}
 use Rattle.studio_ends.proofs.AcceptedLemmas.{at_most_one, stops_final, took-more, took-none}
 use Rattle.studio_ends.proofs.TurnLemmas.{looked_and_passed}
@@ -21,3 +22,15 @@ pub returns-then-not-wants : goal.returns-then-not-wants
 returns-then-not-wants g c =
     let i = c.loop-taken.invariant in
     stops_final _ _ _ _ _ _ _ i.2 i.0 i.1 (λ studio feeds number feed h is. sym c.if-not-wants.true ∙ c.wants.ensures.stands studio feeds number feed h is)
+
+pub drop_next-requires : goal.drop_next-requires
+drop_next-requires c = omega arith
+
+pub peek-requires : goal.peek-requires
+peek-requires c = omega arith
+
+pub returns-then-is_empty : goal.returns-then-is_empty
+returns-then-is_empty c = grind (arith, elements)
+
+pub overflow_add-strange : goal.overflow_add-strange
+overflow_add-strange c = grind (arith, elements)

@@ -1,3 +1,4 @@
+use Rattle.std.proofs.lemmas.Grind.{elements}
 use Rattle.std.proofs.Common.{◌≡◌, ◌∙◌, ap, arith, length, ◌∷◌, [], ◌++◌, length-append, subst}
 use Rattle.rtrb.specs.Ring.{sent}
 use Rattle.rtp_stream.specs.PacketRef.{packet_of}
@@ -28,3 +29,21 @@ invariant_of-self-in-Sent-clause-all_fit c =
     let p = c.args.self.now in
     let fits = subst (FitsReception p.spec) (received_is c) c.receive_ref-reception.ensures.fits in
     fitting-more p.spec (sent p.ring) (sent c.push.new.self) (packet_of c.in-Sent.packet) (pushed c) p.all_fit fits
+
+pub push-requires-clause-roomy : goal.push-requires-clause-roomy
+push-requires-clause-roomy c = grind (arith, elements)
+
+pub returns-then-lacks_room-clause-answer : goal.returns-then-lacks_room-clause-answer
+returns-then-lacks_room-clause-answer c = grind (arith, elements)
+
+pub push-requires-clause-free : goal.push-requires-clause-free
+push-requires-clause-free c = grind (arith, elements)
+
+pub invariant_of-self-in-Sent-clause-few : goal.invariant_of-self-in-Sent-clause-few
+invariant_of-self-in-Sent-clause-few c = grind (arith, elements)
+
+pub returns-then-lacks_room-clause-known : goal.returns-then-lacks_room-clause-known
+returns-then-lacks_room-clause-known c = grind (arith, elements)
+
+pub returns-in-Sent-clause-answer : goal.returns-in-Sent-clause-answer
+returns-in-Sent-clause-answer c = grind (arith, elements)

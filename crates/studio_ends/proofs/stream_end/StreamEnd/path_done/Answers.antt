@@ -1,4 +1,5 @@
-use Rattle.std.proofs.Common.{rules, refl, subst, sym, IsSome, IfSome, ◌≡◌}
+use Rattle.std.proofs.lemmas.Grind.{elements}
+use Rattle.std.proofs.Common.{rules, refl, subst, sym, IsSome, IfSome, ◌≡◌, arith}
 use Rattle.rtrb.specs.Ring.{all_sent}
 use Rattle.studio_ends.proofs.TokenLemmas.{hands_in, stands-handed}
 use Rattle.studio_ends.proofs.stream_end.StreamEnd.path_done.Goals as goal
@@ -11,3 +12,6 @@ returns-clause-sides c =
 
 pub returns-clause-stands : goal.returns-clause-stands
 returns-clause-stands c = stands-handed c.args.self.now _ c.args.path (all_sent c.args.done.token) (returns-clause-sides c) refl refl
+
+pub hand_in-requires : goal.hand_in-requires
+hand_in-requires c = grind (arith, elements)

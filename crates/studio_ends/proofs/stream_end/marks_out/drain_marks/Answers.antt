@@ -1,3 +1,4 @@
+use Rattle.std.proofs.lemmas.Grind.{elements}
 use Rattle.std.proofs.Common.{arith, ◌≡◌, ◌∙◌, sym, ap, length, ◌++◌, if◌then◌else◌, length-append}
 use Rattle.std.specs.Option.{option_to_list}
 use Rattle.rtrb.specs.Ring.{sent}
@@ -44,3 +45,18 @@ loop-preserved c =
 
 pub returns-clause-all : goal.returns-clause-all
 returns-clause-all c = λ e. given_all _ (sym c.ended-2.ensures ∙ e)
+
+pub returns-then-is_full-clause-drained : goal.returns-then-is_full-clause-drained
+returns-then-is_full-clause-drained c = grind (arith, elements)
+
+pub push_next-requires-clause-room : goal.push_next-requires-clause-room
+push_next-requires-clause-room c = grind (arith, elements)
+
+pub returns-then-ended-clause-some : goal.returns-then-ended-clause-some
+returns-then-ended-clause-some c = grind (arith, elements)
+
+pub returns-then-is_full-clause-some : goal.returns-then-is_full-clause-some
+returns-then-is_full-clause-some c = grind (arith, elements)
+
+pub returns-then-not-push_next-clause-some : goal.returns-then-not-push_next-clause-some
+returns-then-not-push_next-clause-some c = grind (arith, elements)

@@ -1,3 +1,4 @@
+use Rattle.std.proofs.lemmas.Grind.{elements}
 use Rattle.std.proofs.Common.{rules, arith, ◌≡◌, ◌+◌, ◌++◌, length, ℤ, Option, refl, ◌∙◌, sym, ap, to_z, of_z, w64}
 use Rattle.std.specs.Option.{option_to_list}
 use Rattle.rtp_stream.specs.MarkFacts.{MarkView}
@@ -58,3 +59,15 @@ loop-count-preserved c =
     let here = (goal.at.loop-count-preserved c).After-push_next in
     let one : c.loop-count.count + length (option_to_list (next here)) ≡ c.loop-count.count + 1 = search rules in
     (omega arith, rw one at (gone_on here))
+
+pub returns-then-not-push_next-clause-stop : goal.returns-then-not-push_next-clause-stop
+returns-then-not-push_next-clause-stop c = grind (arith, elements)
+
+pub returns-then-is_full-clause-stop : goal.returns-then-is_full-clause-stop
+returns-then-is_full-clause-stop c = grind (arith, elements)
+
+pub push_next-requires-clause-room : goal.push_next-requires-clause-room
+push_next-requires-clause-room c = grind (arith, elements)
+
+pub push_next-requires-clause-can : goal.push_next-requires-clause-can
+push_next-requires-clause-can c = grind (arith, elements)

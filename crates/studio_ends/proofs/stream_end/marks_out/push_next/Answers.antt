@@ -1,4 +1,5 @@
-use Rattle.std.proofs.Common.{◌∙◌, sym, subst}
+use Rattle.std.proofs.lemmas.Grind.{elements}
+use Rattle.std.proofs.Common.{◌∙◌, sym, subst, arith}
 use Rattle.rtp_stream.specs.MarkFacts.{payload_length}
 use Rattle.rtp_stream.specs.declared.mark.PacketFormat.{PacketFormat}
 use Rattle.studio_ends.specs.RoomRings.{HasRoomFor}
@@ -9,3 +10,12 @@ pub push-requires-clause-roomy : goal.push-requires-clause-roomy
 push-requires-clause-roomy c =
     let same = next_format c.args.merge.now c.args.goal c.in-Some.mark (sym c.mark_to-next.ensures ∙ c.in-Some.is) in
     subst (λ (f : PacketFormat). HasRoomFor (payload_length f) c.args.marks.now) (sym same) c.requires.roomy
+
+pub returns-clause-there : goal.returns-clause-there
+returns-clause-there c = grind (arith, elements)
+
+pub returns-clause-all : goal.returns-clause-all
+returns-clause-all c = grind (arith, elements)
+
+pub returns-clause-count : goal.returns-clause-count
+returns-clause-count c = grind (arith, elements)

@@ -1,3 +1,4 @@
+use Rattle.std.proofs.lemmas.Grind.{elements, common_steps}
 use Rattle.std.proofs.Common.{arith, ◌∙◌, ◌++◌, ◌∷◌, [], length-append}
 use Rattle.studio_ends.proofs.TurnLemmas.{looked_and_passed, took-more, joined-more}
 use Rattle.studio_ends.proofs.stream_end.packets_in.take_path.Goals as goal
@@ -15,3 +16,21 @@ loop-taken-preserved g c =
         joined-more _ c.loop-taken.merge c.offer_packet.new.merge _ i.0 packet i.3 c.offer_packet.ensures,
       ),
     )
+
+pub drop_next-requires : goal.drop_next-requires
+drop_next-requires c = omega arith
+
+pub overflow_add-taken : goal.overflow_add-taken
+overflow_add-taken c = omega arith
+
+pub peek-requires : goal.peek-requires
+peek-requires c = omega arith
+
+pub returns-then-is_empty : goal.returns-then-is_empty
+returns-then-is_empty c = grind (arith, elements)
+
+pub returns : goal.returns
+returns c = grind (arith, elements)
+
+pub loop-taken-init : goal.loop-taken-init
+loop-taken-init c = grind (arith, common_steps)

@@ -1,3 +1,4 @@
+use Rattle.std.proofs.lemmas.Grind.{elements}
 use Rattle.std.proofs.Common.{◌≡◌, pos, ◌+ℤ◌, sym, subst, ◌∙◌, arith, to_z, of_z, w64}
 use Rattle.std.proofs.lemmas.Int.{ints}
 use Rattle.studio_mix.specs.Mixer.{MixerState, HasFeeds}
@@ -15,3 +16,6 @@ returns c = λ studio feeds number fed.
     let few = sound.out_ok.few_frames in
     let same : to_z w64 (of_z w64 (to_z w64 (of_z w64 i.time) +ℤ to_z w64 (of_z w64 c.from.result))) ≡ i.time +ℤ pos i.output.frames = omega (arith, ints, c.from.ensures, c.frames.ensures.value) in
     same ∙ end
+
+pub overflow_add-result : goal.overflow_add-result
+overflow_add-result c = grind (arith, elements)

@@ -37,3 +37,6 @@ index_mut-lane-requires c = grind (arith, elements)
 
 pub invariant_of-self : goal.invariant_of-self
 invariant_of-self c = grind (arith, common_steps)
+
+pub returns-clause-streams : goal.returns-clause-streams
+returns-clause-streams c = grind (arith, elements)

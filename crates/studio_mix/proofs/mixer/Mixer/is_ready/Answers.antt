@@ -58,3 +58,9 @@ returns-else-are_covered-clause-early c = grind (arith, elements)
 
 pub returns-then-are_covered-clause-early : goal.returns-then-are_covered-clause-early
 returns-then-are_covered-clause-early c = grind (arith, elements)
+
+pub returns-else-are_covered-clause-lanes : goal.returns-else-are_covered-clause-lanes
+returns-else-are_covered-clause-lanes c = grind (arith, elements)
+
+pub overflow_add-end : goal.overflow_add-end
+overflow_add-end c = grind (arith, elements)

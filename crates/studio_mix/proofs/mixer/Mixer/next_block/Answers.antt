@@ -205,3 +205,6 @@ overflow_add-self c = grind (arith, common_steps)
 
 pub mix_counted-requires-clause-not_early : goal.mix_counted-requires-clause-not_early
 mix_counted-requires-clause-not_early c = grind (arith, common_steps)
+
+pub returns-clause-spec : goal.returns-clause-spec
+returns-clause-spec c = grind (arith, elements)

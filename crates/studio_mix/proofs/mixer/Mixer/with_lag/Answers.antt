@@ -1,3 +1,4 @@
+use Rattle.std.proofs.lemmas.Grind.{elements}
 use Rattle.std.proofs.Common.{lit<, ◌≡◌, ◌*◌, pos, length, map, All, sym, ap, subst, ◌∙◌, arith, to_z, of_z, w64}
 use Rattle.std.proofs.lemmas.Int.{ints}
 use Rattle.std.proofs.lemmas.List.{length-replicate}
@@ -77,3 +78,9 @@ returns-clause-rooms c =
     ∙ ap (λ n. map (capacity_for c.args.lag n) c.streams.result.now) c.frames-2.ensures.value
     ∙ ap (λ (o : Output). map (capacity_for c.args.lag o.frames) c.streams.result.now) c.output.ensures
     ∙ ap (map (capacity_for c.args.lag c.args.spec.now.output.frames)) c.streams.ensures.value
+
+pub new_lanes-requires-clause-not_low : goal.new_lanes-requires-clause-not_low
+new_lanes-requires-clause-not_low c = grind (arith, elements)
+
+pub new_lanes-requires-clause-not_high : goal.new_lanes-requires-clause-not_high
+new_lanes-requires-clause-not_high c = grind (arith, elements)

@@ -1,4 +1,5 @@
-use Rattle.std.proofs.Common.{rules, ◌≡◌, ◌+◌, ◌*◌, None, length, set, ap, ◌∙◌, w32}
+use Rattle.std.proofs.lemmas.Grind.{elements}
+use Rattle.std.proofs.Common.{rules, ◌≡◌, ◌+◌, ◌*◌, None, length, set, ap, ◌∙◌, w32, arith}
 use Rattle.std.proofs.lemmas.Int.{to_z-of_z}
 use Rattle.gain_mix.specs.Gain.{ins_of, rows_of}
 use Rattle.gain_mix.specs.Matrix.{matrix_fault_of}
@@ -34,3 +35,12 @@ unreachable-requires c =
     let kept = set-no_fault (length matrix) (ins_of matrix) c.gains.result.now c.as_slice.result.now (c.args.output * ins_of matrix + c.args.input) c.args.gain c.gains.ensures.no_fault c.requires.range written in
     let none : matrix_fault_of c.outs.result c.ins-2.result c.as_slice.result.now ≡ None = ap (λ m. matrix_fault_of m c.ins-2.result c.as_slice.result.now) c.outs.ensures.rows ∙ ap (λ n. matrix_fault_of (length matrix) n c.as_slice.result.now) c.ins-2.ensures.gains ∙ kept in
     search rules
+
+pub overflow_add-place : goal.overflow_add-place
+overflow_add-place c = grind (arith, elements)
+
+pub index_mut-requires : goal.index_mut-requires
+index_mut-requires c = grind (arith, elements)
+
+pub overflow_mul-place : goal.overflow_mul-place
+overflow_mul-place c = grind (arith, elements)

@@ -1,3 +1,4 @@
+use Rattle.std.proofs.lemmas.Grind.{elements}
 use Rattle.std.proofs.Common.{rules, arith, ◌≡◌, ◌<◌, ◌∷◌, ◌++◌, [], ℤ, List, length, inr, refl, ap, ◌∙◌, to_z, of_z, w64}
 use Rattle.std.proofs.lemmas.Bool.{le-ltb, lt-ltb}
 use Rattle.std.proofs.lemmas.Int.{to_z-of_z}
@@ -36,3 +37,6 @@ returns-in-Ok-clause-fine c =
     let kept = c.changes_before-later.ensures ∙ ap (λ t. before t c.into_parts-first.result.1.items) (to_z-of_z w64 c.args.at c.ranges.at) ∙ ap (before c.args.at) c.into_parts-first.ensures.later in
     let count : c.len.result ≡ length c.changes_before-later.result.items = search rules in
     lt-ltb (length (before c.args.at c.args.schedule.later)) 64 (omega (arith, count, ap length kept))
+
+pub returns-in-Err-clause-fault : goal.returns-in-Err-clause-fault
+returns-in-Err-clause-fault c = grind (arith, elements)

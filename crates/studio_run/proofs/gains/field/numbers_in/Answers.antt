@@ -1,4 +1,5 @@
-use Rattle.std.proofs.Common.{rules, ◌≡◌, ◌∷◌, [], ◌++◌, Some, sym, ap, ◌∙◌}
+use Rattle.std.proofs.lemmas.Grind.{elements}
+use Rattle.std.proofs.Common.{rules, ◌≡◌, ◌∷◌, [], ◌++◌, Some, sym, ap, ◌∙◌, arith}
 use Rattle.std.proofs.lemmas.List.{append-nil}
 use Rattle.studio_run.specs.Fields.{fields_after}
 use Rattle.studio_run.specs.GainsNumbers.{integers_of, with_integer}
@@ -24,3 +25,6 @@ returns-clause-count c =
     let spelled : integers_of (fields_after c.args.fields) ≡ Some read =
     c.loop-left.invariant ∙ ap (λ left. behind read (integers_of (fields_after left))) c.in_default.is ∙ ap Some (append-nil read) in
     length-integers (fields_after c.args.fields) read spelled ∙ sym c.count_fields.ensures ∙ c.if-count_fields-count.false
+
+pub loop-left-smaller : goal.loop-left-smaller
+loop-left-smaller c = grind (arith, elements)

@@ -1,4 +1,5 @@
-use Rattle.std.proofs.Common.{◌≡◌, true, Ok, length, sym, ap, ◌∙◌, to_z, of_z, w32, w64}
+use Rattle.std.proofs.lemmas.Grind.{elements}
+use Rattle.std.proofs.Common.{◌≡◌, true, Ok, length, sym, ap, ◌∙◌, to_z, of_z, w32, w64, arith}
 use Rattle.std.specs.Int.RustNames.{unsigned_abs}
 use Rattle.std.proofs.lemmas.Int.{to_z-of_z}
 use Rattle.gain_mix.specs.Changes.{matrix_at}
@@ -29,3 +30,21 @@ returns-in-Ok-clause-ok c =
     ∙ ap (with_gain (matrix_at schedule c.args.at) (unsigned_abs c.args.output) (unsigned_abs c.args.input)) narrow in
     one-said schedule c.args.at c.args.output c.args.input c.args.gain c.in-Ok.matrix time of_output of_input of_gain rows
     ∙ ap (λ t. Ok (t, c.in-Ok.matrix)) (sym at)
+
+pub returns-in-Err-clause-fault : goal.returns-in-Err-clause-fault
+returns-in-Err-clause-fault c = grind (arith, elements)
+
+pub matrix_with_gain-requires-clause-output : goal.matrix_with_gain-requires-clause-output
+matrix_with_gain-requires-clause-output c = grind (arith, elements)
+
+pub overflow_cast-gain : goal.overflow_cast-gain
+overflow_cast-gain c = grind (arith, elements)
+
+pub matrix_with_gain-requires-clause-input : goal.matrix_with_gain-requires-clause-input
+matrix_with_gain-requires-clause-input c = grind (arith, elements)
+
+pub returns-then-not-is_gain-clause-fault : goal.returns-then-not-is_gain-clause-fault
+returns-then-not-is_gain-clause-fault c = grind (arith, elements)
+
+pub returns-then-not-is_channel-2-clause-fault : goal.returns-then-not-is_channel-2-clause-fault
+returns-then-not-is_channel-2-clause-fault c = grind (arith, elements)

@@ -1,4 +1,5 @@
-use Rattle.std.proofs.Common.{rules, ◌≡◌, ◌*◌, length, sym, ap, ◌∙◌}
+use Rattle.std.proofs.lemmas.Grind.{elements}
+use Rattle.std.proofs.Common.{rules, ◌≡◌, ◌*◌, length, sym, ap, ◌∙◌, arith}
 use Rattle.gain_mix.specs.Gain.{ins_of, rows_of}
 use Rattle.gain_mix.specs.Matrix.{matrix_fault_of}
 use Rattle.gain_mix.proofs.RowLemmas.{ins_of-rows_of, length-rows_of}
@@ -17,3 +18,6 @@ returns-in-Ok-new-clause-fits c =
       outs = ap length rows ∙ length-rows_of c.ins.result c.outs.result c.as_slice.result.now ∙ outs;
       ins = ap ins_of rows ∙ ins_of-rows_of c.ins.result c.outs.result c.as_slice.result.now c.outs.ensures.some counted ∙ ins;
     }
+
+pub returns-in-Err-Memory-clause-fault : goal.returns-in-Err-Memory-clause-fault
+returns-in-Err-Memory-clause-fault c = grind (arith, elements)

@@ -1,3 +1,4 @@
+use Rattle.std.proofs.lemmas.Grind.{common_steps}
 use Rattle.std.proofs.Common.{rules, arith, ◌+◌, ◌-◌, ℤ, Ok, length, take, drop, inl, inr, sym, ap, ◌∙◌, FitsSigned, w64}
 use Rattle.std.proofs.lemmas.Int.{to_z-of_z}
 use Rattle.std.proofs.lemmas.List.{length-drop, length-take}
@@ -31,3 +32,15 @@ loop-rest-preserved c =
       first = c.in-Ok.ensures.first ∙ c.loop-rest.invariant.first;
       few = omega (arith, some, few, length-take (length text - (c.in-Some.end + 1)) (drop (c.in-Some.end + 1) text), length-drop (c.in-Some.end + 1) text);
     }
+
+pub slice_bounds-rest-count : goal.slice_bounds-rest-count
+slice_bounds-rest-count c = grind (arith, common_steps)
+
+pub overflow_add-rest : goal.overflow_add-rest
+overflow_add-rest c = grind (arith, common_steps)
+
+pub returns-clause-ok : goal.returns-clause-ok
+returns-clause-ok c = grind (arith, common_steps)
+
+pub slice_bounds-rest-start : goal.slice_bounds-rest-start
+slice_bounds-rest-start c = grind (arith, common_steps)

@@ -1,4 +1,5 @@
-use Rattle.std.proofs.Common.{◌≡◌, Err, rules}
+use Rattle.std.proofs.lemmas.Grind.{elements}
+use Rattle.std.proofs.Common.{◌≡◌, Err, rules, arith}
 use Rattle.studio_run.proofs.StudioListingLemmas.{listed_all, listed_next, listed_none}
 use Rattle.studio_run.proofs.outputs.listing.write_marks.Goals as goal
 
@@ -36,3 +37,6 @@ returns-then-not-take_event-clause-pulled g c = λ stream number open_at run pul
     let events = g.E.EventSource.events c.args.source.now in
     let left = c.in_ok-write_taken.ensures.ok stream number open_at events _ _ run (c.events.invariant.stands stream number open_at run pulled) in
     record { given = left.listed.given; pulled = c.take_event.ensures.stands stream number open_at left.listed.given run left.listed.pulled }
+
+pub events-smaller : goal.events-smaller
+events-smaller c = grind (arith, elements)

@@ -1,3 +1,4 @@
+use Rattle.std.proofs.lemmas.Grind.{elements}
 use Rattle.std.proofs.Common.{◌≡◌, ◌≤◌, ◌∙◌, Err, length, is_some, take, refl, sym, ap, arith, rules}
 use Rattle.mix_packets.specs.OutSpec.{datagram_length}
 use Rattle.studio_mix.specs.Output.{datagram_of}
@@ -68,3 +69,6 @@ returns-in-None-clause-ok g c = λ studio run played.
     reported_all studio events _ _ _ _ c.rounds.session c.next_datagram.new.self r
     (sym (c.next_datagram.ensures.given studio n run r.given.played) ∙ ap is_some c.in-None.is)
     (c.in-None.ensures.none refl studio n run r.given.played)
+
+pub slice_bounds-write_datagram-end : goal.slice_bounds-write_datagram-end
+slice_bounds-write_datagram-end c = grind (arith, elements)

@@ -1,4 +1,5 @@
-use Rattle.std.proofs.Common.{◌≡◌, ◌∙◌, Err, ap, subst, rules}
+use Rattle.std.proofs.lemmas.Grind.{elements}
+use Rattle.std.proofs.Common.{◌≡◌, ◌∙◌, Err, ap, subst, rules, arith}
 use Rattle.rtp_stream.specs.declared.stream_spec.Stream.{Stream}
 use Rattle.rtp_stream.specs.Counts.{tally_of}
 use Rattle.studio_run.specs.Buffer.{BreaksOff, PassesOn}
@@ -37,3 +38,6 @@ returns-clause-ok g c = λ stream number open_at run some.
     stream_after stream cursor.spec number cursor.number c.paths-paths.result open_at events _ counts.spec counts.stream_number paths (c.counts.ensures ∙ counts.merge) _ _ _ _ _ _
     (c.in_ok-write_paths.ensures.ok events (own_tallies stream number open_at events cursor counts))
     (subst (PassesOn _ _ _ _) (ap (λ n. merge_line n c.paths-paths.result (tally_of c.counts.result)) c.number.ensures) c.in_ok-write_merge_counts.ensures.ok)
+
+pub returns-clause-ready : goal.returns-clause-ready
+returns-clause-ready c = grind (arith, elements)

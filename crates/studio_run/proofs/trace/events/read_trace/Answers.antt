@@ -1,4 +1,5 @@
-use Rattle.std.proofs.Common.{rules, ◌≡◌, ◌∙◌, [], ◌∷◌, ◌++◌, Err, inl, map, sym, ap, refl, subst}
+use Rattle.std.proofs.lemmas.Grind.{elements}
+use Rattle.std.proofs.Common.{rules, ◌≡◌, ◌∙◌, [], ◌∷◌, ◌++◌, Err, inl, map, sym, ap, refl, subst, arith}
 use Rattle.std.proofs.lemmas.List.{map-append}
 use Rattle.studio_session.specs.Event.{said_by}
 use Rattle.studio_run.specs.Trace.{BeginsWithEvents, fault_in}
@@ -39,3 +40,6 @@ pub returns-in_err-map_err-clause-fault : goal.returns-in_err-map_err-clause-fau
 returns-in_err-map_err-clause-fault c =
     let is : c.from_residual-in_err-map_err.result ≡ Err (fault_in 0 Memory) = search rules in
     rw is (inl (refl, begins (goal.at.returns-in_err-map_err-clause-fault c).In-Some))
+
+pub loop-events-smaller : goal.loop-events-smaller
+loop-events-smaller c = grind (arith, elements)

@@ -1,3 +1,4 @@
+use Rattle.std.proofs.lemmas.Grind.{elements}
 use Rattle.std.proofs.Common.{Some, None, sym, ◌∙◌, refl, arith}
 use Rattle.studio_run.proofs.NumberLemmas.{number_of-is}
 use Rattle.studio_run.proofs.TraceLemmas.{some_after, none_after, arrival_of-some, arrival_of-cut, arrival_of-read, no_octets, some_octets}
@@ -29,3 +30,6 @@ returns-clause-said c =
     let none = none_after c.split_field-2.result.1 (sym c.is_some.ensures ∙ c.if-is_some.false) in
     let number = number_of-is 15 c.split_field.result.0.now c.decimal_number.result (omega arith) c.decimal_number.ensures.spelled c.decimal_number.ensures.small c.decimal_number.ensures.found in
     cut ∙ arrival_of-read c.args.path c.split_field-2.result.1 c.split_field.result.0.now c.split_field-2.result.0.now (Some c.in-Some-decimal_number.stream) (Some (octets_by c.split_field-2.result.0.now)) none (number ∙ c.in-Some-decimal_number.is) (some_octets c.split_field-2.result.0.now (sym c.spells_octets.ensures ∙ c.if-not-spells_octets.false))
+
+pub returns-clause-last : goal.returns-clause-last
+returns-clause-last c = grind (arith, elements)

@@ -1,4 +1,5 @@
-use Rattle.std.proofs.Common.{◌≡◌, ℕ, List, None, if◌then◌else◌, sym, subst, ap}
+use Rattle.std.proofs.lemmas.Grind.{elements}
+use Rattle.std.proofs.Common.{◌≡◌, ℕ, List, None, if◌then◌else◌, sym, subst, ap, arith}
 use Rattle.rtp_stream.specs.declared.event.Event.{Event}
 use Rattle.path_merge.specs.Merge.{HasHistory}
 use Rattle.path_merge.specs.Goal.{Gives, MovesTo, next_to}
@@ -33,3 +34,6 @@ returns-else-not-more-clause-stands c = λ stream number open_at events k run pu
     (subst (λ g. MovesTo i.merge new g (next_to i.merge g)) c.goal_of.ensures c.pass_to-more.ensures.moved)
     (subst (λ g. c.pass_to-more.result ≡ is_slot_mark (next_to i.merge g)) c.goal_of.ensures c.pass_to-more.ensures.slot)
     (sym (ap (λ b. if b then i.reading else None) c.if-not-more.false)))
+
+pub returns-then-not-more-clause-fewer : goal.returns-then-not-more-clause-fewer
+returns-then-not-more-clause-fewer c = grind (arith, elements)

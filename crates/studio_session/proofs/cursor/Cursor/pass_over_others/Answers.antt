@@ -1,3 +1,4 @@
+use Rattle.std.proofs.lemmas.Grind.{elements}
 use Rattle.std.proofs.Common.{◌≡◌, ◌<◌, length, Some, true, slice_get, ap, subst, ◌∙◌, arith, rules}
 use Rattle.rtp_stream.specs.declared.stream_spec.Stream.{Stream}
 use Rattle.studio_session.specs.Session.{Other, step_of}
@@ -31,3 +32,6 @@ others-preserved g c =
           let same = ap (λ (s : CursorState). s.number) c.self.view_is ∙ p.stream_number in
           more.stands stream number open_at events found.0 k at (subst (λ n. step_of stream n found.0 ≡ Other) same (other stream)) p;
     }
+
+pub pass_over-requires : goal.pass_over-requires
+pass_over-requires c = grind (arith, elements)

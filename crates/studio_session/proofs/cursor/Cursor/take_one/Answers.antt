@@ -1,3 +1,4 @@
+use Rattle.std.proofs.lemmas.Grind.{elements}
 use Rattle.std.proofs.Common.{◌≡◌, ◌≢◌, ◌<◌, length, Some, slice_get, sym, subst, ap, ◌∙◌, arith, to_z, of_z, w64}
 use Rattle.std.proofs.lemmas.Int.{ints}
 use Rattle.studio_session.specs.Event.{Arrival, Reading}
@@ -72,3 +73,21 @@ returns-in-Close-clause-stands g c = λ stream n open_at k run pulled.
     let at : slice_get events now.place ≡ Some found.0 = subst (λ (s : CursorState). slice_get events s.place ≡ Some found.0) c.self.view_is found.1 in
     let is = closing_of found.0 (sym c.in-Close.is ∙ c.outline.ensures found.0 found.1) in
     c.close.ensures.stands stream n open_at events k (at ∙ ap Some is) pulled
+
+pub set_out-requires-clause-place : goal.set_out-requires-clause-place
+set_out-requires-clause-place c = grind (arith, elements)
+
+pub returns-then-stream-self-clause-ready : goal.returns-then-stream-self-clause-ready
+returns-then-stream-self-clause-ready c = grind (arith, elements)
+
+pub pass_over-requires : goal.pass_over-requires
+pass_over-requires c = grind (arith, elements)
+
+pub returns-then-stream-self-clause-none : goal.returns-then-stream-self-clause-none
+returns-then-stream-self-clause-none c = grind (arith, elements)
+
+pub octets-requires : goal.octets-requires
+octets-requires c = grind (arith, elements)
+
+pub take_datagram-requires-clause-place : goal.take_datagram-requires-clause-place
+take_datagram-requires-clause-place c = grind (arith, elements)

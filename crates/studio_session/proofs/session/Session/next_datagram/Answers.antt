@@ -1,3 +1,4 @@
+use Rattle.std.proofs.lemmas.Grind.{elements, common_steps}
 use Rattle.std.proofs.Common.{◌≤◌, ◌∙◌, length, sym, subst, arith}
 use Rattle.studio_mix.proofs.NextLemmas.{lent}
 use Rattle.studio_session.specs.Play.{HasFilled, HasPlayed}
@@ -31,3 +32,15 @@ returns-clause-some g c =
     (subst (λ s. HasPlayed studio events s next) (sym c.self.view_is) played)))
     (λ studio feeds next fed. c.next_block.ensures.ready studio feeds next fed)
     c.next_block.ensures.some
+
+pub invariant_of-self : goal.invariant_of-self
+invariant_of-self c = grind (arith, elements)
+
+pub returns-clause-ready : goal.returns-clause-ready
+returns-clause-ready c = grind (arith, elements)
+
+pub fill-requires-clause-ready : goal.fill-requires-clause-ready
+fill-requires-clause-ready c = grind (arith, elements)
+
+pub returns-clause-none : goal.returns-clause-none
+returns-clause-none c = grind (arith, common_steps)

@@ -1,4 +1,5 @@
-use Rattle.std.proofs.Common.{true, refl, sym, subst}
+use Rattle.std.proofs.lemmas.Grind.{elements}
+use Rattle.std.proofs.Common.{true, refl, sym, subst, arith}
 use Rattle.wav_file.specs.StreamEvents.{HasFollowed, StreamWavState}
 use Rattle.wav_file.proofs.StreamEventsLemmas.{followed_due, followed_stop}
 use Rattle.wav_file.proofs.stream_events.StreamWav.add_due.Goals as goal
@@ -17,3 +18,18 @@ returns-in-Ok-clause-due g c = λ is begun events followed.
     let after : StreamWavState = record { made = g.F.Write.contents c.add_taken.new.file; track = c.add_taken.new.track; cursor = c.add_taken.new.cursor; failed = i.failed } in
     followed_due begun before after events c.if-self.false c.in-Ok.ensures.ok c.in-Ok.ensures.settled c.in-Ok.ensures.all c.add_taken.ensures.kept
     (subst (λ s. HasFollowed begun s events) (sym c.self.view_is) followed)
+
+pub returns-in-Err-clause-still : goal.returns-in-Err-clause-still
+returns-in-Err-clause-still c = grind (arith, elements)
+
+pub returns-then-self-2-clause-due : goal.returns-then-self-2-clause-due
+returns-then-self-2-clause-due c = grind (arith, elements)
+
+pub returns-in-Err-clause-due : goal.returns-in-Err-clause-due
+returns-in-Err-clause-due c = grind (arith, elements)
+
+pub returns-then-self-clause-due : goal.returns-then-self-clause-due
+returns-then-self-clause-due c = grind (arith, elements)
+
+pub returns-in-Ok-clause-still : goal.returns-in-Ok-clause-still
+returns-in-Ok-clause-still c = grind (arith, elements)

@@ -1,3 +1,4 @@
+use Rattle.std.proofs.lemmas.Grind.{elements}
 use Rattle.std.proofs.Common.{◌≡◌, ◌≤◌, ◌*◌, ◌∙◌, Err, ap, sym, subst, arith, rules, replicate, take}
 use Rattle.std.specs.Io.KnownBytes.{Appends}
 use Rattle.wav_file.specs.Header.{frame_length}
@@ -35,3 +36,21 @@ chunks-preserved g c =
           (ap (λ (w : WavState). w.count) c.in_ok-push.ensures.counted) zeros;
       wrote = silence_more _ _ _ c.chunks.done count frame c.chunks.invariant.wrote (subst (Appends _ _) zeros c.in_ok-push.ensures.ok);
     }
+
+pub chunks-smaller : goal.chunks-smaller
+chunks-smaller c = grind (arith, elements)
+
+pub slice_bounds-push-end : goal.slice_bounds-push-end
+slice_bounds-push-end c = grind (arith, elements)
+
+pub returns-clause-counted : goal.returns-clause-counted
+returns-clause-counted c = grind (arith, elements)
+
+pub slice_bounds-zeros-end : goal.slice_bounds-zeros-end
+slice_bounds-zeros-end c = grind (arith, elements)
+
+pub chunks-init : goal.chunks-init
+chunks-init c = grind (arith, elements)
+
+pub push-requires : goal.push-requires
+push-requires c = grind (arith, elements)

@@ -1,4 +1,5 @@
-use Rattle.std.proofs.Common.{rules, refl}
+use Rattle.std.proofs.lemmas.Grind.{elements}
+use Rattle.std.proofs.Common.{rules, refl, arith}
 use Rattle.live_status.proofs.gain_channel.page_desk.PageDesk.send.Goals as goal
 
 pub returns-in-Ok : goal.returns-in-Ok
@@ -13,3 +14,12 @@ returns-in-Ok g c = record {
     away = c.take.ensures.after;
   };
 }
+
+pub invariant_of-self-in-Err-Full : goal.invariant_of-self-in-Err-Full
+invariant_of-self-in-Err-Full c = grind (arith, elements)
+
+pub invariant_of-self-then-is_err : goal.invariant_of-self-then-is_err
+invariant_of-self-then-is_err c = grind (arith, elements)
+
+pub invariant_of-self-in-Ok : goal.invariant_of-self-in-Ok
+invariant_of-self-in-Ok c = grind (arith, elements)

@@ -1,4 +1,5 @@
-use Rattle.std.proofs.Common.{◌≡◌, ◌++◌, ℤ, List, refl, sym, ap, subst, ◌∙◌, w64}
+use Rattle.std.proofs.lemmas.Grind.{elements}
+use Rattle.std.proofs.Common.{◌≡◌, ◌++◌, ℤ, List, refl, sym, ap, subst, ◌∙◌, w64, arith}
 use Rattle.std.proofs.lemmas.Int.{to_z-of_z}
 use Rattle.std.proofs.lemmas.Option.{same_Some}
 use Rattle.rtrb.specs.Ring.{sent}
@@ -45,3 +46,12 @@ returns-clause-planned g c = λ studio from kept late some.
       subst (λ (l : List ℤ). AreKept studio is next l) (sym after) left,
       after ∙ (planned_exactly studio was answer gains from next times kept late ∙ ap (λ (changes : List (ℤ × List ℤ)). planned_at studio changes next) (sym more)),
     )
+
+pub invariant_of-self-2 : goal.invariant_of-self-2
+invariant_of-self-2 c = grind (arith, elements)
+
+pub push_reserved-requires : goal.push_reserved-requires
+push_reserved-requires c = grind (arith, elements)
+
+pub returns-clause-kept : goal.returns-clause-kept
+returns-clause-kept c = grind (arith, elements)

@@ -1,4 +1,5 @@
-use Rattle.std.proofs.Common.{[], ◌∷◌, ◌++◌, inr, refl, sym, ap, ◌∙◌}
+use Rattle.std.proofs.lemmas.Grind.{elements}
+use Rattle.std.proofs.Common.{[], ◌∷◌, ◌++◌, inr, refl, sym, ap, ◌∙◌, arith}
 use Rattle.rtrb.specs.Ring.{received}
 use Rattle.live_status.proofs.gain_channel.run_gains.RunGains.take_next.Goals as goal
 
@@ -22,3 +23,15 @@ returns-in-Err-clause-none g c = λ none.
       taken = refl;
       sent_are = c.push_reserved.ensures.sent.0 ∙ ap (λ l. l ++ c.in-Err.outcome ∷ []) c.is_full.ensures.looked.1;
     })
+
+pub invariant_of-self-in-Err : goal.invariant_of-self-in-Err
+invariant_of-self-in-Err c = grind (arith, elements)
+
+pub returns-in_default-clause-none : goal.returns-in_default-clause-none
+returns-in_default-clause-none c = grind (arith, elements)
+
+pub returns-in-Ok-admit-clause-none : goal.returns-in-Ok-admit-clause-none
+returns-in-Ok-admit-clause-none c = grind (arith, elements)
+
+pub invariant_of-self-in-Ok-admit : goal.invariant_of-self-in-Ok-admit
+invariant_of-self-in-Ok-admit c = grind (arith, elements)

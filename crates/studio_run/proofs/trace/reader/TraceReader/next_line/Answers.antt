@@ -1,3 +1,4 @@
+use Rattle.std.proofs.lemmas.Grind.{elements}
 use Rattle.std.proofs.Common.{◌≡◌, ◌+◌, ◌-◌, ◌∷◌, ◌++◌, [], length, take, subst, sym, ◌∙◌, ap, arith}
 use Rattle.std.proofs.lemmas.List.{take_rest}
 use Rattle.std.specs.Prelude.{IfSome}
@@ -45,3 +46,24 @@ returns-in-None-clause-read c before has =
     let reads = subst (λ o. ReadsLine c.in-Ok.ensures.ok.line reader.events (said_by_line o)) c.in-None.is c.in-Ok.ensures.ok.reads in
     subst (λ front. GivesEvents front (reader.line + 1) reader.events (before ++ [])) (sym here.front)
     (gives-silent (take reader.at text) c.in-Ok.ensures.ok.line reader.line reader.events before has reads)
+
+pub overflow_sub-end : goal.overflow_sub-end
+overflow_sub-end c = grind (arith, elements)
+
+pub invariant_of-self : goal.invariant_of-self
+invariant_of-self c = grind (arith, elements)
+
+pub returns-in-Some-clause-further : goal.returns-in-Some-clause-further
+returns-in-Some-clause-further c = grind (arith, elements)
+
+pub returns-in-None-clause-further : goal.returns-in-None-clause-further
+returns-in-None-clause-further c = grind (arith, elements)
+
+pub overflow_sub-end-2 : goal.overflow_sub-end-2
+overflow_sub-end-2 c = grind (arith, elements)
+
+pub invariant_of-self-in-None : goal.invariant_of-self-in-None
+invariant_of-self-in-None c = grind (arith, elements)
+
+pub text_event-requires : goal.text_event-requires
+text_event-requires c = grind (arith, elements)

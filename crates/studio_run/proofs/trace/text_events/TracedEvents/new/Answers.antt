@@ -1,4 +1,6 @@
-use Rattle.std.proofs.Common.{rules, ◌≡◌, ◌∙◌, [], ◌∷◌, ◌++◌, All, Err, inl, map, sym, ap, refl, subst}
+use Rattle.std.proofs.lemmas.Nat.{rows}
+use Rattle.std.proofs.lemmas.Grind.{elements}
+use Rattle.std.proofs.Common.{rules, ◌≡◌, ◌∙◌, [], ◌∷◌, ◌++◌, All, Err, inl, map, sym, ap, refl, subst, arith}
 use Rattle.std.proofs.lemmas.List.{map-append}
 use Rattle.std.proofs.lemmas.List.Elements.{All-append, All-cons, All-nil}
 use Rattle.studio_run.specs.Trace.{BeginsWithEvents, fault_in}
@@ -35,3 +37,9 @@ returns-in_err-map_err-clause-fault c =
     let is : c.from_residual-in_err-map_err.result ≡ Err (fault_in 0 Memory) = search rules in
     let begins = gives-some reader.text.now reader.at reader.line reader.events _ _ (has (goal.at.returns-in_err-map_err-clause-fault c).In-Some) reader.few_octets in
     rw is (inl (refl, subst BeginsWithEvents (c.in_ok-place.ensures.text ∙ c.loop-places.invariant.text) begins))
+
+pub loop-places-smaller : goal.loop-places-smaller
+loop-places-smaller c = grind (arith, elements)
+
+pub returns-in_err-place-clause-fault : goal.returns-in_err-place-clause-fault
+returns-in_err-place-clause-fault c = grind (arith, rows)

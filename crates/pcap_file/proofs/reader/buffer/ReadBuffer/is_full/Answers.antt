@@ -1,0 +1,9 @@
+use Rattle.std.proofs.lemmas.Grind.{elements}
+use Rattle.std.proofs.Common.{arith}
+use Rattle.pcap_file.proofs.reader.buffer.ReadBuffer.is_full.Goals as goal
+
+pub returns-clause-full : goal.returns-clause-full
+returns-clause-full c = grind (arith, elements)
+
+pub returns-clause-room : goal.returns-clause-room
+returns-clause-room c = grind (arith, elements)
