@@ -24,7 +24,7 @@ pub(crate) const LONGEST_REST: i64 = 2_400;
 const FAULT_REST: i64 = 96;
 
 /// The outcome of one call of a feed.
-#[derive(Clone, Copy, PartialEq, Eq, Debug)]
+#[derive(Clone, Copy, PartialEq, Eq)]
 enum FeedOutcome {
     /// The feed returned a datagram, which the engine took.
     Datagram,

@@ -50,7 +50,7 @@ pub trait RunObserver<F>: Drop {
 }
 
 /// An observer that ignores all that it is notified of.
-#[derive(Clone, Copy, Debug)]
+#[derive(Clone, Copy)]
 pub struct NoObserver;
 
 impl<F> RunObserver<F> for NoObserver {

@@ -20,7 +20,7 @@ use studio_io::{Clock, Feed, GainSource, SendCounts, Sink};
 
 /// The error of an engine that takes no more events: it has taken 2^62, or was passed a datagram of a path that it does
 /// not have.
-#[derive(Clone, Copy, Debug)]
+#[derive(Clone, Copy)]
 pub(crate) struct EngineStopped;
 
 impl From<ArriveFault> for EngineStopped {

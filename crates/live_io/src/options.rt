@@ -1,7 +1,7 @@
 //! The options of a live run, in addition to its studio.
 
 /// The options of a live run: its end, its output while it runs, and its threads.
-#[derive(Clone, Copy, Debug, PartialEq, Eq)]
+#[derive(Clone, Copy, PartialEq, Eq)]
 pub struct LiveOptions {
     /// The sampling instants at 48 kHz after which the feeds end. If `None`, the clock does not end them.
     pub instants: Option<i64>,

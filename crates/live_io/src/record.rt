@@ -56,7 +56,7 @@ impl<'a> RecordChannel<'a> {
 }
 
 /// The state of a record while its run goes on.
-#[derive(Clone, Copy, Debug, PartialEq, Eq)]
+#[derive(Clone, Copy, PartialEq, Eq)]
 pub enum RecordState {
     /// The run has no record.
     None,

@@ -16,7 +16,7 @@ const MOST_APART_MICROS: u64 = 100;
 const MAX_TRIES: u32 = 100;
 
 /// The offset of TAI from the system's time of day.
-#[derive(Clone, Copy, Debug, PartialEq, Eq)]
+#[derive(Clone, Copy, PartialEq, Eq)]
 pub enum TaiOffset {
     /// TAI is this many seconds ahead.
     Seconds(u32),
@@ -25,7 +25,7 @@ pub enum TaiOffset {
 }
 
 /// A time, and the reading of the system's monotonic clock at that time.
-#[derive(Clone, Copy, Debug, PartialEq, Eq)]
+#[derive(Clone, Copy, PartialEq, Eq)]
 pub struct TaiTime {
     /// The time, in sampling instants at 48 kHz since 1970.
     pub at: i64,

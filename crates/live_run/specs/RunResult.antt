@@ -10,7 +10,7 @@ use Rattle.studio_io.specs.declared.report.WorkReport.{WorkReport}
 use Rattle.live_run.specs.declared.fault.LiveFault.{LiveFault}
 use Rattle.live_run.specs.declared.fault.LiveFault.TheVariants.{Memory, Socket, Page, Thread, RecordExists, Record, WavExists, Wav, PcmExists, Pcm, Unsettled, Write}
 
--- there is a feed for each path, which gives these answers
+-- there is a feed for each path, which returns these answers
 abbrev pub HasFeeds : Studio → List (List Answer) → Type 0
 HasFeeds studio answers = length answers ≡ path_total studio.streams
 

@@ -1,4 +1,4 @@
-//! The line with the addresses of a run: those of its paths, of the mix and of the page.
+//! The line with the addresses of a run: of its paths, of the mix and of the page.
 
 use crate::status::ServedPage;
 use live_io::Sockets;
@@ -36,7 +36,7 @@ fn write_line<S: ServedPage, W: Write>(
     writeln!(writer)
 }
 
-/// Writes the address of each path and those of the mix's two copies, as ` 0a=ADDRESS:PORT .. to_a=.. to_b=..`.
+/// Writes the address of each path and of the mix's two copies, as ` 0a=ADDRESS:PORT .. to_a=.. to_b=..`.
 fn write_addresses<W: Write>(
     studio: &StudioSpec,
     sockets: &Sockets<'_>,
@@ -51,7 +51,7 @@ fn write_addresses<W: Write>(
     write!(writer, " to_a={to_a} to_b={to_b}")
 }
 
-/// Writes the addresses of a stream's paths, of which the socket of the first has this index.
+/// Writes the addresses of a stream's paths. `first` is the index of the first path's socket.
 fn write_paths<W: Write>(
     stream: usize,
     paths: u8,

@@ -1,7 +1,7 @@
 //! A live run of a studio on real sockets, with one thread per path and stream or in a single thread.
 //!
 //! Begin with `run_studio_live`. It opens the sockets, runs the studio in the form that `LiveOptions`
-//! asks for until all feeds have ended, and writes the report. The caller passes the runtime, the
+//! selects until all feeds have ended, and writes the report. The caller passes the runtime, the
 //! memory, both writers and, for a record or a WAV file, its file.
 //!
 //! The modules, in the order of a run:
@@ -15,7 +15,7 @@
 //! - `workers` is the form with a thread for each path and stream and one for the mix,
 //!   `run_in_workers`.
 //! - `single_thread` is the form with an engine in one thread, `run_in_one_thread`. It waits by
-//!   poll(2) until a socket has a datagram. If a record is asked for, another thread writes it.
+//!   poll(2) until a socket has a datagram. If the run has a record, another thread writes it.
 //! - `report` writes the text of the final report.
 //! - `supervisor` is the thread that ends the feeds, as the options say or on a pending signal that
 //!   was blocked at the start, and runs the status task (`run_supervised`).

@@ -136,7 +136,7 @@ fn write_line(stream: usize, path: Path, rest: &[u8]) -> bool {
     line.push_number(stream);
     line.push(path.letter().as_bytes());
     line.push(rest);
-    // In one call, so that no other line comes between. An error is ignored: there is nowhere to tell of it.
+    // In one call, so that no other line comes between. An error is ignored: nothing is left that could report it.
     let _ = libc::write(STDERR, &line.octets[..line.len.min(MAX_LINE)]);
     true
 }

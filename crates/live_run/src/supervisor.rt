@@ -16,8 +16,8 @@ pub(crate) mod stop_conditions;
 pub(crate) mod stop_flags;
 
 /// The time between two polls, in milliseconds.
-// A signal or the end of input is found at most so much later, and lines are written at most so much later. Polling is
-// needed since the toolchain cannot handle or await a signal.
+// A signal or the end of input is found, and a line is written, at most 50 ms late. Polling is needed since the
+// toolchain cannot handle or await a signal.
 pub(crate) const POLL_INTERVAL_MS: u64 = 50;
 
 /// The task that publishes the status of a run from the supervisor's thread.

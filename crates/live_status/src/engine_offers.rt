@@ -8,10 +8,8 @@ use byteorder::{BigEndian, ByteOrder};
 use path_merge::{Fate, Path};
 use rtp_stats::CopyTracker;
 use rtp_stream::StreamSpec;
+use rtp_wire::HEADER_OCTETS;
 use std::alloc::{AllocError, Global};
-
-/// The number of octets of the fixed part of a packet's header (RFC 3550, 5.1).
-pub(crate) const RTP_HEADER_LEN: usize = 12;
 
 /// The sequence number and the timestamp of a packet.
 #[derive(Clone, Copy)]
@@ -30,7 +28,7 @@ pub(crate) fn numbers_of(octets: &[u8]) -> Option<PacketNumbers>
     ensures ts { IfSome result (λ numbers. numbers.ts ≡ (head_at octets.now).ts) }
     ensures none { IsNone result → length octets.now < 12 }
 {
-    if octets.len() < RTP_HEADER_LEN {
+    if octets.len() < HEADER_OCTETS {
         return None;
     }
     Some(PacketNumbers {

@@ -3,10 +3,8 @@ ghost use Rattle.std.specs.Prelude.{◌≡◌, ◌≤◌, min};
 ghost use Rattle.live_status.specs.Each.{AreEach};
 ghost use Rattle.live_status.specs.Outputs.{KeepsCount};
 
-use crate::engine_offers::RTP_HEADER_LEN;
-use crate::publisher::MAX_CHANNELS;
-use rtp_stats::raise_peaks;
-use rtp_wire::Enc;
+use rtp_stats::{MAX_CHANNELS, raise_peaks};
+use rtp_wire::{Enc, HEADER_OCTETS};
 use status_page::OutputState;
 use std::sync::atomic::{AtomicU32, Ordering};
 
@@ -46,7 +44,7 @@ impl Meter {
     /// Raises the peaks by the samples of a datagram of the mix. Ignores one that is shorter than a header.
     pub fn measure(&self, datagram: &[u8]) {
         // A header of the mix has no CSRC list and no extension, so the samples follow its fixed part.
-        if datagram.len() < RTP_HEADER_LEN || self.channels == 0 {
+        if datagram.len() < HEADER_OCTETS || self.channels == 0 {
             return;
         }
         // Collected here first, so that there is one atomic operation for each channel and not for each sample.
@@ -54,7 +52,7 @@ impl Meter {
         raise_peaks(
             &mut peaks[..self.channels],
             self.enc,
-            &datagram[RTP_HEADER_LEN..],
+            &datagram[HEADER_OCTETS..],
         );
         for (channel, peak) in self.peaks.iter().zip(peaks) {
             channel.fetch_max(peak, Ordering::SeqCst);

@@ -23,14 +23,12 @@ use crate::count_lines::CountLines;
 use crate::reception_watch::stream_watch::StreamWatch;
 use crate::reception_watch::{note_streams, show_watches, watches_of};
 use crate::stream_status::StreamStatus;
+use rtp_stats::MAX_CHANNELS;
 use rtp_stream::StreamSpec;
 use rtrb::Producer;
 use status_page::{OutputState, Snapshot, StreamName, StreamState};
 use std::alloc::{AllocError, Global};
 use std::io::Write;
-
-/// The greatest number of output channels.
-pub(crate) const MAX_CHANNELS: usize = 8;
 
 /// The period of snapshots, in sampling instants at 48 kHz: a tenth of a second.
 // The page asks for a snapshot ten times a second, and the workers send their statistics as often. The watches of the

@@ -8,7 +8,7 @@ use status_page::Condition;
 const LOST_AFTER: i64 = 48_000;
 
 /// The presence of a stream's signal.
-#[derive(Clone, Copy, Debug)]
+#[derive(Clone, Copy)]
 pub(crate) struct SignalPresence {
     /// The number of packets that were taken at the last update.
     taken: u64,

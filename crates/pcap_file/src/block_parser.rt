@@ -36,7 +36,7 @@ use crate::decode::record_mark::RecordMark;
 use crate::fault::{CaptureFault, CaptureFaultKind};
 
 /// A pcap record or a pcapng block: its length, and what it holds of interest.
-#[derive(Clone, Copy, Debug, PartialEq, Eq)]
+#[derive(Clone, Copy, PartialEq, Eq)]
 pub struct CaptureBlock<'a> {
     /// The length of the record or block in octets, with its header and padding.
     pub len: usize,

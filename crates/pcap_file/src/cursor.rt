@@ -5,7 +5,7 @@ use crate::decode::pcap::Pcap;
 use crate::decode::pcapng::Section;
 
 /// The format of a capture.
-#[derive(Clone, Copy, Debug, PartialEq, Eq)]
+#[derive(Clone, Copy, PartialEq, Eq)]
 pub(crate) enum Format {
     Pcap(Pcap),
     Pcapng,

@@ -19,7 +19,7 @@ pub(crate) mod record_mark;
 pub(crate) mod recorded_change;
 
 /// An IPv4 packet of UDP as it was captured. Its payload is borrowed from the capture's octets.
-#[derive(Clone, Copy, Debug, PartialEq, Eq)]
+#[derive(Clone, Copy, PartialEq, Eq)]
 pub struct Packet<'a> {
     /// The time in nanoseconds since 1970-01-01 00:00 UTC; a simple packet block has none.
     pub time: Option<u64>,

@@ -9,7 +9,7 @@ use crate::decode::endian::Endian;
 const MIN_BLOCK_LEN: usize = 12;
 
 /// The extent of the whole blocks in a prefix of some octets.
-#[derive(Clone, Copy, Debug, PartialEq, Eq)]
+#[derive(Clone, Copy, PartialEq, Eq)]
 pub struct WholeBlocks {
     /// The number of octets in these blocks.
     pub len: usize,

@@ -21,7 +21,7 @@ pub enum RecordEnd {
 }
 
 /// The error because of which no record is made.
-#[derive(Clone, Copy, Debug, PartialEq, Eq)]
+#[derive(Clone, Copy, PartialEq, Eq)]
 pub enum RecordFault {
     /// There is a file at its path, or something else.
     Exists,

@@ -29,7 +29,7 @@ pub(crate) const REFUSED_ROW: usize = 7;
 pub(crate) const RESTART_ROW: usize = 8;
 
 /// The kind of an event, which has a row in a strip.
-#[derive(Clone, Copy, Debug, PartialEq, Eq)]
+#[derive(Clone, Copy, PartialEq, Eq)]
 pub enum ReceptionKind {
     /// A packet was taken from a path.
     Taken(Path),
@@ -64,7 +64,7 @@ impl ReceptionKind {
 }
 
 /// The path and the arrival margin of a copy.
-#[derive(Clone, Copy, Debug, PartialEq, Eq)]
+#[derive(Clone, Copy, PartialEq, Eq)]
 pub struct CopyTiming {
     /// The path on which it arrived.
     pub path: Path,
@@ -74,7 +74,7 @@ pub struct CopyTiming {
 }
 
 /// An event of a stream's reception.
-#[derive(Clone, Copy, Debug, PartialEq, Eq)]
+#[derive(Clone, Copy, PartialEq, Eq)]
 pub struct ReceptionEvent {
     /// The media time of the packet or slot. For a packet off the grid, too early for the window or of an unexpected
     /// source, and before the first packet, it is the clock reading.

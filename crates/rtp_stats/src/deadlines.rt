@@ -49,7 +49,7 @@ fn deadline_from(known_ts: u32, known_at: i64, ts: u32) -> i64
 }
 
 /// The deadline of the last packet that was taken from a stream, from which the deadlines of other packets follow.
-#[derive(Debug, Drop)]
+#[derive(Drop)]
 pub struct Deadlines {
     known: bool,
     ts: u32,

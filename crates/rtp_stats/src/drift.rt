@@ -34,7 +34,7 @@ const LEAST_SECONDS: u64 = 10;
 const YEAR: u64 = 31_536_000;
 
 /// The drift of a path's arrival margin.
-#[derive(Clone, Copy, Debug, PartialEq, Eq)]
+#[derive(Clone, Copy, PartialEq, Eq)]
 pub struct Drift {
     /// The drift in parts per million, rounded to the nearest whole number. It is positive if packets come earlier and
     /// earlier: the sender's clock is faster than the receiver's.

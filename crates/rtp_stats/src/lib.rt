@@ -38,7 +38,7 @@ mod stats;
 mod tally;
 
 pub use channel::mix::{MixStatsReceiver, mix_stats_channel};
-pub use channel::mix_sender::MixStatsSender;
+pub use channel::mix_sender::{MAX_CHANNELS, MixStatsSender};
 pub use channel::path::{PathCountsReceiver, PathCountsSender, path_counts_channel};
 pub use channel::stream::{StreamStatsReceiver, StreamStatsSender, stream_stats_channel};
 pub use copy_tracker::CopyTracker;

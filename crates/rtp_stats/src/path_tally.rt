@@ -1,7 +1,7 @@
 //! The counts of one path's packets.
 
 /// The numbers of a path's packets by fate. Each stays at 2^64 - 1 once it is reached.
-#[derive(Clone, Copy, Debug, PartialEq, Eq)]
+#[derive(Clone, Copy, PartialEq, Eq)]
 pub struct PathTally {
     /// The packets that were the first copies of their numbers.
     pub first: u64,

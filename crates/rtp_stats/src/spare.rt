@@ -1,7 +1,7 @@
 //! The arrival margins of packets: the time between an arrival and the packet's deadline.
 
 /// The arrival margins of the packets of a second, in sampling instants at 48 kHz.
-#[derive(Clone, Copy, Debug, Default, PartialEq, Eq)]
+#[derive(Clone, Copy, Default, PartialEq, Eq)]
 pub struct ArrivalMargin {
     /// The number of the second, counted from the time 0.
     pub second: u64,

@@ -5,7 +5,7 @@ use crate::spare::ArrivalMargin;
 use rtp_stream::Counts;
 
 /// The statistics of the packets of one path.
-#[derive(Clone, Copy, Debug, PartialEq, Eq)]
+#[derive(Clone, Copy, PartialEq, Eq)]
 pub struct PathStats {
     /// The packets by fate, and the numbers that the path missed.
     pub tally: PathTally,
@@ -14,7 +14,7 @@ pub struct PathStats {
 }
 
 /// The statistics of a stream's packets, at one time of its merge.
-#[derive(Clone, Copy, Debug)]
+#[derive(Clone, Copy)]
 pub struct StreamStats {
     pub counts: Counts,
     /// The statistics of each path. A path that the stream does not have has counts of 0 and no arrival margin.
@@ -22,7 +22,7 @@ pub struct StreamStats {
 }
 
 /// The saturated samples of the mix at one time, and its peaks since the statistics before these.
-#[derive(Clone, Copy, Debug, PartialEq, Eq)]
+#[derive(Clone, Copy, PartialEq, Eq)]
 pub struct MixStats {
     /// The number of saturated samples of each channel; 0 for a channel that the output does not have.
     pub saturated: [u64; 8],

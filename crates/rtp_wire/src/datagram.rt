@@ -13,10 +13,8 @@ ghost use Rattle.rtp_wire.specs.Datagram.{
 };
 
 use crate::fault::WireFault;
+use crate::limits::HEADER_OCTETS;
 use byteorder::{BigEndian, ByteOrder};
-
-/// The octets of the fixed header.
-const HEADER_OCTETS: usize = 12;
 
 /// An RTP packet in a datagram: the fields of its header, and its payload, which is borrowed from the datagram.
 ///

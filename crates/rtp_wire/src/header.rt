@@ -2,6 +2,7 @@
 ghost use Rattle.std.specs.Prelude.{◌≡◌, ◌≤◌, ◌<◌, ◌++◌, length, drop};
 ghost use Rattle.rtp_wire.specs.Head.{head_octets, head_of};
 
+use crate::limits::HEADER_OCTETS;
 use byteorder::{BigEndian, ByteOrder};
 
 /// The fields of an RTP header without padding, extension and contributing sources.
@@ -31,5 +32,5 @@ pub fn write_head(out: &mut [u8], h: &RtpHead) -> usize
     BigEndian::write_u16(&mut out[2..], h.seq);
     BigEndian::write_u32(&mut out[4..], h.ts);
     BigEndian::write_u32(&mut out[8..], h.ssrc);
-    12
+    HEADER_OCTETS
 }

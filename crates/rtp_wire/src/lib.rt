@@ -25,6 +25,6 @@ pub use encoding::{Enc, Payload};
 pub use fault::WireFault;
 pub use header::{RtpHead, write_head};
 pub use laws::{datagrams_are_read_one_way, written_heads_read_back};
-pub use limits::MAX_ARRIVAL_OCTETS;
+pub use limits::{HEADER_OCTETS, MAX_ARRIVAL_OCTETS};
 pub use packet_time::is_packet_time;
 pub use samples::{read_samples, sample, write_sample, write_samples};

@@ -19,7 +19,7 @@ pub(crate) mod token;
 pub(crate) mod verdict;
 
 /// The outcome of a request that a `GainDesk` passed to a run.
-#[derive(Clone, Copy, Debug, PartialEq, Eq)]
+#[derive(Clone, Copy, PartialEq, Eq)]
 pub enum DeskAnswer {
     /// The run answered. The buffer has the gains that its answer shows.
     Answered {

@@ -6,7 +6,7 @@ pub(crate) mod path;
 pub(crate) mod stream;
 
 /// A number that is shown.
-#[derive(Clone, Copy, Debug, PartialEq, Eq)]
+#[derive(Clone, Copy, PartialEq, Eq)]
 pub(crate) enum Number {
     /// A number of things, or a time.
     Count(u64),
@@ -15,7 +15,7 @@ pub(crate) enum Number {
 }
 
 /// The kind of a number, as Prometheus has it.
-#[derive(Clone, Copy, Debug, PartialEq, Eq)]
+#[derive(Clone, Copy, PartialEq, Eq)]
 pub(crate) enum MetricKind {
     /// A number that only rises, from 0 at the start.
     Counter,

@@ -13,7 +13,7 @@ use rtp_stream::{Counts, PathCounts};
 pub type StreamName = ArrayString<64>;
 
 /// The condition of a stream.
-#[derive(Clone, Copy, Debug, PartialEq, Eq)]
+#[derive(Clone, Copy, PartialEq, Eq)]
 pub enum Condition {
     /// No packet of the stream was taken yet.
     NoPacket,
@@ -26,7 +26,7 @@ pub enum Condition {
 }
 
 /// The numbers of a path's packets by fate, in addition to the first copies.
-#[derive(Clone, Copy, Debug, PartialEq, Eq)]
+#[derive(Clone, Copy, PartialEq, Eq)]
 pub struct CopyCounts {
     /// The packets that the stream lost, and those that another path brought and this one did not, until a number one
     /// reorder window later was taken. A packet that the stream lost and this path brought late is in `late` too.
@@ -44,7 +44,7 @@ pub struct CopyCounts {
 }
 
 /// The state of the socket of a path. A number that the run does not know is `None`.
-#[derive(Clone, Copy, Debug, PartialEq, Eq)]
+#[derive(Clone, Copy, PartialEq, Eq)]
 pub struct SocketState {
     /// The number of receives that failed.
     pub faults: u64,
@@ -58,7 +58,7 @@ pub struct SocketState {
 }
 
 /// The state of a path. A number that the run does not know is `None`.
-#[derive(Clone, Copy, Debug)]
+#[derive(Clone, Copy)]
 pub struct PathState {
     /// The number of datagrams that arrived on the path.
     pub datagrams: u64,
@@ -135,7 +135,7 @@ impl Default for StreamState {
 }
 
 /// The state of an output channel.
-#[derive(Clone, Copy, Debug, Default, PartialEq, Eq)]
+#[derive(Clone, Copy, Default, PartialEq, Eq)]
 pub struct OutputState {
     /// The greatest magnitude of a sample since the snapshot before. Full scale is 8,388,608.
     pub peak: u32,
@@ -144,7 +144,7 @@ pub struct OutputState {
 }
 
 /// The state of a run's record.
-#[derive(Clone, Copy, Debug, PartialEq, Eq)]
+#[derive(Clone, Copy, PartialEq, Eq)]
 pub enum RecordState {
     /// The run has no record.
     Absent,
@@ -155,7 +155,7 @@ pub enum RecordState {
 }
 
 /// The state of a run's WAV file.
-#[derive(Clone, Copy, Debug, PartialEq, Eq)]
+#[derive(Clone, Copy, PartialEq, Eq)]
 pub enum WavState {
     /// The run has no WAV file.
     Absent,
@@ -166,7 +166,7 @@ pub enum WavState {
 }
 
 /// The numbers of blocks of a run's raw PCM.
-#[derive(Clone, Copy, Debug, PartialEq, Eq)]
+#[derive(Clone, Copy, PartialEq, Eq)]
 pub struct PcmBlocks {
     /// The number of blocks that were written.
     pub written: u64,
@@ -175,7 +175,7 @@ pub struct PcmBlocks {
 }
 
 /// The state of a run's raw PCM.
-#[derive(Clone, Copy, Debug, PartialEq, Eq)]
+#[derive(Clone, Copy, PartialEq, Eq)]
 pub enum PcmState {
     /// The run writes no raw PCM.
     Absent,

@@ -26,7 +26,7 @@ pub struct MixEnd {
 }
 
 /// The result of `MixEnd::turn`.
-#[derive(Clone, Copy, Debug)]
+#[derive(Clone, Copy)]
 pub struct MixNote {
     /// The number of marks that it took of all streams, at most 64 of each.
     pub taken: u32,

@@ -31,7 +31,7 @@ pub struct PathEnd {
 }
 
 /// The outcome of `PathEnd::offer`: the first of these that applies. Each but `CountersFull` is counted.
-#[derive(Clone, Copy, PartialEq, Eq, Debug)]
+#[derive(Clone, Copy, PartialEq, Eq)]
 pub enum Offer {
     /// 2^62 datagrams were offered before. This one is not counted.
     CountersFull,

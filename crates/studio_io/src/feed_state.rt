@@ -9,7 +9,7 @@ use crate::feed::FeedAnswer;
 const MAX_FAULTS_IN_A_ROW: u32 = 1_000;
 
 /// The state of reading a feed.
-#[derive(Clone, Copy, Debug)]
+#[derive(Clone, Copy)]
 pub struct FeedState {
     /// The number of faults that the feed returned in a row, at most 999.
     pub in_a_row: u32,

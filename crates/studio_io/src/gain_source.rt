@@ -23,7 +23,7 @@ pub const MAX_GAINS: usize = 8_192;
 pub const MAX_REQUESTS: u32 = 64;
 
 /// A request of a `GainSource`.
-#[derive(Clone, Copy, PartialEq, Eq, Debug)]
+#[derive(Clone, Copy, PartialEq, Eq)]
 pub struct GainRequest {
     /// The time that the request is about, in sampling instants of the media clock; `None` is the start of the next
     /// block.
@@ -33,7 +33,7 @@ pub struct GainRequest {
 }
 
 /// The change that a request asks for. Gains are in units of 1/65,536.
-#[derive(Clone, Copy, PartialEq, Eq, Debug)]
+#[derive(Clone, Copy, PartialEq, Eq)]
 pub enum GainAction {
     /// From the time on the gains of the buffer are to be in force, row by row, a row for each output channel.
     SetAll,
@@ -87,7 +87,7 @@ pub trait GainSource: Drop {
 }
 
 /// A source without requests.
-#[derive(Clone, Copy, Debug)]
+#[derive(Clone, Copy)]
 pub struct NoGains;
 
 impl GainSource for NoGains {

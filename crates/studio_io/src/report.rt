@@ -10,7 +10,7 @@ use thiserror::Error;
 
 /// The report of a run: the counts of each stream, the faults of each feed, and the datagrams of the mix by the result
 /// of sending them.
-#[derive(Debug, Drop)]
+#[derive(Drop)]
 pub struct WorkReport {
     /// The counts of each stream.
     pub streams: Vec<StreamCounts>,

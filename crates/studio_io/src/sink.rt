@@ -3,7 +3,7 @@ ghost use Rattle.std.specs.Prelude.{◌≡◌, ◌+◌, ◌<◌, ◌^◌, List, 
 ghost use Rattle.studio_io.specs.Sinks.{Hands};
 
 /// The result of `Sink::send` for each of the two addresses: true if it took the datagram.
-#[derive(Clone, Copy, PartialEq, Eq, Debug)]
+#[derive(Clone, Copy, PartialEq, Eq)]
 pub struct SendAnswer {
     /// True if the first address took the datagram.
     pub a: bool,
@@ -23,7 +23,7 @@ pub trait Sink: Drop {
 }
 
 /// The numbers of datagrams that a sink was passed. At each address the sent and the failed ones add up to all of them.
-#[derive(Clone, Copy, Debug)]
+#[derive(Clone, Copy)]
 pub struct SendCounts {
     /// The number of all datagrams.
     pub blocks: u64,

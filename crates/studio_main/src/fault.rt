@@ -116,7 +116,7 @@ impl ProgramFault {
 fn config_hint(fault: ConfigFault) -> Option<&'static str> {
     match fault {
         ConfigFault::NotToml => Some(CONFIG_HINT),
-        // The line of a missing key says all, and `check` asks for no ports.
+        // The line of a missing key says all, and `check` needs no ports.
         ConfigFault::Studio(error) if error.kind == SpecErrorKind::Missing => None,
         ConfigFault::Studio(_) => Some(CONFIG_HINT),
         ConfigFault::Unread | ConfigFault::TooLong => None,

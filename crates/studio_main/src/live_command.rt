@@ -38,7 +38,7 @@ struct OpenedStudio {
 /// Runs the studio of a configuration's octets over sockets, and writes its report to `output`. If counts are asked for
 /// while it runs, they go to `faults`. Files are the host's. Returns the first fault: of the clock that times the WAV
 /// files, of the configuration, of the offset or the time of `--clock`, of the token's file, of a missing port or an
-/// inherited socket, of the run's files, or of the run. With `--verbose` that of a device is explained.
+/// inherited socket, of the run's files, or of the run. With `--verbose` the fault of a device is explained.
 pub(crate) fn run_live<
     R: Threads + Wait + Sync + Net + Clock + RandomSource + Env + AllocGlobal,
     H: LiveHost,
@@ -99,7 +99,7 @@ fn load_and_run<
     )
 }
 
-/// Runs a studio with its inputs, and with the files that are asked for. Writes the report and the lines after it.
+/// Runs a studio with its inputs, and with the files that its options name. Writes the report and the lines after it.
 fn run_loaded<
     R: Threads + Wait + Sync + Net + Clock + RandomSource + Env + AllocGlobal,
     H: LiveHost,
@@ -201,7 +201,7 @@ fn load_inputs<R: Env + AllocGlobal>(
     })
 }
 
-/// Returns the inherited sockets, or none if they are not asked for.
+/// Returns the inherited sockets, or none without `--listen-fds`.
 fn inherited_sockets<R: Env + AllocGlobal>(
     rt: &R,
     alloc: Global,
@@ -244,7 +244,7 @@ fn finish<W: Write>(
 }
 
 /// Writes the lines after the report: the opening time, if the run opened by International Atomic Time, the datagrams
-/// from unexpected sources, the datagrams of the record, the blocks of the WAV file and those of the raw PCM, each if
+/// from unexpected sources, the datagrams of the record, the blocks of the WAV file and of the raw PCM, each if
 /// there is one.
 fn write_after_report<W: Write>(
     studio: &StudioSpec,
@@ -312,7 +312,7 @@ fn open_studio<R: Clock>(
     })
 }
 
-/// Returns the present International Atomic Time, by the offset that a word gives.
+/// Returns the present International Atomic Time, by the offset in a word.
 fn present_tai<R: Clock>(rt: &R, word: &str) -> Result<TaiTime, ProgramFault> {
     match tai_now(rt, offset_of(word)?) {
         Some(present) => Ok(present),
@@ -325,7 +325,7 @@ fn wav_parts<R: Clock>(rt: &R, args: LiveArgs<'_>) -> Result<Option<AudioParts>,
     let Some(minutes) = args.wav_minutes else {
         return Ok(None);
     };
-    // An offset of 0 seconds gives the time of day in UTC.
+    // With an offset of 0 seconds this is the time of day in UTC.
     let present = tai_now(rt, TaiOffset::Seconds(0)).and_then(|now| u64::try_from(now.at).ok());
     match present {
         Some(at) => Ok(Some(AudioParts {
@@ -336,7 +336,7 @@ fn wav_parts<R: Clock>(rt: &R, args: LiveArgs<'_>) -> Result<Option<AudioParts>,
     }
 }
 
-/// Returns the offset that a word gives: a number of seconds, or `system`.
+/// Returns the offset in a word: a number of seconds, or `system`.
 fn offset_of(word: &str) -> Result<TaiOffset, ProgramFault> {
     if word == "system" {
         return Ok(TaiOffset::System);

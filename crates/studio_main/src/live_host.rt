@@ -1,4 +1,4 @@
-//! The host of a live run: in addition to that of the commands, the files that a run creates.
+//! The host of a live run: the host of the commands, and the files that a run creates.
 ghost use Rattle.std.specs.Prelude.{IfOk, []};
 ghost use Rattle.pcap_file.specs.RecordFile.{Holds};
 
@@ -28,7 +28,7 @@ pub(crate) trait LiveHost: Host + TokenFiles + SystemErrors {
     fn create_record(&self, path: &str) -> Result<Self::Record, RecordFault>
         ensures empty { IfOk result (λ file. Holds (Self.Record.Write.contents file) []) };
 
-    /// Returns the WAV files of the mix, none of which is created yet: one at this path, or, if the time of the first
+    /// Returns the WAV files of the mix, still to be created: one at this path, or, if the time of the first
     /// sample is given, one after another, each with its own time in its name. Returns `AllocError` if an allocation
     /// fails.
     fn wav_files(

@@ -13,7 +13,7 @@ use wav_file::{PcmEnd, PcmOutput, PcmRoom};
 const STDOUT: i32 = 1;
 
 /// The greatest number of octets that are written at once.
-// PIPE_BUF of Linux: a pipe that poll(2) reports as ready has room for so many, so that the write does not block.
+// PIPE_BUF of Linux: a pipe that poll(2) reports as ready has room for this many octets, so the write does not block.
 const MAX_WRITE: usize = 4096;
 
 /// The output of a live run's raw PCM, which reports its end on standard error.

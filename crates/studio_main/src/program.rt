@@ -66,7 +66,7 @@ fn report_usage<W: Write, E: Write>(error: &Error, output: &mut W, faults: &mut 
     }
 }
 
-/// Runs the command that the words ask for.
+/// Runs the command that the words name.
 fn dispatch<R: Threads + Wait + Sync + Net + Clock + RandomSource + Env + AllocGlobal, H: LiveHost>(
     rt: &R,
     alloc: Global,

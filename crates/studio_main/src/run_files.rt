@@ -18,7 +18,7 @@ pub(crate) struct RunPath<'h, 'p, H> {
     begins: Option<u64>,
 }
 
-/// The paths at which a run creates its files, each if it is asked for.
+/// The paths at which a run creates its files, each if it is wanted.
 #[derive(Clone, Copy)]
 pub(crate) struct RunFiles<'h, 'p, H> {
     pub(crate) record: Option<RunPath<'h, 'p, H>>,
@@ -55,7 +55,7 @@ fn file_of(path: &str) -> Option<&str> {
     if path == "-" { None } else { Some(path) }
 }
 
-/// Returns the paths of the files that are asked for. `begins` is the time of the first sample, if each WAV file has
+/// Returns the paths of the files that are wanted. `begins` is the time of the first sample, if each WAV file has
 /// its time in its name. Returns a fault if something is at one of them, other than a FIFO for raw PCM, if two of them
 /// are one file, or if an allocation fails.
 pub(crate) fn files_of<'h, 'p, H: LiveHost>(
@@ -79,7 +79,7 @@ pub(crate) fn files_of<'h, 'p, H: LiveHost>(
     })
 }
 
-/// Refuses files that are asked for if something is at one of them, other than a FIFO for raw PCM, or two of them are
+/// Refuses the wanted files if something is at one of their paths, other than a FIFO for raw PCM, or two of them are
 /// one file. `wav` is the path of the first WAV file.
 fn refuse_files<H: LiveHost>(
     host: &H,

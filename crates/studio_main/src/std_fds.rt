@@ -8,7 +8,7 @@ const NULL_DEVICE: &[u8] = b"/dev/null";
 // Without that a file or a socket could get one of them: the report would be written into a record or sent to a
 // network.
 pub(crate) fn open_missing_fds() {
-    // The system gives the least free descriptor, so one past 2 says that all three are open.
+    // The system returns the least free descriptor, so one past 2 says that all three are open.
     for _ in 0..3u32 {
         let file = os::open_read(NULL_DEVICE);
         if file > 2 {

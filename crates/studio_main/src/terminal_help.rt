@@ -41,7 +41,7 @@ pub(crate) fn write_hint<E: Write>(hint: Option<&str>, faults: &mut E) {
     }
 }
 
-/// Returns the program's help, as the command line gives it for `--help`.
+/// Returns the program's help, as `--help` prints it.
 fn help_of(alloc: Global) -> Result<Option<Error>, AllocError> {
     let mut words = Vec::new(alloc);
     words.push(String::from_str(alloc, "--help")?)?;

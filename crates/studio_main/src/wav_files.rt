@@ -28,7 +28,7 @@ pub(crate) struct SystemWavFiles<'a> {
 }
 
 impl<'a> SystemWavFiles<'a> {
-    /// Returns the files at a path, none of which is created yet.
+    /// Returns the files at a path, still to be created.
     pub(crate) fn new(
         host: SystemHost<'a>,
         alloc: Global,

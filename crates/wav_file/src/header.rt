@@ -17,7 +17,7 @@ use arrayvec::ArrayVec;
 use rtp_wire::Enc;
 
 /// The format of a WAV file's samples at 48 kHz. The channels of a sampling instant are next to each other.
-#[derive(Clone, Copy, Debug, PartialEq, Eq)]
+#[derive(Clone, Copy, PartialEq, Eq)]
 pub struct WavFormat {
     /// The encoding: samples of 16 bits (L16) or 24 bits (L24).
     pub enc: Enc,

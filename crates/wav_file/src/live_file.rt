@@ -20,7 +20,7 @@ pub enum WavEnd {
 }
 
 /// The error because of which a live run has no WAV file.
-#[derive(Clone, Copy, Debug, PartialEq, Eq)]
+#[derive(Clone, Copy, PartialEq, Eq)]
 pub enum LiveWavFault {
     /// There is a file at its path, or something else.
     Exists,

@@ -16,7 +16,7 @@ pub enum PcmEnd {
 }
 
 /// The error because of which a live run has no output of raw PCM.
-#[derive(Clone, Copy, Debug, PartialEq, Eq)]
+#[derive(Clone, Copy, PartialEq, Eq)]
 pub enum PcmFault {
     /// There is something at its path that is no FIFO.
     Exists,
@@ -25,7 +25,7 @@ pub enum PcmFault {
 }
 
 /// The readiness of an output of raw PCM.
-#[derive(Clone, Copy, Debug, PartialEq, Eq)]
+#[derive(Clone, Copy, PartialEq, Eq)]
 pub enum PcmRoom {
     /// A write does not block.
     Ready,

@@ -22,7 +22,7 @@ const HEADER_OCTETS: u64 = 80;
 ///
 /// `push` writes samples, and `renew` sets the sizes while samples are still to come. Call `finish_synced` after the
 /// last of them, or `cut_and_finish` after a call that failed.
-#[derive(Debug, Drop)]
+#[derive(Drop)]
 pub struct LiveWav {
     format: WavFormat,
     /// The chunk before the format, or no octet.

@@ -29,7 +29,7 @@ pub struct WavFault;
 ///
 /// `push` and `push_silence` write samples. Call `finish` after the last of them, or `finish_partial` after one that
 /// failed. Until then the header has the sizes of an empty file.
-#[derive(Debug, Drop)]
+#[derive(Drop)]
 pub struct WavWriter {
     format: WavFormat,
     /// The number of octets of data.

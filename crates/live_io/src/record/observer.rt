@@ -40,7 +40,7 @@ use studio_config::StudioSpec;
 const FIRST_LETTER: u8 = b'a';
 
 /// The path on which a datagram arrived, and its two addresses.
-#[derive(Clone, Copy, Debug, PartialEq, Eq)]
+#[derive(Clone, Copy, PartialEq, Eq)]
 pub struct DatagramOrigin {
     /// The path's index among the paths of all streams, ordered by stream and then by path.
     pub path_index: u32,

@@ -24,7 +24,7 @@ const BUFFER_OCTETS: usize = 65_536;
 const PAUSE_MS: u64 = 10;
 
 /// The result of writing a record's file.
-#[derive(Clone, Copy, Debug, PartialEq, Eq)]
+#[derive(Clone, Copy, PartialEq, Eq)]
 pub struct FileResult {
     /// The number of datagrams in the whole blocks that were written.
     pub datagrams: u64,
@@ -35,7 +35,7 @@ pub struct FileResult {
 }
 
 /// The blocks that are left of a write that failed.
-#[derive(Clone, Copy, Debug, PartialEq, Eq)]
+#[derive(Clone, Copy, PartialEq, Eq)]
 pub(crate) struct FailedWrite {
     /// The extent of the whole blocks that were written.
     pub(crate) kept: WholeBlocks,

@@ -8,7 +8,7 @@ use std::net::Ipv4Addr;
 use studio_config::{Networks, StudioSpec};
 
 /// The local address and the source address of a path.
-#[derive(Clone, Copy, Debug, PartialEq, Eq)]
+#[derive(Clone, Copy, PartialEq, Eq)]
 pub struct PathAddress {
     /// The address to bind.
     pub at: Ipv4Addr,

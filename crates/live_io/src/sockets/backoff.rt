@@ -14,7 +14,7 @@ const LONGEST_DELAY: u32 = 48_000;
 const MOST_FAULTS: u32 = 1_000;
 
 /// The back-off of a socket that fails: its faults since the last datagram, and the time of the next attempt.
-#[derive(Clone, Copy, Debug)]
+#[derive(Clone, Copy)]
 pub struct FaultBackoff {
     /// The number of faults since the last datagram, at most 1,000.
     faults: u32,

@@ -12,7 +12,7 @@ const MAX_PATHS: u8 = 4;
 const FIRST_LETTER: u8 = b'a';
 
 /// The role of a socket.
-#[derive(Clone, Copy, Debug, PartialEq, Eq)]
+#[derive(Clone, Copy, PartialEq, Eq)]
 pub enum SocketRole {
     /// It receives a path: the stream's number, and the path's from 0 to 3.
     Path(u8, u8),

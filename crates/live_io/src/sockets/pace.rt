@@ -51,7 +51,7 @@ fn rest_before_reading(spec: &StreamSpec) -> u32
 }
 
 /// The wait that follows once a socket is empty.
-#[derive(Clone, Copy, PartialEq, Eq, Debug)]
+#[derive(Clone, Copy, PartialEq, Eq)]
 pub enum ReceiveWait {
     /// A rest of this many sampling instants, since packets flow.
     Rest(u32),
@@ -63,7 +63,7 @@ pub enum ReceiveWait {
 ///
 /// While packets flow the socket is read until it is empty, and then again after a rest. So the sender's calls wake
 /// nobody, and a thread wakes once for all datagrams of a rest.
-#[derive(Clone, Copy, Debug)]
+#[derive(Clone, Copy)]
 pub struct ReceivePace {
     /// The rest while packets flow, in sampling instants.
     rest: u32,

@@ -18,7 +18,7 @@ use std::alloc::Global;
 use studio_config::{ConfigTable, Key, Ports, SpecError, SpecErrorKind, StudioSpec};
 
 /// The ports of a live run.
-#[derive(Debug, Drop)]
+#[derive(Drop)]
 pub struct LivePorts {
     /// The port at which each path is received, ordered by stream and then by path.
     pub paths: Vec<u16>,

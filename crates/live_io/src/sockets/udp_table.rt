@@ -20,7 +20,7 @@ const DROPS_FIELD: u32 = 12;
 const MAX_READS: u32 = 65_536;
 
 /// A socket as a table of the kernel lists it.
-#[derive(Clone, Copy, Debug, PartialEq, Eq)]
+#[derive(Clone, Copy, PartialEq, Eq)]
 pub struct SocketRow {
     /// The socket's inode.
     pub inode: u64,

@@ -118,7 +118,7 @@ fn with_audio<
     let Some(audio) = audio else {
         return run();
     };
-    // As that of the raw PCM, the writer ends once its tap was dropped, and sets its result itself.
+    // Like the writer of raw PCM, this one ends once its tap was dropped, and sets its result itself.
     let (_written, ran) = with_scoped_thread(
         rt,
         move || {

@@ -137,7 +137,7 @@ fn record_change(
     }
 }
 
-/// Returns the number of the block that begins at a time: so many blocks are before it.
+/// Returns the number of the block that begins at a time, which is the number of blocks before it.
 fn block_number(output: &OutSpec, start: i64) -> u64
     ensures { (number : ℕ) → start ≡ block_start output.now number → result ≡ number }
 {

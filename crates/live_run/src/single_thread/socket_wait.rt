@@ -33,7 +33,7 @@ const THREE_INSTANTS: u64 = 62_500;
 const QUIET_WAIT: i32 = 4;
 
 /// The longest wait for a datagram in milliseconds, if gains can be changed while the run goes on.
-// A run asks for changes between two waits, so a change waits at most so long in the thread that serves the page.
+// A run looks for changes between two waits, so a change is kept waiting in the page's thread for at most this long.
 const CONTROLLED_WAIT: i32 = 10;
 
 /// The descriptor that makes `poll` pass over its place.
@@ -129,7 +129,7 @@ impl<'a, R: Wait + Clock> SocketWait<'a, R> {
         self.ready.iter().any(|ready| ready.load(Ordering::SeqCst))
     }
 
-    /// Rests for so many sampling instants, and then sets the flags of the sockets that have a datagram.
+    /// Rests for this many sampling instants, and then sets the flags of the sockets that have a datagram.
     fn rest(&mut self, instants: u32) {
         let nanoseconds = u64::from(instants) * THREE_INSTANTS / 3;
         self.parker
@@ -137,7 +137,7 @@ impl<'a, R: Wait + Clock> SocketWait<'a, R> {
         self.poll(0);
     }
 
-    /// Waits until a socket has a datagram, but for at most so many sampling instants in whole milliseconds, or
+    /// Waits until a socket has a datagram, but for at most this many sampling instants in whole milliseconds, or
     /// `QUIET_WAIT` if that is more, and never longer than the longest wait. Then sets the flags of the sockets that
     /// have a datagram.
     fn wait(&mut self, instants: u64) {
@@ -157,7 +157,7 @@ impl<'a, R: Wait + Clock> SocketWait<'a, R> {
         }
     }
 
-    /// Polls the sockets for so many milliseconds at most, and sets the flags of those that have a datagram. If the
+    /// Polls the sockets for at most this many milliseconds, and sets the flags of those that have a datagram. If the
     /// system returns an error, any socket may have one.
     fn poll(&mut self, limit: i32) {
         self.leave_out_failed();

@@ -46,7 +46,7 @@ struct SignalSets {
     ignored: u64,
 }
 
-/// The greatest length of a line with a set in octets. Of a longer line only so many octets are kept.
+/// The greatest length of a line with a set, in octets. Of a longer line only the first of them are kept.
 const MAX_LINE: usize = 32;
 
 /// A scan of the text of a process's `/proc/PID/status`, octet by octet.

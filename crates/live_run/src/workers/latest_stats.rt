@@ -25,7 +25,7 @@ pub(crate) struct LatestStats {
 }
 
 impl LatestStats {
-    /// Returns statistics of so many paths and streams, of which none were sent yet. Allocates all their memory, and
+    /// Returns statistics of this many paths and streams, all of them still unsent. Allocates all their memory, and
     /// returns `AllocError` if that fails.
     pub(crate) fn empty(
         alloc: Global,

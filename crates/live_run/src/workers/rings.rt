@@ -19,7 +19,7 @@ pub(crate) struct Rings {
     pub(crate) receivers: Option<StatsReceivers>,
 }
 
-/// Returns the rings of a studio with so many paths. Returns `LiveFault::Socket` if the studio has another number of
+/// Returns the rings of a studio that has this many paths. Returns `LiveFault::Socket` if it has another number of
 /// paths, and `LiveFault::Memory` if an allocation fails.
 pub(crate) fn open_rings(
     alloc: Global,

@@ -42,7 +42,7 @@ impl<R: time::Clock, E: Write + Drop> StatusTask for WorkerStatusTask<'_, R, E> 
         }
     }
 
-    /// Publishes the last statistics that the workers sent, as those of a run that has ended.
+    /// Publishes the last statistics that the workers sent, with the run shown as ended.
     fn publish_last(&mut self) {
         let now = self.clock.now();
         self.publish(now, true);

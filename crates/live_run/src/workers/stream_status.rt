@@ -38,7 +38,7 @@ fn fill_stream_at(
     }
 }
 
-/// Returns the counts after those of so many paths.
+/// Returns the counts behind the counts of the first `paths` paths.
 fn counts_past(counts: &[Option<PathCounts>], paths: usize) -> &[Option<PathCounts>]
     ensures { result.now ≡ drop paths counts.now }
 {

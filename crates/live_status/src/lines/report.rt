@@ -8,7 +8,7 @@ use std::io::Write;
 use studio_run::{TextBuffer, WriteFault, push_count};
 
 /// The counts of a sink: the datagrams of the output, and how many were sent to each of its two addresses.
-#[derive(Clone, Copy, Debug, PartialEq, Eq)]
+#[derive(Clone, Copy, PartialEq, Eq)]
 pub struct SinkCounts {
     /// The number of datagrams of the output.
     pub blocks: u64,

@@ -6,7 +6,7 @@ ghost use Rattle.live_status.specs.Watch.{count_after, is_still};
 const STILL_AFTER: i64 = 96_000;
 
 /// A count of packets, and the time since which no packet was added.
-#[derive(Clone, Copy, Debug)]
+#[derive(Clone, Copy)]
 pub(crate) struct CountWatch {
     count: u64,
     /// The time of the first update with this count, in sampling instants.

@@ -5,7 +5,7 @@ ghost use Rattle.pcap_file.specs.Octets.{number_at};
 use byteorder::{BigEndian, ByteOrder, LittleEndian};
 
 /// The byte order of a capture's numbers.
-#[derive(Clone, Copy, Debug, PartialEq, Eq)]
+#[derive(Clone, Copy, PartialEq, Eq)]
 pub enum Endian {
     /// The most significant octet comes first.
     Big,

@@ -13,7 +13,7 @@ const NAME: u16 = 2;
 const DESCRIPTION: u16 = 3;
 
 /// The name and the description of an interface. Both are borrowed from the block, and empty if it has no such option.
-#[derive(Clone, Copy, Debug, PartialEq, Eq)]
+#[derive(Clone, Copy, PartialEq, Eq)]
 pub struct InterfaceTexts<'a> {
     /// The option `if_name`.
     pub name: &'a [u8],

@@ -17,7 +17,7 @@ const UDP_HEADER: usize = 8;
 const UDP: u8 = 17;
 
 /// An IPv4 packet of UDP, whose payload is borrowed.
-#[derive(Clone, Copy, Debug, PartialEq, Eq)]
+#[derive(Clone, Copy, PartialEq, Eq)]
 pub struct UdpPacket<'a> {
     /// The address of the sender.
     pub source: Ipv4Addr,
@@ -28,7 +28,7 @@ pub struct UdpPacket<'a> {
 }
 
 /// The body of an IPv4 packet of UDP.
-#[derive(Clone, Copy, Debug, PartialEq, Eq)]
+#[derive(Clone, Copy, PartialEq, Eq)]
 pub enum UdpBody<'a> {
     /// A whole datagram.
     Datagram(UdpDatagram<'a>),
@@ -39,7 +39,7 @@ pub enum UdpBody<'a> {
 }
 
 /// A UDP datagram. Its checksum isn't tested: a sender's network card often fills it in after the capture.
-#[derive(Clone, Copy, Debug, PartialEq, Eq)]
+#[derive(Clone, Copy, PartialEq, Eq)]
 pub struct UdpDatagram<'a> {
     /// The sender's port.
     pub source_port: u16,

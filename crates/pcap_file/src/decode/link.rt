@@ -5,7 +5,7 @@ ghost use Rattle.pcap_file.specs.LinkType as spec;
 use crate::decode::endian::Endian;
 
 /// The type of a link, which says what header comes before an IP packet.
-#[derive(Clone, Copy, Debug, Default, PartialEq, Eq)]
+#[derive(Clone, Copy, Default, PartialEq, Eq)]
 pub enum LinkType {
     /// The protocol's family in four octets, in the order of the machine that captured (`NULL`).
     Null,

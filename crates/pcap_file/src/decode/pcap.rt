@@ -24,14 +24,14 @@ const MICROSECONDS: u32 = 0xa1b2_c3d4;
 const NANOSECONDS: u32 = 0xa1b2_3c4d;
 
 /// The unit of the second word of a record's time; the first has whole seconds.
-#[derive(Clone, Copy, Debug, PartialEq, Eq)]
+#[derive(Clone, Copy, PartialEq, Eq)]
 pub(crate) enum TimeUnit {
     Microsecond,
     Nanosecond,
 }
 
 /// The fields of a pcap file's header by which its records are read.
-#[derive(Clone, Copy, Debug, PartialEq, Eq)]
+#[derive(Clone, Copy, PartialEq, Eq)]
 pub(crate) struct Pcap {
     pub(crate) order: Endian,
     pub(crate) unit: TimeUnit,

@@ -27,7 +27,7 @@ const MAX_INTERFACES: usize = 65;
 const EMPTY_BLOCK: usize = 12;
 
 /// The kind of a block, by its type.
-#[derive(Clone, Copy, Debug, PartialEq, Eq)]
+#[derive(Clone, Copy, PartialEq, Eq)]
 pub(crate) enum BlockKind {
     SectionHeader,
     Interface,

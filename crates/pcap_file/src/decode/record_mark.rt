@@ -14,7 +14,7 @@ const COMMENT: u16 = 1;
 const USER_APPLICATION: u16 = 4;
 
 /// The mark of a record's opening or close, with its time.
-#[derive(Clone, Copy, Debug, PartialEq, Eq)]
+#[derive(Clone, Copy, PartialEq, Eq)]
 pub enum RecordMark {
     /// A section header of `darbexum`: the time at which the studio was opened, in sampling instants at 48 kHz, below
     /// 2^63.

@@ -7,7 +7,7 @@ use crate::encode::recorded_change::{GAIN_LEN, GAINS_PLACE};
 use byteorder::{BigEndian, ByteOrder};
 
 /// A recorded change without its gains.
-#[derive(Clone, Copy, Debug, PartialEq, Eq)]
+#[derive(Clone, Copy, PartialEq, Eq)]
 pub struct ChangeHead {
     /// The time from which the gains are in force, in sampling instants since the studio was opened.
     pub at: i64,

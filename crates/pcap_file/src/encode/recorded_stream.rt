@@ -13,7 +13,7 @@ use itoa::Buffer;
 pub type Description = ArrayVec<u8, 128>;
 
 /// The configuration of a stream, as a record has it.
-#[derive(Clone, Copy, Debug, PartialEq, Eq)]
+#[derive(Clone, Copy, PartialEq, Eq)]
 pub struct RecordedStream {
     /// The number of bits of a sample: 16 of L16, and 24 of L24.
     pub bits: u8,

@@ -6,7 +6,7 @@ ghost use Rattle.reception_chart.specs.Axis.{length_between, span_of};
 pub(crate) const MAX_BINS: usize = 480;
 
 /// A stretch of media time in adjacent intervals, in sampling instants at 48 kHz.
-#[derive(Clone, Copy, Debug, PartialEq, Eq)]
+#[derive(Clone, Copy, PartialEq, Eq)]
 pub(crate) struct Axis {
     /// The media time at which the first interval begins.
     pub first: i64,

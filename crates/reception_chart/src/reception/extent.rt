@@ -3,7 +3,7 @@ use crate::reception::{ReceptionEvent, ReceptionKind, ReceptionObserver};
 
 /// The media time from the first to the last packet that was taken or lost, in sampling instants at 48 kHz, and the
 /// greatest arrival margin.
-#[derive(Clone, Copy, Debug, PartialEq, Eq)]
+#[derive(Clone, Copy, PartialEq, Eq)]
 pub struct Extent {
     /// The sampling instants of a packet.
     frames: u16,

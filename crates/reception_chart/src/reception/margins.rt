@@ -6,7 +6,7 @@ use path_merge::Path;
 pub(crate) const MARGIN_BINS: usize = 96;
 
 /// The arrival margins of a path's copies.
-#[derive(Clone, Copy, Debug, PartialEq, Eq)]
+#[derive(Clone, Copy, PartialEq, Eq)]
 pub(crate) struct PathMargins {
     /// The number of copies in time in each interval before their deadlines; the first interval is next to the
     /// deadline.

@@ -8,12 +8,9 @@ use crate::channel::mix_sender::{MAX_CHANNELS, MixStatsSender};
 use crate::channel::{take_newest, try_send};
 use crate::peaks::raise_peaks;
 use crate::stats::MixStats;
-use rtp_wire::Enc;
+use rtp_wire::{Enc, HEADER_OCTETS};
 use rtrb::{Consumer, RingBuffer};
 use std::alloc::{AllocError, Global};
-
-/// The number of octets before the samples of a datagram of the mix: the fixed RTP header (RFC 3550 5.1).
-const RTP_HEADER_LEN: usize = 12;
 
 /// The receiver of the statistics of the mix.
 #[derive(Drop)]
@@ -65,13 +62,14 @@ impl MixStatsSender {
         ensures { AreRaised self.now.enc self.now.channels datagram.now self.now.peaks result }
     {
         let mut peaks = self.peaks;
-        if self.channels == 0 || datagram.len() < RTP_HEADER_LEN {
+        // A header of the mix has no CSRC list and no extension, so the samples follow its fixed part.
+        if self.channels == 0 || datagram.len() < HEADER_OCTETS {
             return peaks;
         }
         raise_peaks(
             &mut peaks[..self.channels],
             self.enc,
-            &datagram[RTP_HEADER_LEN..],
+            &datagram[HEADER_OCTETS..],
         );
         peaks
     }

@@ -5,8 +5,8 @@ use crate::stats::MixStats;
 use rtp_wire::Enc;
 use rtrb::Producer;
 
-/// The greatest number of output channels.
-pub(crate) const MAX_CHANNELS: usize = 8;
+/// The most output channels whose saturated samples and peaks are reported.
+pub const MAX_CHANNELS: usize = 8;
 
 /// The sender of the statistics of the mix: the saturated samples and the peak of each channel.
 #[derive(Drop)]

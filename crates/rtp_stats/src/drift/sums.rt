@@ -5,7 +5,7 @@ ghost use Rattle.rtp_stats.specs.Drift.{IsSmall, down_of, no_sums, place_in, run
 use crate::spare::ArrivalMargin;
 
 /// The number of points, and the sums over their places and margins.
-#[derive(Clone, Copy, Debug)]
+#[derive(Clone, Copy)]
 pub(crate) struct Sums {
     /// The number of points.
     pub(crate) count: u64,

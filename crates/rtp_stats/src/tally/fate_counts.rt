@@ -14,7 +14,7 @@ fn add_one_at(numbers: &mut [u64; 4], at: usize)
 }
 
 /// The numbers of packets with five kinds of fates, by path. `PathTally` says which fates.
-#[derive(Clone, Copy, Debug)]
+#[derive(Clone, Copy)]
 pub(crate) struct FateCounts {
     pub(crate) first: [u64; 4],
     pub(crate) double: [u64; 4],

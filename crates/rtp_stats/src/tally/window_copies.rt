@@ -19,7 +19,7 @@ ghost use Rattle.rtp_stream.specs.Counts.{is_taken_fate};
 use rtp_stream::{Fate, Path, is_taken};
 
 /// The last number that was taken at a place of the window, and the paths that brought a copy of it since.
-#[derive(Clone, Copy, Debug)]
+#[derive(Clone, Copy)]
 pub(crate) struct WindowCopies {
     /// True once a number was taken at this place.
     taken: bool,

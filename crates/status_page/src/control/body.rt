@@ -34,7 +34,7 @@ use std::alloc::{AllocError, Global};
 use studio_io::{GainAction, GainRequest};
 
 /// The place of a gain in the matrix: the numbers of its output channel and its input.
-#[derive(Clone, Copy, Debug, PartialEq, Eq)]
+#[derive(Clone, Copy, PartialEq, Eq)]
 pub(crate) struct MatrixCell {
     pub(crate) output: usize,
     pub(crate) input: usize,

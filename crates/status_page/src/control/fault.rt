@@ -6,7 +6,7 @@ use gain_mix::ChangeFault;
 use http::StatusCode;
 
 /// The reason why a request about the gains of a run is refused. Nothing has changed, unless a variant says more.
-#[derive(Clone, Copy, Debug, PartialEq, Eq)]
+#[derive(Clone, Copy, PartialEq, Eq)]
 pub(crate) enum ControlFault {
     /// The request comes from a page of another origin.
     Origin,

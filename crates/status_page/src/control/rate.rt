@@ -15,7 +15,7 @@ const SECOND_NANOS: u128 = 1_000_000_000;
 
 /// The number of changes that were requested in a second. The next second begins with the first change that is
 /// requested after its end.
-#[derive(Clone, Copy, Debug, PartialEq, Eq)]
+#[derive(Clone, Copy, PartialEq, Eq)]
 pub(crate) struct ChangeRate {
     /// The time of the first change in the second.
     began_at: Duration,

@@ -39,7 +39,7 @@ use std::alloc::{AllocError, Global};
 use studio_io::GainAnswer;
 
 /// The times of an answer that shows gains.
-#[derive(Clone, Copy, Debug, PartialEq, Eq)]
+#[derive(Clone, Copy, PartialEq, Eq)]
 pub(crate) struct ShownTimes {
     /// The time at which the gains are in force.
     pub(crate) at: i64,

@@ -4,7 +4,7 @@ ghost use Rattle.std.specs.Prelude.{◌≡◌, ◌≤◌, ◌*◌, IfSome};
 use studio_io::MAX_GAINS;
 
 /// The numbers of output channels and of inputs of a run's gain matrix: at least one of each, and at most 8,192 gains.
-#[derive(Clone, Copy, Debug, PartialEq, Eq)]
+#[derive(Clone, Copy, PartialEq, Eq)]
 pub struct GainShape {
     outs: usize,
     ins: usize,

@@ -26,7 +26,7 @@ use http::{HeaderMap, HeaderValue, Method, Request};
 use http1::text::eq_ignore_case;
 
 /// The page's verdict on a request.
-#[derive(Clone, Copy, Debug, PartialEq, Eq)]
+#[derive(Clone, Copy, PartialEq, Eq)]
 pub(crate) enum Verdict {
     /// It is addressed to another host.
     OtherHost,

@@ -6,7 +6,7 @@ use crate::fields::MetricKind;
 use crate::snapshot::OutputState;
 
 /// A number of an output channel. `help` describes each.
-#[derive(Clone, Copy, Debug, PartialEq, Eq)]
+#[derive(Clone, Copy, PartialEq, Eq)]
 pub(crate) enum OutputField {
     Peak,
     Saturated,

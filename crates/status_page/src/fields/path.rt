@@ -15,7 +15,7 @@ use crate::fields::{MetricKind, Number};
 use crate::snapshot::PathState;
 
 /// A number of a path. `help` describes each.
-#[derive(Clone, Copy, Debug, PartialEq, Eq)]
+#[derive(Clone, Copy, PartialEq, Eq)]
 pub(crate) enum PathField {
     Datagrams,
     First,

@@ -8,7 +8,7 @@ use crate::snapshot::StreamState;
 use rtp_stream::CountField;
 
 /// A number of a stream. `help` describes each. The counts are shown first, in the order of `COUNT_FIELDS`.
-#[derive(Clone, Copy, Debug, PartialEq, Eq)]
+#[derive(Clone, Copy, PartialEq, Eq)]
 pub(crate) enum StreamField {
     Count(CountField),
     Latency,

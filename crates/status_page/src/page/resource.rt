@@ -5,7 +5,7 @@ ghost use Rattle.status_page.specs.Responses.{resource_of, media_type};
 use http::HeaderValue;
 
 /// A resource that a client can request.
-#[derive(Clone, Copy, Debug, PartialEq, Eq)]
+#[derive(Clone, Copy, PartialEq, Eq)]
 pub(crate) enum Resource {
     /// The page itself.
     Page,

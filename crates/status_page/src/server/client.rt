@@ -64,7 +64,7 @@ fn config(max_body_len: usize) -> Config
 }
 
 /// The state of a client between two turns.
-#[derive(Clone, Copy, Debug, PartialEq, Eq)]
+#[derive(Clone, Copy, PartialEq, Eq)]
 pub(crate) enum Progress {
     /// The socket would block. The client waits for its next event.
     Blocked,

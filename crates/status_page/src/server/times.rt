@@ -10,7 +10,7 @@ use std::time::Duration;
 const LIMIT_NANOS: u128 = 10_000_000_000;
 
 /// The times of a client's requests, as readings of a monotonic clock.
-#[derive(Clone, Copy, Debug, PartialEq, Eq)]
+#[derive(Clone, Copy, PartialEq, Eq)]
 pub(crate) struct RequestTimes {
     /// The time of the last read or write, or of the connection before the first one.
     moved_at: Duration,

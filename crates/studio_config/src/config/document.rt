@@ -27,7 +27,7 @@ use crate::config::unknown_keys::check_known;
 use crate::networks::Networks;
 use crate::ports::Ports;
 use crate::studio::StudioSpec;
-use rtp_stream::StreamSpec;
+use rtp_stream::{MAX_TIME, StreamSpec};
 use std::alloc::Global;
 use toml::{Table, Value};
 
@@ -45,8 +45,8 @@ impl StudioSpec {
         ensures fault { IfErr result (λ e. (e ≡ no_memory) ⊎ (config_fault_of (table_view table.now) ≡ Some e)) }
     {
         let place = ConfigTable::Top;
-        // 2^60 sampling instants: a merge takes no later clock reading, so no later opening.
-        let open_at = whole(table, place, Key::OpenAt, 0, 1_152_921_504_606_846_976)? as i64;
+        // A merge takes no later clock reading, so no later opening.
+        let open_at = whole(table, place, Key::OpenAt, 0, MAX_TIME as u64)? as i64;
         // All of the top table is tested before a stream is read, since its faults come first.
         let tables = few_tables(table, place, Key::Stream, 1, 16)?;
         let output_table = table_in(table, place, Key::Output)?;

@@ -24,6 +24,7 @@ use crate::config::unknown_keys::check_known;
 use crate::networks::OutputAddresses;
 use gain_mix::Schedule;
 use mix_packets::{OutSpec, Output};
+use rtp_stream::MAX_TIME;
 use std::alloc::Global;
 use toml::Table;
 
@@ -149,8 +150,7 @@ fn read_numbers(table: &Table, place: ConfigTable) -> Result<OutputNumbers, Spec
 {
     let ssrc = whole(table, place, Key::Ssrc, 0, 4_294_967_295)? as u32;
     let seq = whole(table, place, Key::Seq, 0, 65535)? as u16;
-    // 2^60 sampling instants, the latest time of a studio.
-    let start = whole(table, place, Key::Start, 0, 1_152_921_504_606_846_976)? as i64;
+    let start = whole(table, place, Key::Start, 0, MAX_TIME as u64)? as i64;
     let offset = whole_or(table, place, Key::Offset, 0, 4_294_967_295, 0)? as u32;
     Ok(OutputNumbers {
         ssrc,

@@ -27,6 +27,7 @@ use crate::config::matrix::read_matrix;
 use crate::config::tables::table_of;
 use crate::config::unknown_keys::check_known;
 use gain_mix::{Matrix, MatrixFault, Schedule};
+use rtp_stream::MAX_TIME;
 use std::alloc::{AllocError, Global};
 use toml::{Table, Value};
 
@@ -52,8 +53,7 @@ fn check_change(table: &Table, number: usize) -> Result<(), SpecError>
     ensures fault { IfErr result (λ e. change_fault number (table_view table.now) ≡ Some e) }
 {
     let place = ConfigTable::Change(number);
-    // 2^60 sampling instants, the latest time of a studio.
-    whole(table, place, Key::At, 0, 1_152_921_504_606_846_976)?;
+    whole(table, place, Key::At, 0, MAX_TIME as u64)?;
     check_gains(table, place, Key::Gains)?;
     check_known(table, place, &KEYS)
 }

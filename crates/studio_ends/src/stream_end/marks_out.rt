@@ -35,7 +35,7 @@ use crate::stream_end::packets_in::BATCH;
 use path_merge::{Goal, Merge, SlotWindow};
 
 /// The reason for which a turn stopped.
-#[derive(Clone, Copy, PartialEq, Eq, Debug)]
+#[derive(Clone, Copy, PartialEq, Eq)]
 pub enum StopReason {
     /// All marks up to the requested time were pushed.
     CaughtUp,
@@ -46,7 +46,7 @@ pub enum StopReason {
 }
 
 /// The result of `StreamEnd::turn`.
-#[derive(Clone, Copy, Debug)]
+#[derive(Clone, Copy)]
 pub struct TurnNote {
     /// The number of packets that it took of each path, at most 64 each.
     pub from: [u32; 4],

@@ -48,7 +48,7 @@ use rtp_stats::StreamStatsSender;
 use rtrb::Producer;
 
 /// The error of `StreamEnd::close`. A path is still open if it has not finished or sent packets that were not taken.
-#[derive(Clone, Copy, PartialEq, Eq, Debug)]
+#[derive(Clone, Copy, PartialEq, Eq)]
 pub struct PathsOpen {
     pub still_open: [bool; 4],
 }
