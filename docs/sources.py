@@ -241,7 +241,7 @@ RECEPTION, STUDIO, WORKERS, PAGE = (f"crates/{crate}/src" for crate in ("worked_
 CASE_PLACES = {
     "Datagrams and samples": [f"{RECEPTION}/tests/wire.rt"],
     "Streams": [f"{RECEPTION}/tests/{name}.rt" for name in ("numbers", "streams")],
-    "Reception": [f"{RECEPTION}/tests/{name}.rt" for name in ("merges", "boundaries", "windows", "runs")],
+    "Reception": [f"{RECEPTION}/tests/{name}.rt" for name in ("merges", "restarts", "boundaries", "windows", "runs")],
     "Lanes": [f"{RECEPTION}/tests/lanes.rt"],
     "Gains": [f"{STUDIO}/tests/{name}.rt" for name in ("gains", "moving_gains")],
     "Outputs and blocks": [f"{STUDIO}/tests/{name}.rt" for name in ("datagrams", "mixer", "lists")],
