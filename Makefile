@@ -70,8 +70,8 @@ test:
 	gate/progress rt ci $(ANEW)
 	$(MAKE) -j4 --no-print-directory PROVED=--proved $(addsuffix .ran,$(scripts))
 	$(MAKE) -j3 -O --no-print-directory $(addsuffix .live,$(live))
-	tests/networks $(program)
-	tests/senders $(program)
+	gate/tries tests/networks $(program)
+	gate/tries tests/senders $(program)
 	@cat bin/gate-time
 	@echo "gate: pages, proofs, edits, tests, examples, faults, statuses, blocks, WAV files, charts, captures, SDP files, package, library, engine, memory, live runs, pages, faders, control, a desk, networks and senders passed in $$(( ($$(date +%s) - $$(cat bin/gate-begun)) / 60 )) minutes"
 
@@ -79,10 +79,10 @@ test:
 	$* $(program)
 
 %.live:
-	tests/$* $(program)
+	gate/tries tests/$* $(program)
 
 library.live:
-	tests/library $(program) live
+	gate/tries tests/library $(program) live
 
 # The commands that pages show are run with the others.
 scripts += docs/commands
