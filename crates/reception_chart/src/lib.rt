@@ -1,4 +1,4 @@
-//! An SVG chart of a trace: what each path gave to each stream, over media time.
+//! An SVG chart of a trace: the packets of each stream and path, over media time.
 //!
 //! `chart` does all of it: it reads a trace to its end as `studio_run::play` does, and writes one SVG.
 //!

@@ -1,4 +1,4 @@
-//! WAV and RF64 files of PCM samples, written as they come: of the mix, or of one stream.
+//! WAV and RF64 files of PCM samples, of the mix or of one stream.
 //!
 //! - `play_to_wav` reads a trace to its end as `studio_run::play` does, creates the file with the
 //!   caller's `CreateFile`, and writes the report and the samples of its datagrams. `write_mix_wav`

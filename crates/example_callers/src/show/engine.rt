@@ -20,7 +20,7 @@ fn one_stream(alloc: Global) -> anyhow::Result<Engine> {
     Ok(Engine::new(alloc, &studio)?)
 }
 
-/// Hands an engine both packets, on the first path.
+/// Passes both packets to an engine, on the first path.
 fn hand_both(engine: &mut Engine) -> anyhow::Result<()> {
     let path = path(0)?;
     engine.arrive(0, path, &FIRST)?;
