@@ -1,7 +1,7 @@
 """The processor time of the provers that run on this machine, by crate and by task.
 
 A task is the proof of a crate, that of its tests, the proof with which its wrong bodies begin (the seed), or those wrong bodies (the
-edits). Times are read once a second of the processes themselves.
+edits). Times are read once a second of the processes themselves, some of which have words or names that are no UTF-8.
 """
 import os
 import threading
@@ -16,7 +16,6 @@ LONGEST = 4
 
 def task_of(pid):
     """The crate and the kind of task that a process of the prover works for; none of another process."""
-    # A test gives words that are no UTF-8.
     with open(f"/proc/{pid}/cmdline", errors="replace") as file:
         words = file.read().split("\0")
     if not words[0].endswith("/rattle") or "--crate-name" not in words:
@@ -28,7 +27,7 @@ def task_of(pid):
 
 
 def seconds_of(pid):
-    with open(f"/proc/{pid}/stat") as file:
+    with open(f"/proc/{pid}/stat", errors="replace") as file:
         fields = file.read().rpartition(")")[2].split()
     return (int(fields[11]) + int(fields[12])) / TICKS
 
