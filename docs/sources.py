@@ -237,7 +237,9 @@ class Case(NamedTuple):
 
 
 # All worked cases, in the order in which they are read: each topic with its files of tests, its examples and its scripts.
-RECEPTION, STUDIO, WORKERS, PAGE = (f"crates/{crate}/src" for crate in ("worked_cases", "engine_tests", "worker_tests", "page_tests"))
+RECEPTION, STUDIO, WORKERS, LIVE, PAGE = (
+    f"crates/{crate}/src" for crate in ("worked_cases", "engine_tests", "worker_tests", "live_tests", "page_tests")
+)
 CASE_PLACES = {
     "Datagrams and samples": [f"{RECEPTION}/tests/wire.rt"],
     "Streams": [f"{RECEPTION}/tests/{name}.rt" for name in ("numbers", "streams")],
@@ -260,8 +262,10 @@ CASE_PLACES = {
     "One thread": [f"{WORKERS}/tests/alone.rt"],
     "Gains that move during a run": [f"{WORKERS}/tests/gain_moves.rt"],
     "WAV files of a divided mix": [f"{WORKERS}/tests/parts.rt"],
-    "Records and statistics": [f"{RECEPTION}/{name}.rt" for name in ("record_tests/octets", "record_tests/changes", "record_tests/marks", "tally_tests", "drift_tests")],
-    "Sockets and the clock": [f"{RECEPTION}/socket_tests.rt"],
+    "Records and statistics": [
+        f"{LIVE}/{name}.rt" for name in ("records/octets", "records/changes", "records/marks", "statistics", "drift")
+    ],
+    "Sockets and the clock": [f"{LIVE}/sockets.rt"],
     "The page": [f"{PAGE}/tests/{name}.rt" for name in ("texts", "requests", "controls", "sockets")],
     "Captures and live runs": ["tests/captures", "tests/control", "tests/desk", "tests/loopback", "tests/networks", "tests/page", "tests/faders", "tests/senders"],
 }
@@ -325,7 +329,7 @@ def cases_in(place, text):
 def unlisted_cases():
     """The files of tests in the crates of worked cases, and the examples, that no topic names."""
     listed = {place for places in CASE_PLACES.values() for place in places}
-    files = [file for crate in (RECEPTION, STUDIO, WORKERS, PAGE) for file in sorted((ROOT / crate).rglob("*.rt")) if TEST.search(file.read_text())]
+    files = [file for crate in (RECEPTION, STUDIO, WORKERS, LIVE, PAGE) for file in sorted((ROOT / crate).rglob("*.rt")) if TEST.search(file.read_text())]
     examples = [trace.parent for trace in sorted((ROOT / "examples").glob("*/input.trace"))]
     return [name for name in (str(path.relative_to(ROOT)) for path in [*files, *examples]) if name not in listed]
 

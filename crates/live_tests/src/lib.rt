@@ -1,0 +1,17 @@
+//! Tests of the parts of a live run, one by one: its sockets and clock, its record and its statistics. Worked cases over
+//! public calls.
+//!
+//! - `sockets`: sockets that fail or are empty, the kernel's table of sockets, and the opening of a live run.
+//! - `records`: the octets of a record as `pcap_file` writes them, and what it reads in them.
+//! - `statistics`: the statistics of `rtp_stats`, call by call.
+//! - `drift`: the drift of arrival margins, and packets that repeat numbers.
+#![tactic(auto)]
+
+#[cfg(test)]
+mod drift;
+#[cfg(test)]
+mod records;
+#[cfg(test)]
+mod sockets;
+#[cfg(test)]
+mod statistics;
