@@ -111,9 +111,11 @@ impl Player {
         }
     }
 
-    /// Returns a player whose lane begins at media time 0 and has room for 30 frames.
-    fn with_room(rt: &impl Abort, alloc: Global) -> Player {
-        let lane = Lane::with_room(alloc, mono(rt), 0, 12, 30);
+    /// Returns a player whose lane begins at media time 0 and has room for this many frames.
+    fn with_room(rt: &impl Abort, alloc: Global, frames: u32) -> Player {
+        // `Lane::with_room` requires room for a block and a packet at least.
+        assert!(rt; 18 <= frames && frames <= 1_000);
+        let lane = Lane::with_room(alloc, mono(rt), 0, 12, frames);
         Player {
             lane: lane.expect(rt, "there is memory"),
         }
@@ -215,8 +217,7 @@ const FROM_SILENCE: [Step; 18] = [
 ];
 
 /// A lane from 3 on takes silence, a slot of 1 to 6 at 0, a lost slot and a slot of 7 to 12, and refuses a number that
-/// does
-/// not follow. Its blocks begin amid the first slot, and after the end they are zeros.
+/// does not follow. Its blocks begin amid the first slot, and after the end they are zeros.
 #[test]
 fn slots_are_read_from_the_middle_of_one_to_the_end(rt: HostRuntime) {
     Player::new(&rt, rt.alloc(), 3).take(&rt, &FROM_SILENCE);
@@ -243,7 +244,23 @@ const A_ROOM: [Step; 14] = [
 /// begins at the next block.
 #[test]
 fn a_room_is_filled_to_its_last_frame(rt: HostRuntime) {
-    Player::with_room(&rt, rt.alloc()).take(&rt, &A_ROOM);
+    Player::with_room(&rt, rt.alloc(), 30).take(&rt, &A_ROOM);
+}
+
+/// Eight slots that were got and seven that are lost, of 6 sampling instants each and from 0 on, cover a lane up to 90.
+#[test]
+fn got_and_lost_slots_cover_up_to_their_end(rt: HostRuntime) {
+    let player = &mut Player::with_room(&rt, rt.alloc(), 90);
+    for place in 0..15i16 {
+        let number = 65_537 + place as u32;
+        let slot = if place < 8 {
+            Plain::Got(0, number, 6 * place, [100; 6])
+        } else {
+            Plain::Lost(0, number, 6 * place)
+        };
+        player.take(&rt, &[Step::Keep(slot)]);
+    }
+    player.take(&rt, &[Step::CoverIs(Cover::Until(90)), Step::EndIs(90)]);
 }
 
 const FOLLOWERS: [Step; 17] = [

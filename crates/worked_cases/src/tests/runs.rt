@@ -40,6 +40,55 @@ fn loses_every_thousandth<W: Window>(rt: &impl Abort, bench: &mut Bench<W>) {
     bench.has_counts(rt, counts, "");
 }
 
+/// The same packets by `offer` and `advance`, which take and return packets and marks by value: each reading gives the
+/// slot that is due, and nothing after it.
+#[test]
+fn three_cycles_by_value(rt: HostRuntime) {
+    let spec = spec_of(&rt, STREAM);
+    let bench = &mut slots_bench(&rt, rt.alloc(), spec, 0);
+    bench.take_all(&rt, "tick 0, a 1 0, tick 6, a 2 6");
+    let path = Path::new(0).expect(&rt, "a path");
+    for step in 2..200_000u32 {
+        let number = 65_537 + step;
+        advances_to_slot(&rt, bench, number - 2, step * 6 - 12, !is_lost(number - 2));
+        if !is_lost(number) {
+            let sent = Sent::new((number % 65_536) as u16, step * 6);
+            let fate = bench.offer(&rt, path, sent);
+            assert!(rt; fate == Fate::Taken, "number {number}");
+        }
+    }
+    bench.close(&rt);
+    let marks = "quiet -6, got 265535 1199988, got 265536 1199994, end";
+    says(&rt, &bench.marks, marks, "the first and the last marks");
+    let counts = "199800 arrived, 199800 from_a, 199800 got, 200 lost";
+    bench.has_counts(&rt, counts, "");
+}
+
+/// Advances to the deadline of a number, and tests that the first call returns its slot and the second one nothing.
+fn advances_to_slot<W: Window>(
+    rt: &impl Abort,
+    bench: &mut Bench<W>,
+    number: u32,
+    media: u32,
+    is_got: bool,
+) {
+    let now = i64::from(media) + 12;
+    let mark = bench
+        .merge
+        .advance(now)
+        .expect(rt, "the reading is in order");
+    let mark = mark.expect(rt, "the slot is due");
+    assert!(rt;
+        is_slot(&mark.as_ref(), number, media, is_got),
+        "number {number}"
+    );
+    let more = bench
+        .merge
+        .advance(now)
+        .expect(rt, "the reading is in order");
+    assert!(rt; more.is_none(), "number {number} alone");
+}
+
 /// Returns true if a number is a multiple of 1,000.
 fn is_lost(number: u32) -> bool {
     number % 1000 == 0

@@ -297,7 +297,7 @@ fn two_streams_by_workers(rt: HostRuntime) {
 /// Each datagram that one address refuses is counted as a fault of that address, and the other address gets all.
 #[test]
 fn an_address_that_always_fails(rt: HostRuntime) {
-    for places in PLACES {
+    for places in [1usize, 2, 4, 64] {
         let sink = FailingSink::new(&rt, rt.alloc(), 0);
         let (report, sink) = run_alike(&rt, rt.alloc(), &[0], places, sink);
         are_got(&rt, &report);
