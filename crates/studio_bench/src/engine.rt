@@ -1,5 +1,6 @@
 //! A trace that an engine takes event by event, and the report of it, in the form of `play`.
 use anyhow::{anyhow, bail};
+use mix_packets::MAX_OUTPUT_OCTETS;
 use path_merge::{Path, StreamSpec};
 use std::alloc::Global;
 use std::env::Args;
@@ -10,9 +11,6 @@ use studio_run::{
     StudioEvent, StudioSpec, TextBuffer, read_octets, read_trace, write_datagram,
     write_merge_counts, write_path_counts,
 };
-
-/// The greatest number of octets of an output's datagram.
-const MAX_OCTETS: usize = 1452;
 
 /// The lines of a report that are not written yet, and their writer.
 #[derive(Drop)]
@@ -132,8 +130,8 @@ fn write_next<W: Write>(
     now: Option<i64>,
     lines: &mut Lines<'_, W>,
 ) -> anyhow::Result<bool> {
-    let mut out = [0; MAX_OCTETS];
-    // Called for its clause: a datagram has at most `MAX_OCTETS` octets, so `out` has room.
+    let mut out = [0; MAX_OUTPUT_OCTETS];
+    // Called for its clause: a datagram has at most `MAX_OUTPUT_OCTETS` octets, so `out` has room.
     let _short = engine.output().datagram_len();
     let given = match now {
         Some(now) => engine.turn(now, &mut out)?,

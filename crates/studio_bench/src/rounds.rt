@@ -4,13 +4,11 @@
 use crate::datagrams::number;
 use crate::engine::studio_at;
 use anyhow::bail;
+use mix_packets::MAX_OUTPUT_OCTETS;
 use path_merge::Path;
 use std::env::Args;
 use std::time::Instant;
 use studio_engine::Engine;
-
-/// The greatest number of octets of a datagram.
-const MAX_OCTETS: usize = 1452;
 
 /// Makes rounds of calls to the engine of a configuration, by the words CONFIG ROUNDS. Prints the nanoseconds that they
 /// took, and the number of datagrams of the output.
@@ -47,7 +45,7 @@ fn make_rounds(engine: &mut Engine, rounds: u32) -> anyhow::Result<u64> {
     let Some(stream) = engine.stream(0) else {
         bail!("no stream");
     };
-    let mut packet = [0; MAX_OCTETS];
+    let mut packet = [0; MAX_OUTPUT_OCTETS];
     let mut value = 0u8;
     for octet in packet.iter_mut() {
         *octet = value;
@@ -80,11 +78,11 @@ fn pass_to_all(engine: &mut Engine, octets: &[u8]) -> anyhow::Result<()> {
 
 /// Turns an engine to a clock reading, and returns the number of datagrams that it returned.
 fn turn_to(engine: &mut Engine, now: i64) -> anyhow::Result<u64> {
-    let mut out = [0; MAX_OCTETS];
+    let mut out = [0; MAX_OUTPUT_OCTETS];
     let mut given = 0u64;
     // The range bounds the loop. The engine has no further datagram long before.
     for _ in 0..u64::MAX {
-        // Called for its clause: a datagram has at most `MAX_OCTETS` octets, so `out` has room.
+        // Called for its clause: a datagram has at most `MAX_OUTPUT_OCTETS` octets, so `out` has room.
         let _short = engine.output().datagram_len();
         if engine.turn(now, &mut out)?.is_none() {
             break;

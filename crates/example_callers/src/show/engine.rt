@@ -3,6 +3,7 @@
 use super::datagram_text::print_kept;
 use crate::engine::{send_due, send_rest};
 use crate::inputs::{FIRST, ONE_STREAM, SECOND, path, studio_of};
+use mix_packets::MAX_OUTPUT_OCTETS;
 use std::alloc::Global;
 use studio_engine::Engine;
 use studio_io::MemorySink;
@@ -40,7 +41,7 @@ fn print_sent(rt: &impl Print, alloc: Global, engine: &mut Engine) -> anyhow::Re
 /// Prints what the engine sends at this reading of the clock.
 fn print_due(rt: &impl Print, alloc: Global, engine: &mut Engine, now: i64) -> anyhow::Result<()> {
     let mut sink = MemorySink::new(alloc);
-    let mut out = [0; 1452];
+    let mut out = [0; MAX_OUTPUT_OCTETS];
     // No datagram is longer than `out`: `datagram_len` ensures it.
     let _short = engine.output().datagram_len();
     send_due(engine, now, &mut out, &mut sink)?;
@@ -50,7 +51,7 @@ fn print_due(rt: &impl Print, alloc: Global, engine: &mut Engine, now: i64) -> a
 /// Prints what the engine sends after its close.
 fn print_rest(rt: &impl Print, alloc: Global, engine: &mut Engine) -> anyhow::Result<()> {
     let mut sink = MemorySink::new(alloc);
-    let mut out = [0; 1452];
+    let mut out = [0; MAX_OUTPUT_OCTETS];
     let _short = engine.output().datagram_len();
     send_rest(engine, &mut out, &mut sink);
     print_kept(rt, &sink)

@@ -6,6 +6,7 @@ use crate::inputs::{TWO_STREAMS, arrival, packet, path, studio_of};
 use crate::mix::{Mixed, mix_next};
 use crate::receive::receive_stream;
 use anyhow::{Context, ensure};
+use mix_packets::MAX_OUTPUT_OCTETS;
 use path_merge::{Mark, StreamSpec};
 use std::alloc::Global;
 use studio_config::StudioSpec;
@@ -56,7 +57,7 @@ fn print_next(
     ensures second { IfOk result (λ mixed. mixed.second ≤ length second.now) }
     ensures streams { OnOk result (length mixer.new.lanes ≡ 2) }
 {
-    let mut out = [0; 1452];
+    let mut out = [0; MAX_OUTPUT_OCTETS];
     // No datagram is longer than `out`: `datagram_len` ensures it.
     let _short = mixer.output().datagram_len();
     let mixed = mix_next(mixer, first, second, &mut out);
