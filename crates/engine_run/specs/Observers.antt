@@ -1,4 +1,4 @@
--- The events of a run of which an observer is notified, and the changes of gains.
+-- The events of a run that its observer is called with, and the changes of gains.
 use Rattle.std.specs.Prelude.{◌≡◌, ℕ, List, [], ◌∷◌, ◌++◌, ℤ, Option, IfSome, IsSomeAnd}
 use Rattle.studio_session.specs.Event.{TraceEvent, Arrival, Reading, Closing}
 use Rattle.studio_session.specs.Fault.{time_after}

@@ -48,7 +48,7 @@ abbrev pub AreRounds : List Round → Type 0
 AreRounds [] = Unit {0}
 AreRounds (round ∷ rounds) = IsRound round × AreRounds rounds
 
--- the greatest of this time and the clock readings of these rounds, of which at most 2^60 counts
+-- the greatest of this time and the clock readings of these rounds; a reading beyond 2^60 counts as 2^60
 abbrev pub time_by : ℤ → List Round → ℤ
 time_by time [] = time
 time_by time (round ∷ rounds) = time_by (time_with time round.answer) rounds

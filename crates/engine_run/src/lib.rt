@@ -14,9 +14,9 @@
 //! datagrams are judged by a new one.
 //!
 //! Once every feed has ended, the clock is read a last time, the engine is closed, and the remaining
-//! datagrams are sent. If the report is `settled`, there is one list of events for which the sink
-//! received the datagrams, the observer the arrivals, and the report the counts. They are those of
-//! the studio with the changes of gains that the `GainSource` took. The observer gets exactly these
+//! datagrams are sent. If the report is `settled`, there is one list of events: the sink received
+//! its datagrams, the observer its arrivals, and the report its counts. They are those of the studio
+//! with the changes of gains that the `GainSource` took. The observer gets exactly these
 //! changes, also in a run that is not settled.
 //!
 //! `answer_request` answers one request by an engine, for callers that have a loop of their own.

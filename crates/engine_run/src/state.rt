@@ -164,7 +164,7 @@ impl<F: Feed, C: Clock, K: Sink, T: RunObserver<F>> RunState<F, C, K, T> {
     }
 }
 
-/// Returns the greatest clock reading so far, with `answer` included, of which at most 2^60 counts.
+/// Returns the greatest clock reading so far, with `answer` included. An answer beyond 2^60 counts as 2^60.
 // A clock that goes back, or beyond 2^60, would be a clock fault: such readings are ignored or limited.
 fn greatest(time: i64, answer: i64) -> i64
     ensures { result ≡ time_with time answer }

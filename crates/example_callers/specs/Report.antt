@@ -8,7 +8,7 @@ use Rattle.studio_run.specs.Trace.{trace_events}
 use Rattle.studio_run.specs.declared.player.PlayFault.{PlayFault}
 use Rattle.studio_run.specs.declared.player.PlayFault.TheVariants.{Read, Memory, Trace, Run, Write}
 
--- the text is the report of the trace's events, none of which is at fault
+-- the text is the report of the trace's events, which have no fault
 pub record IsReportOf (studio : Studio) (trace text : List ℕ) : Type 0 where
   pub events : List TraceEvent
   pub said : trace_events trace ≡ Ok events

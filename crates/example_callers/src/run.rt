@@ -61,6 +61,7 @@ pub fn run_in_threads<R: Threads + Wait + Sync, K: Sink>(
     if datagrams.len() != ends.paths.len() {
         return Err(RunFault::Paths);
     }
+    // `run_workers` requires `IsStudio`. The clause `sound` of this call states it; the list itself is not used.
     let _sound = studio.streams();
     let mut feeds = Vec::new(alloc);
     for path in datagrams {

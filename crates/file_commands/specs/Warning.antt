@@ -1,4 +1,4 @@
--- The configurations for which `check` warns of a window.
+-- When `check` warns of a window.
 use Rattle.std.specs.Prelude.{◌*◌, Bool, ◌&&◌, nat_lt}
 use Rattle.rtp_stream.specs.Standing.{is_following}
 use Rattle.rtp_stream.specs.declared.stream_spec.Stream.{Stream}

@@ -37,8 +37,8 @@ fn write_millis<W: Write>(instants: u64, output: &mut W) -> io::Result<()> {
     write!(output, "({ms}.{us:03} ms)")
 }
 
-// Lines are written in several short formats: one format of many values takes long to prove.
 /// Writes the encoding and the channels of packets, and their length in sampling instants and in milliseconds.
+// Lines are written in several short formats: one format of many values takes long to prove.
 fn write_packets<W: Write>(enc: Enc, channels: u8, frames: u16, output: &mut W) -> io::Result<()> {
     let name = enc.name();
     write!(output, "{name}, channels {channels}, packets of {frames} ")?;

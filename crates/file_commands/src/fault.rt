@@ -141,7 +141,7 @@ pub enum CaptureInputFault {
     Import(ImportFault),
     /// The text of the configuration that was made does not read back as the studio that it is for, so it is not
     /// written.
-    // No capture is known for which this happens. The test is what makes the claim of `readable_text` true.
+    // No capture is known to cause this. The test is what makes the claim of `readable_text` true.
     #[error("capture: the configuration does not read back")]
     NotReadBack,
 }

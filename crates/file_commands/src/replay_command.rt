@@ -54,7 +54,7 @@ struct ReplaySource {
 /// `faults`.
 ///
 /// A capture in a file is opened several times, so that it need not fit in memory: for its start up to the first
-/// packet, which says if it is the record of a live run and of which configuration; for its flows, if it is not a
+/// packet, which says if it is the record of a live run, and for which configuration; for its flows, if it is not a
 /// record; for the report; and for the chart, if there is one. The capture `-` is a record on `input`, which is
 /// read once.
 pub fn run_replay<H: Host>(

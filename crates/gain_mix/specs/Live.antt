@@ -1,4 +1,4 @@
--- A schedule in use, which takes changes, and the reasons for which it refuses a change.
+-- A schedule in use, which takes changes, and why it refuses a change.
 use Rattle.std.specs.Prelude.{◌≡◌, ℕ, ◌+◌, ◌*◌, ◌^◌, ◌≤◌, ◌<ℤ◌, ◌&&◌, ◌==◌, not, nat_lt, int_le, int_lt, Bool, false, ℤ, pos, List, [], ◌∷◌, length, take, All, ⊤, Option, Some, None, if◌then◌else◌}
 use Rattle.gain_mix.specs.Gain.{ins_of}
 use Rattle.gain_mix.specs.Changes.{Changes, before}

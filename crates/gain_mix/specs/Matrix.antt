@@ -1,4 +1,4 @@
--- The reasons for which gains are refused.
+-- Why gains are refused.
 use Rattle.std.specs.Prelude.{ℕ, ◌*◌, ◌&&◌, Bool, ℤ, List, length, Option, Some, None, nat_le, ◌==◌, if◌then◌else◌}
 use Rattle.std.specs.List.{list_all}
 use Rattle.std.specs.Int.RustNames.{unsigned_abs}

@@ -24,7 +24,7 @@ pub record IsWeighted (gains values : List ℤ) (sum : ℤ) : Type 0 where
 abbrev pub rounded_sum : ℕ → ℤ → ℤ
 rounded_sum s sum = int_div_euclid (sum +ℤ pos (2 ^ (s - 1))) (pos (2 ^ s))
 
--- the `h` for which output samples go from -2 ^ h to 2 ^ h - 1: 23 for L24, whose shift is 16, and 15 for L16, whose
+-- the `h` such that output samples go from -2 ^ h to 2 ^ h - 1: 23 for L24, whose shift is 16, and 15 for L16, whose
 -- shift is 24
 abbrev pub output_bits : ℕ → ℕ
 output_bits s = if s == 16 then 23 else 15

@@ -1,4 +1,4 @@
--- A schedule of matrices, and the reasons for which a schedule is refused.
+-- A schedule of matrices, and why a schedule is refused.
 use Rattle.std.specs.Prelude.{◌≡◌, All, ◌^◌, ◌&&◌, not, Bool, true, ℤ, pos, List, [], ◌∷◌, length, Option, Some, None, nat_le, int_lt, ◌==◌, if◌then◌else◌}
 use Rattle.std.specs.List.{list_all}
 use Rattle.gain_mix.specs.Gain.{ins_of}

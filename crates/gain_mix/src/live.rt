@@ -87,7 +87,7 @@ impl LiveSchedule {
         Ok(live)
     }
 
-    /// Returns a schedule in use of which no change has come, or an error if an allocation fails.
+    /// Returns a schedule in use, before its first change, or an error if an allocation fails.
     fn whole(alloc: Global, schedule: &Schedule) -> Result<LiveSchedule, AllocError>
         ensures { IfOk result (λ live. live ≡ schedule.now) }
     {
@@ -181,7 +181,7 @@ impl LiveSchedule {
         self.used = kept + 1;
     }
 
-    /// Lets go of the changes up to a time, of which the last is the matrix in force from then on.
+    /// Lets go of the changes up to a time. The last of them is the matrix in force from then on.
     pub fn pass(&mut self, t: i64)
         ensures rest { self.new ≡ rest_at self.old t }
         ensures outs { length self.new.first ≡ length self.old.first }

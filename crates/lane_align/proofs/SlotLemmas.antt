@@ -94,7 +94,7 @@ in_silence xs ss c held gap f k len lt late early =
     ∙ get_or_append_left (silence c gap) ss (pos 0) (j * c + k) (omega arith)
     ∙ get_or-replicate (gap * c) (j * c + k) (pos 0) (pos 0) below
 
--- a time of which no frame is left is not before the end of the last slot
+-- a time without frames left is not before the end of the last slot
 not_left : (frames : ℕ) (t : ℤ) (slot : Option LastSlot) (f : ℕ) → frames_left frames t slot ≤ f → IsAfter frames slot (t +ℤ pos f)
 not_left frames t None f h = tt
 not_left frames t (Some s) f h = elim (distance ((s.media +ℤ pos frames) -ℤ t)) [ past a ↦ omega (arith, ints) | none a y ↦ omega (arith, ints) ]

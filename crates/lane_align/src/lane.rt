@@ -319,7 +319,7 @@ impl Lane {
 
     /// Takes the next mark, which is borrowed, whether or not the lane wants one.
     ///
-    /// It has to be one that the lane accepts and for which it has room.
+    /// The lane has to accept the mark and to have room for it.
     pub fn keep_ref(&mut self, mark: &MarkRef<'_>)
         requires accepted { is_next self.old mark.now ≡ true }
         requires room { has_room_for self.old mark.now ≡ true }
@@ -331,7 +331,7 @@ impl Lane {
         self.take(mark);
     }
 
-    /// Takes the next mark, which the lane wants or for which it has room.
+    /// Takes the next mark. The lane has to want it or to have room for it.
     fn take(&mut self, mark: &MarkRef<'_>)
         requires accepted { is_next self.old mark.now ≡ true }
         requires fits { (is_wanting self.old (self.old.position +ℤ pos self.old.block)

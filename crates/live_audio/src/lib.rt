@@ -3,7 +3,7 @@
 //! 1. `AudioChannel::new` makes the two ends of a ring, whose room follows from the studio: what its
 //!    streams hold back at their latency, and two seconds more.
 //! 2. `TappedSink` is the run's `Sink`. It passes each datagram to the sink below, and then the
-//!    datagram's samples to the `AudioTap`, which never waits: a block for which the ring has no room
+//!    datagram's samples to the `AudioTap`, which never waits: a block that does not fit in the ring
 //!    ends the file there.
 //! 3. `write_audio`, in another thread, writes the samples to the file as they come, in order, from the
 //!    first block on. Each second of audio it renews the sizes in the header, so that a file that a
@@ -15,7 +15,7 @@
 //!    the audio to other threads.
 //!
 //! Raw PCM goes the same way to a `PcmOutput`, by the ends of a `PcmChannel` and `write_pcm`. Its
-//! reader may be slow: a block for which the ring has no room is left out as a whole and counted, and
+//! reader may be slow: a block that does not fit in the ring is left out as a whole and counted, and
 //! the blocks behind it go on. `PcmResult::state` returns its state.
 //!
 //! Only `AudioChannel::new` and `PcmChannel::new` allocate.

@@ -10,7 +10,7 @@ use wav_file::{BextChunk, LiveWav, bext_chunk};
 pub struct AudioParts {
     /// The time of the first sample, in sampling instants since 1970 in UTC.
     pub at: u64,
-    /// The number of sampling instants in a file. It is rounded down to whole blocks, of which a file has at least one.
+    /// The number of sampling instants in a file. It is rounded down to whole blocks. A file has at least one.
     pub instants: u64,
 }
 
@@ -33,7 +33,7 @@ pub(crate) struct WavParts {
     pub(crate) wav: LiveWav,
     /// The time of the file's first sample, in sampling instants since 1970 in UTC.
     pub(crate) at: u64,
-    /// The number of blocks for which the file has room.
+    /// The number of blocks that fit in the file.
     pub(crate) left: u64,
     /// The number of octets of data that the sizes in the header count.
     pub(crate) sized: u64,

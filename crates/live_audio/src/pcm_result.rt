@@ -26,11 +26,11 @@ pub struct PcmResult {
     begun: AtomicBool,
     /// True once somebody reads the output, or nobody has to.
     open: AtomicBool,
-    /// The reason for which the output ended before the run: its place in `END_REASONS` plus 1, or 0 if it did not.
+    /// Why the output ended before the run: the reason's place in `END_REASONS` plus 1, or 0 if it did not.
     ended: AtomicU32,
 }
 
-/// The reasons for which an output ends, in the order of their numbers.
+/// The reasons why an output ends, in the order of their numbers.
 const END_REASONS: [PcmEnd; 2] = [PcmEnd::Closed, PcmEnd::Write];
 
 impl PcmResult {
@@ -102,7 +102,7 @@ impl PcmResult {
         self.left_out.load(Ordering::SeqCst)
     }
 
-    /// Returns the reason for which the output ended before the run, if it did.
+    /// Returns why the output ended before the run, if it did.
     pub fn end(&self) -> Option<PcmEnd> {
         let place = self.ended.load(Ordering::SeqCst).checked_sub(1)?;
         END_REASONS.get(place as usize).copied()

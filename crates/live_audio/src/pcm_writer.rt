@@ -44,7 +44,7 @@ pub struct PcmWritten {
     pub is_all: bool,
 }
 
-/// The reason for which nothing more is written.
+/// Why nothing more is written.
 #[derive(Clone, Copy, Debug, PartialEq, Eq)]
 pub enum PcmStop {
     /// The output ended before its run.
@@ -57,7 +57,7 @@ pub enum PcmStop {
 #[derive(Clone, Copy, Debug, PartialEq, Eq)]
 struct PcmPart {
     count: usize,
-    /// The reason for which the others were not. `None` if all were written.
+    /// Why the others were not written. `None` if all were.
     stop: Option<PcmStop>,
 }
 
@@ -254,7 +254,7 @@ impl<'a> PcmWriter<'a> {
         }
     }
 
-    /// Returns 0 if a write that failed may be tried again, and else the reason for which nothing more is written.
+    /// Returns 0 if a write that failed may be tried again, and else why nothing more is written.
     fn stop_or_retry(&mut self, fault: &Error) -> Result<usize, PcmStop>
         ensures same { IsSamePcm self.old self.new }
         ensures none { IfOk result (λ count. count ≡ 0) }

@@ -23,11 +23,11 @@ pub struct AudioResult {
     written: AtomicU64,
     /// True once the file was created.
     begun: AtomicBool,
-    /// The reason for which the file ended before the run: its place in `END_REASONS` plus 1, or 0 if it did not.
+    /// Why the file ended before the run: the reason's place in `END_REASONS` plus 1, or 0 if it did not.
     ended: AtomicU32,
 }
 
-/// The reasons for which a file ends, in the order of their numbers.
+/// The reasons why a file ends, in the order of their numbers.
 const END_REASONS: [WavEnd; 2] = [WavEnd::Write, WavEnd::Slow];
 
 impl AudioResult {
@@ -77,7 +77,7 @@ impl AudioResult {
         self.written.load(Ordering::SeqCst)
     }
 
-    /// Returns the reason for which the file ended before the run, if it did.
+    /// Returns why the file ended before the run, if it did.
     pub fn end(&self) -> Option<WavEnd> {
         let place = self.ended.load(Ordering::SeqCst).checked_sub(1)?;
         END_REASONS.get(place as usize).copied()

@@ -75,11 +75,11 @@ pub struct RecordResult {
     written: AtomicU64,
     /// True once the file of the record was created.
     begun: AtomicBool,
-    /// The reason for which the record ended before its run: its place in `END_REASONS` plus 1, or 0 if it did not.
+    /// Why the record ended before its run: the reason's place in `END_REASONS` plus 1, or 0 if it did not.
     ended: AtomicU32,
 }
 
-/// The reasons for which a record ends, in the order of their numbers.
+/// The reasons why a record ends, in the order of their numbers.
 const END_REASONS: [RecordEnd; 3] = [RecordEnd::Write, RecordEnd::Slow, RecordEnd::Unfit];
 
 impl RecordResult {
@@ -130,7 +130,7 @@ impl RecordResult {
         self.written.load(Ordering::SeqCst)
     }
 
-    /// Returns the reason for which the record ended before its run, if it did.
+    /// Returns why the record ended before its run, if it did.
     pub fn end(&self) -> Option<RecordEnd> {
         let place = self.ended.load(Ordering::SeqCst).checked_sub(1)?;
         END_REASONS.get(place as usize).copied()

@@ -8,7 +8,7 @@ use Rattle.studio_run.specs.Report.{path_line, merge_line}
 use Rattle.live_status.specs.Lines.{feed_line, sink_line}
 use Rattle.studio_io.specs.declared.report.WorkReport.{WorkReport}
 
--- the counts of a stream's paths, of which there are at most four
+-- the counts of a stream's paths, at most four
 abbrev pub paths_in : StreamCounts → List PathCounts
 paths_in counts = take 4 counts.paths.items
 
@@ -37,7 +37,7 @@ feeds_text stream [] faults = []
 feeds_text stream (counts ∷ more) faults =
     own_feeds_text stream 0 (take (length (paths_in counts)) faults) ++ feeds_text (suc stream) more (drop (length (paths_in counts)) faults)
 
--- the streams of a report, of which there are at most sixteen
+-- the streams of a report, at most sixteen
 abbrev pub streams_in : WorkReport → List StreamCounts
 streams_in report = take 16 report.streams.items
 

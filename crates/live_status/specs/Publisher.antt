@@ -11,7 +11,7 @@ use Rattle.live_status.specs.declared.reception_watch.stream_watch.StreamWatch.{
 use Rattle.live_status.specs.declared.publisher.StatusPublisher.{StatusPublisher}
 use Rattle.live_status.specs.declared.stream_status.StreamStatus.{StreamStatus}
 
--- a snapshot in which all counts are 0, with these streams, of which it holds up to 16, and output channels
+-- a snapshot in which all counts are 0, with these streams, up to 16 of them, and output channels
 pub record IsBlankSnapshot (statuses : List StreamStatus) (channels : ℕ) (snapshot : Snapshot) : Type 0 where
   pub streams : length statuses ≤ 16 → AreEach IsBlankOf statuses snapshot.streams.items
   pub outputs : snapshot.outputs.items ≡ replicate channels blank_output

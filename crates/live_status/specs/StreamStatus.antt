@@ -6,7 +6,7 @@ use Rattle.status_page.specs.Blank.{IsBlank}
 use Rattle.status_page.specs.declared.snapshot.StreamState.{StreamState}
 use Rattle.live_status.specs.declared.stream_status.StreamStatus.{StreamStatus}
 
--- the status of a stream with this name, of which nothing was taken by this time
+-- the status of a stream with this name, if nothing was taken by this time
 pub record IsNewStatus (name : Option ArrayString) (now : ℤ) (stream : Stream) (status : StreamStatus) : Type 0 where
   pub name_is : status.name ≡ name
   pub latency_is : status.latency ≡ stream.latency

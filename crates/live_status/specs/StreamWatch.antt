@@ -8,7 +8,7 @@ use Rattle.live_status.specs.Watch.{NotesPath, ShowsPath, any_in_time, most_left
 use Rattle.live_status.specs.declared.reception_watch.stream_watch.StreamWatch.{StreamWatch}
 use Rattle.live_status.specs.declared.stream_status.StreamStatus.{StreamStatus}
 
--- the watch of a stream of which nothing was taken by this time; its room is the window in sampling instants
+-- the watch of a stream if nothing was taken by this time; its room is the window in sampling instants
 pub record IsNewWatch (now : ℤ) (stream : Stream) (watch : StreamWatch) : Type 0 where
   pub room_is : watch.room ≡ stream.window * stream.frames
   pub restarts_are : watch.restarts ≡ 0

@@ -37,7 +37,7 @@ pub(crate) fn numbers_of(octets: &[u8]) -> Option<PacketNumbers>
     })
 }
 
-/// Returns a copy tracker for each of these streams, of which no packet was offered yet. Returns `AllocError` if an
+/// Returns a copy tracker for each of these streams, before any packet was offered. Returns `AllocError` if an
 /// allocation fails.
 pub(crate) fn copy_trackers(
     alloc: Global,

@@ -12,7 +12,7 @@
 //!    the record, of the WAV file and of raw PCM, from a `HealthSource`.
 //!
 //! `publish` also watches the streams: from the arrival margins of the last minute it shows the drift
-//! of each path, and paths of which no packet is in time.
+//! of each path, and paths without a packet in time.
 //!
 //! A `Meter` measures the peaks of the mix if one thread sends it.
 //!

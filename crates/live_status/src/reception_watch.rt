@@ -1,4 +1,4 @@
-//! The watch of all streams: the drift of each path, the time that is left, and paths of which no packet is in time.
+//! The watch of all streams: the drift of each path, the time that is left, and paths without a packet in time.
 //! `stream_watch` has the watch of a stream, `path_watch` of a path, and `count_watch` the time since which a count
 //! stays.
 ghost use Rattle.std.specs.Prelude.{IfOk};
@@ -14,7 +14,7 @@ mod count_watch;
 mod path_watch;
 pub(crate) mod stream_watch;
 
-/// Returns the watch of each of these streams, of which no packet arrived by the time `now`, in sampling instants.
+/// Returns the watch of each of these streams. No packet arrived by the time `now`, in sampling instants.
 /// Returns `AllocError` if an allocation fails.
 pub(crate) fn watches_of(
     alloc: Global,

@@ -17,7 +17,7 @@ pub(crate) struct SignalPresence {
 }
 
 impl SignalPresence {
-    /// Returns the presence of a stream of which no packet was taken by the time `now`, in sampling instants.
+    /// Returns the presence of a stream without a taken packet by the time `now`, in sampling instants.
     pub(crate) fn new(now: i64) -> SignalPresence
         ensures { (result.taken ≡ 0) × (result.since ≡ now) }
     {

@@ -25,7 +25,7 @@ impl StreamStatus {
     ghost use Rattle.live_status.specs.Conditions.{updated, with_condition};
     ghost use Rattle.live_status.specs.StreamStatus.{IsNewStatus, IsNewStatusAt};
 
-    /// Returns the status of a stream with a name, of which no packet was taken yet. `now` is in sampling instants.
+    /// Returns the status of a stream with a name, before any packet was taken. `now` is in sampling instants.
     pub(crate) fn new(name: Option<StreamName>, stream: &StreamSpec, now: i64) -> StreamStatus
         ensures { IsNewStatus name now stream.now result }
     {
@@ -37,7 +37,7 @@ impl StreamStatus {
         }
     }
 
-    /// Returns the status of these streams with their names, of which no packet was taken yet. `now` is in sampling
+    /// Returns the status of these streams with their names, before any packet was taken. `now` is in sampling
     /// instants. Returns `AllocError` if an allocation fails.
     pub(crate) fn of_streams(
         alloc: Global,

@@ -7,7 +7,7 @@ use std::alloc::Global;
 use std::ops::Range;
 use std::process::Abort;
 
-/// A path of which each second's packets have one margin, which changes by the same amount from second to second.
+/// A path whose packets of a second all have one margin. It changes by the same amount from second to second.
 struct Margins {
     shows: &'static str,
     /// The number of seconds with packets, one of every `step` seconds from 0 on.

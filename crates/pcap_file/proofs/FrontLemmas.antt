@@ -84,7 +84,7 @@ unfolding order_of
 order_front order xs ys long =
     rw (number_front Big 4 0 xs ys (omega (arith, long)), number_front Big 4 8 xs ys (omega (arith, long)), number_front Little 4 8 xs ys (omega (arith, long))) refl
 
--- the length of a block: three tests, of which the first two need only a prefix
+-- the length of a block: three tests; the first two need only a prefix
 abbrev length_by : Endian → ℕ → List ℕ → Result ℕ CaptureFaultKind
 length_by order n octets =
     cond (nat_lt n 12 || not (n % 4 == 0)) (Err fault.Length)

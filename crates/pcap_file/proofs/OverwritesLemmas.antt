@@ -47,7 +47,7 @@ more_put p q xs ys zs a b c front written is place =
     let count : q ≡ length (xs ++ ys) = omega (arith, place, front.place_is, length-append xs ys) in
     first_put q (xs ++ ys) (xs ++ zs) a c both (ap (λ l. xs ++ l) is) count
 
--- a block's six pieces, of which the middle three are its body
+-- a block's six pieces: the middle three are its body
 pub block_put : (p : ℕ) (k l h o z m a g : List ℕ) → IsFront p (k ++ l ++ h ++ o ++ z ++ m) a g → IsFront p (k ++ l ++ (h ++ (o ++ z)) ++ m) a g
 block_put p k l h o z m a g front =
     let same : k ++ l ++ h ++ o ++ z ≡ k ++ l ++ (h ++ (o ++ z)) = append_assoc (k ++ l ++ h) o z ∙ append_assoc (k ++ l) h (o ++ z) in

@@ -1,4 +1,4 @@
--- Steps of which each uses the result of the one before, up to the first that fails.
+-- Steps that each use the result of the one before, up to the first that fails.
 use Rattle.std.specs.Prelude.{Result, Ok, Err}
 
 -- the result of the second step on the value of the first, or the first fault

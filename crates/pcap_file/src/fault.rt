@@ -48,7 +48,7 @@ pub struct CaptureFault {
     pub kind: CaptureFaultKind,
 }
 
-/// The error because of which a capture was not read to its end.
+/// Why a capture was not read to its end.
 #[derive(Clone, Copy, Debug, PartialEq, Eq, Error)]
 pub enum ReaderFault {
     /// A read failed.

@@ -6,7 +6,7 @@ use std::io;
 use std::io::Write;
 use thiserror::Error;
 
-/// The reason for which a record ends before its run.
+/// Why a record ends before its run.
 #[derive(Clone, Copy, Debug, PartialEq, Eq, Error)]
 pub enum RecordEnd {
     /// A write failed.
@@ -20,7 +20,7 @@ pub enum RecordEnd {
     Unfit,
 }
 
-/// The error because of which no record is made.
+/// Why no record is made.
 #[derive(Clone, Copy, PartialEq, Eq)]
 pub enum RecordFault {
     /// There is a file at its path, or something else.

@@ -15,7 +15,7 @@ pub record TableView : Type 0 where
   -- the flows' keys, and what was counted of each
   pub keys : List FlowKey
   pub flows : List FlowView
-  -- packets of flows for which there was no room
+  -- packets of flows that did not fit in the table
   pub untracked : ℕ
   -- packets that are no RTP
   pub not_rtp : ℕ

@@ -5,8 +5,7 @@ ghost use Rattle.pcap_flows.specs.declared.fault.ImportFault.TheVariants as faul
 use std::alloc::AllocError;
 use thiserror::Error;
 
-/// The error because of which a capture has no trace or no configuration: something is missing, or a limit of traces is
-/// exceeded.
+/// Why no trace or no configuration can be made of a capture: something is missing, or a limit of traces is exceeded.
 #[derive(Clone, Copy, Debug, PartialEq, Eq, Error)]
 pub enum ImportFault {
     /// No flow goes to a named address.

@@ -8,8 +8,7 @@ use studio_run::WriteFault;
 use studio_session::StudioFault;
 use thiserror::Error;
 
-/// The error because of which a capture was not played to its end. A prefix of its report was written, and nothing if
-/// an allocation failed.
+/// Why a capture was not played to its end. A prefix of its report was written, and nothing if an allocation failed.
 #[derive(Debug, Drop, Error)]
 pub enum ReplayFault {
     /// An allocation failed.

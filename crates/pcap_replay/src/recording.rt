@@ -186,8 +186,8 @@ pub fn recording_fault(paths: &[RecordedPath], streams: &[StreamSpec]) -> Option
     Some(stream_difference(paths, streams).unwrap_or(RecordingFault::Interface(place)))
 }
 
-/// Returns nothing if the paths are those of these streams, of which the first has this number, with the interface of
-/// changes of gains behind them or without it. Otherwise returns the paths from the first one on that is not, or the
+/// Returns nothing if the paths are those of these streams, numbered from `number` on, with the interface of changes
+/// of gains behind them or without it. Otherwise returns the paths from the first one on that is not, or the
 /// end, if a path is missing there.
 fn paths_behind<'a>(
     paths: &'a [RecordedPath],
@@ -222,7 +222,7 @@ fn are_behind(interfaces: &[RecordedPath]) -> bool
     }
 }
 
-/// Returns the paths behind this many paths of a stream, of which the first has this letter. If these are not there,
+/// Returns the paths behind this many paths of a stream, lettered from this letter on. If these are not there,
 /// returns the paths from the first one on that is not in its place.
 fn paths_behind_stream<'a>(
     paths: &'a [RecordedPath],

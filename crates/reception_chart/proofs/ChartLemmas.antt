@@ -1,4 +1,4 @@
--- The reasons for which a trace was not drawn.
+-- Why a trace was not drawn.
 use Rattle.std.proofs.Common.{ℕ, List, Option}
 use Rattle.studio_config.specs.Studio.{Studio}
 use Rattle.studio_run.specs.Play.{FailsOf}

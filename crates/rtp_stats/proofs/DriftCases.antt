@@ -7,7 +7,7 @@ use Rattle.rtp_stats.specs.declared.spare.ArrivalMargin.{ArrivalMargin}
 abbrev second : ℕ → ℕ → ArrivalMargin
 second at margin = record { second = at; least = margin; median = 0; greatest = margin }
 
--- ten seconds in each of which packets come 10 sampling instants earlier: 10 in 48,000 are 208 parts in a million
+-- ten seconds; in each, packets come 10 sampling instants earlier: 10 in 48,000 are 208 parts in a million
 abbrev earlier : List ArrivalMargin
 earlier = second 0 100 ∷ second 1 110 ∷ second 2 120 ∷ second 3 130 ∷ second 4 140 ∷ second 5 150 ∷ second 6 160 ∷ second 7 170 ∷ second 8 180 ∷ second 9 190 ∷ []
 
@@ -15,7 +15,7 @@ earlier = second 0 100 ∷ second 1 110 ∷ second 2 120 ∷ second 3 130 ∷ se
 fast : drift_of 10 3072 earlier ≡ Some (record { ppm = pos 208; left = 288 })
 fast = refl
 
--- ten seconds in each of which packets come 10 later; the least margin, 910, is used up in 91
+-- ten seconds; in each, packets come 10 later; the least margin, 910, is used up in 91
 abbrev later : List ArrivalMargin
 later = second 0 1000 ∷ second 1 990 ∷ second 2 980 ∷ second 3 970 ∷ second 4 960 ∷ second 5 950 ∷ second 6 940 ∷ second 7 930 ∷ second 8 920 ∷ second 9 910 ∷ []
 

@@ -1,4 +1,4 @@
--- The numbers of which a path brought no copy while it could still be used, in a list of offers with the latest first.
+-- The numbers that a path missed: it brought no copy while one could still be used, in a list of offers with the latest first.
 use Rattle.std.specs.Prelude.{ℕ, ◌+◌, ◌%◌, Bool, true, false, not, ◌&&◌, ◌||◌, nat_eq, List, [], ◌∷◌, Option, Some, None, if◌then◌else◌}
 use Rattle.rtp_stream.specs.declared.fate.Fate.{Fate}
 use Rattle.rtp_stream.specs.Counts.{is_double, is_late, is_taken_fate, is_unlike}
@@ -39,7 +39,7 @@ abbrev pub ends_missed : ℕ → ℕ → Offer → List Offer → Bool
 ends_missed window path o before =
     is_taken_fate o.fate && is_without window (o.seq % window) path (taken_last window (o.seq % window) before) before
 
--- the numbers that were taken, and of which this path brought no copy until the next number at their place was taken
+-- the numbers that were taken without a copy by this path until the next number at their place was taken
 abbrev pub missed_of : ℕ → ℕ → List Offer → ℕ
 missed_of window path [] = 0
 missed_of window path (o ∷ before) = (if ends_missed window path o before then 1 else 0) + missed_of window path before

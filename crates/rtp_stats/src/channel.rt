@@ -1,4 +1,4 @@
-//! Rings that carry statistics to a reader, of which only the newest counts. `path`, `stream` and `mix` are the
+//! Rings that carry statistics to a reader. Only the newest statistics count. `path`, `stream` and `mix` are the
 //! channels of paths, streams and the mix; `mix_sender` is the sending end of the last.
 ghost use Rattle.std.specs.Prelude.{◌≡◌, true, false};
 ghost use Rattle.rtrb.specs.Ring.{SameConsumer, SameProducer};

@@ -20,7 +20,7 @@ pub struct CopyTracker {
 }
 
 impl CopyTracker {
-    /// Returns a tracker of a stream of which no packet was offered yet. Allocates all its memory, and returns
+    /// Returns a tracker of a stream, before any packet was offered. Allocates all its memory, and returns
     /// `AllocError` if that fails.
     pub fn new(alloc: Global, spec: &StreamSpec) -> Result<CopyTracker, AllocError>
         ensures tally { IfOk result (λ tracker. HasTally spec.now [] tracker.tally) }

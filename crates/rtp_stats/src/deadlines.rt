@@ -66,7 +66,7 @@ impl Model for Deadlines {
 }
 
 impl Deadlines {
-    /// Returns the state of a stream of which no packet was taken.
+    /// Returns the state of a stream, before any packet was taken.
     pub fn new() -> Deadlines
         ensures { result ≡ None }
     {

@@ -1,5 +1,5 @@
 //! The drift of a path's arrival margin over the last minute: whether its packets come earlier and earlier, or later.
-//! `sums` has the sums of which the slope is made.
+//! `sums` has the sums behind the slope.
 ghost use Rattle.std.specs.Prelude.{◌≡◌, ◌≤◌, ◌<◌, ◌*◌, ◌^◌, [], length};
 ghost use Rattle.rtp_stats.specs.Drift.{
   IsSmall,
@@ -60,7 +60,7 @@ impl Model for MarginMinute {
 }
 
 impl MarginMinute {
-    /// Returns a path of which no packet arrived yet.
+    /// Returns the minute of a path, before any packet arrived.
     pub fn new() -> MarginMinute
         ensures { result ≡ record { next = 0; margins = [] } }
     {

@@ -120,7 +120,7 @@ fn note_spare(seconds: &mut [MarginSecond], path: Path, spare: u32, now: i64)
 impl StreamTally {
     ghost use Rattle.rtp_stats.specs.Tally.{HasTally, TallyState};
 
-    /// Returns a tally of a stream of which no packet was offered yet. Returns `AllocError` if an allocation fails.
+    /// Returns a tally of a stream, before any packet was offered. Returns `AllocError` if an allocation fails.
     pub fn new(alloc: Global, spec: &StreamSpec) -> Result<StreamTally, AllocError>
         ensures { IfOk result (λ tally. HasTally spec.now [] tally) }
     {

@@ -34,7 +34,7 @@ pub fn is_taken(fate: Fate) -> bool
     matches!(fate, Fate::Taken | Fate::Restarted)
 }
 
-/// Returns the number of which a packet is a copy in time, or the packet's fate if it is none.
+/// Returns a packet's number if the packet is a copy in time, and otherwise its fate.
 ///
 /// `next` is the number due next, `media` its media time, and `room` the number of packets from it on that are in
 /// time: the window, or 0 while the stream is emptying.

@@ -16,7 +16,7 @@ pub record IsExtension (octets : List ℕ) : Type 0 where
   pub four_each : length words ≡ 4 * count
   pub layout : octets ≡ profile ++ octets_of 2 count ++ words
 
--- padding: from 1 to 255 octets, of which the last is their number
+-- padding: from 1 to 255 octets; the last one is their number
 pub record IsPadding (octets : List ℕ) : Type 0 where
   pub before : List ℕ
   pub fits : length octets < 256

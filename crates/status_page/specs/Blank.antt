@@ -7,7 +7,7 @@ use Rattle.status_page.specs.declared.snapshot.Condition.TheVariants.{NoPacket}
 use Rattle.status_page.specs.declared.snapshot.PathState.{PathState}
 use Rattle.status_page.specs.declared.snapshot.StreamState.{StreamState}
 
--- a path on which nothing has arrived, and of which nothing is known
+-- a path on which nothing has arrived and about which nothing is known
 abbrev pub blank_path : PathState
 blank_path = record { datagrams = 0; first = 0; counts = None; copies = None; spare = None; socket = None; drift = None; is_astray = false; is_repeating = false }
 

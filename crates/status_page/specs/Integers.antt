@@ -6,7 +6,7 @@ use Rattle.std.specs.Str.Parse.{signed_digits_value, without_leading_sign}
 use Rattle.json.specs.Find.{as_number}
 use Rattle.json.specs.Json.{Json}
 
--- an integer has 64 bits, of which one is the sign
+-- an integer has 64 bits; one is the sign
 abbrev pub has_64_bits : ℤ → Bool
 has_64_bits (pos n) = nat_lt n (2 ^ 63)
 has_64_bits (negsuc n) = nat_lt n (2 ^ 63)

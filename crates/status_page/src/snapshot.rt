@@ -62,7 +62,7 @@ pub struct SocketState {
 pub struct PathState {
     /// The number of datagrams that arrived on the path.
     pub datagrams: u64,
-    /// The number of packets of which the path brought the first copy.
+    /// The number of packets whose first copy came on the path.
     pub first: u64,
     /// The datagrams by their results before the merge.
     pub counts: Option<PathCounts>,
@@ -84,7 +84,7 @@ pub struct PathState {
 impl Default for PathState {
     ghost is_default = { λ path. path ≡ blank_path };
 
-    /// Returns the state of a path on which no datagram arrived, of which nothing else is known.
+    /// Returns the state of a path on which no datagram arrived. Nothing else is known of it.
     fn default() -> PathState {
         PathState {
             datagrams: 0,
@@ -121,7 +121,7 @@ pub struct StreamState {
 impl Default for StreamState {
     ghost is_default = { IsBlank None 0 0 };
 
-    /// Returns the state of a stream without paths, of which no packet was taken.
+    /// Returns the state of a stream without paths, before any packet was taken.
     fn default() -> StreamState {
         StreamState {
             name: None,

@@ -112,7 +112,7 @@ fn swapped(number: u32) -> u32 {
     }
 }
 
-/// Returns the arrival of a path's packet, of which the path loses one in a hundred.
+/// Returns the arrival of a path's packet. The path loses one packet in a hundred.
 fn packet_of(path: Path, number: u32, lost: u32) -> Arrival {
     // The second path is four packets behind, so its first four numbers wrapped below 0.
     if number >= NUMBERS || number % 100 == lost {

@@ -31,7 +31,7 @@ is_table d = is_some (as_table d)
 abbrev pub is_integer : Data → Bool
 is_integer d = is_some (as_integer d)
 
--- an array, each item of which passes this test
+-- an array whose items all pass this test
 abbrev pub is_array_of : (Data → Bool) → Data → Bool
 is_array_of test d = is_some (as_array d) && list_all test (items_in d)
 

@@ -18,7 +18,7 @@ pub struct Ports {
 }
 
 impl Ports {
-    /// Returns ports of which none is known.
+    /// Returns ports that are all unknown.
     pub fn absent() -> Ports
         ensures paths { result.paths ≡ absent_rows 16 }
         ensures to_a { result.to_a ≡ None }

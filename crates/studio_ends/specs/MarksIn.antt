@@ -13,7 +13,7 @@ use Rattle.studio_mix.specs.Mixer.{MixerState, HasFeeds}
 use Rattle.studio_ends.specs.AcceptedFeeds.{accepted_feeds, accepted_total, received_total}
 use Rattle.studio_ends.specs.declared.rings.TokenConsumer.{TokenConsumer}
 
--- a stream's feed after more marks, of which the accepted ones are added
+-- a stream's feed after more marks: the accepted ones are added
 abbrev pub fed_more : Feed → List MarkView → Feed
 fed_more feed marks = record { stream = feed.stream; marks = accepted_after (format_of feed.stream) feed.marks marks }
 
@@ -67,7 +67,7 @@ AllStopTaking (stream ∷ streams) end (old ∷ olds) (new ∷ news) =
     ((taken : ℕ) × (length (received new.ring) ≡ length (received old.ring) + taken) × StopsTaking taken new stream (accepted_marks (format_of stream) (received new.ring)) end)
     × AllStopTaking streams end olds news
 
--- marks were taken from the rings of all streams: `taken` in all, of which `strange` were not accepted
+-- marks were taken from the rings of all streams: `taken` in all; `strange` of them were not accepted
 pub record TakesAllMarks (olds news : List (TokenConsumer MarkView)) (m w : MixerState) (taken strange : ℕ) : Type 0 where
   pub all : AllTakeSome olds news
   pub count : length news ≡ length olds

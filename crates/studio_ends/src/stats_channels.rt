@@ -28,7 +28,7 @@ pub(crate) struct StatsChannels {
 }
 
 impl StatsChannels {
-    /// Channels of which none is open yet. If they are not wanted, none is ever opened.
+    /// Returns channels, none of them open yet. If they are not wanted, none is ever opened.
     pub(crate) fn new(alloc: Global, are_wanted: bool) -> StatsChannels {
         StatsChannels {
             receivers: StatsReceivers {

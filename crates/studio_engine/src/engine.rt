@@ -64,8 +64,8 @@ use studio_config::StudioSpec;
 use studio_mix::Mixer;
 use studio_session::{ArriveOutcome, is_runnable};
 
-// At most 2^60 clock readings and a close follow these, so the number of events never wraps.
 /// The number of events after which no more arrivals are taken: 2^62.
+// At most 2^60 clock readings and a close follow these, so the number of events never wraps.
 const MAX_EVENTS: usize = 4_611_686_018_427_387_904;
 
 /// A studio as one object.

@@ -7,6 +7,6 @@ abbrev pub TellsTime : List ℤ → ℤ → List ℤ → Type 0
 TellsTime [] answer rest = Unit {0}
 TellsTime (next ∷ told) answer rest = (answer ≡ next) × (rest ≡ told)
 
--- the greatest clock reading so far after one more, of which at most 2^60 counts
+-- the greatest clock reading so far after one more, which counts as 2^60 if it is beyond
 abbrev pub time_with : ℤ → ℤ → ℤ
 time_with time answer = int_max time (int_min answer (pos (2 ^ 60)))

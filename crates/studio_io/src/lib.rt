@@ -8,7 +8,7 @@
 //! - if gains are to change while it goes on, a `GainSource`, which it asks for changes; else
 //!   `NoGains`.
 //!
-//! The run returns a `WorkReport`, or the `WorkFault` for which it did not begin.
+//! The run returns a `WorkReport`, or the `WorkFault` that says why it did not begin.
 //!
 //! A feed or a clock may state what it will return, and a sink what it was passed. The contracts of a
 //! run are about feeds, clocks and sinks that do so. `MemoryFeed`, `MemoryClock` and `MemorySink` do.

@@ -35,7 +35,7 @@ pub(crate) enum Explanation {
     Text(&'static str),
 }
 
-/// The reason for which something could not be opened or read.
+/// Why something could not be opened or read.
 #[derive(Clone, Copy, Debug, PartialEq, Eq)]
 pub(crate) enum Reason {
     /// The system's error number.
@@ -142,7 +142,7 @@ fn at_wav(
     }
 }
 
-/// Returns the reason for which the file of a token was not read, or has no token.
+/// Returns why the file of a token was not read, or has no token.
 fn token_reason<H: SystemErrors>(host: &H) -> Reason {
     match host.last_error() {
         0 => Reason::NotPrivate,

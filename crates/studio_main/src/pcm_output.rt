@@ -66,7 +66,7 @@ impl Write for SystemPcm {
         let len = buf.len().min(MAX_WRITE);
         // The runtime ignores SIGPIPE from the program's start on, as Rust's does. So a write to a pipe that nobody
         // reads any more fails, and ends nothing. `os::write_no_sigpipe` is not used: it is linked with calls of child
-        // processes, for which the program has no handle.
+        // processes, and the program has no handle for these.
         let count = libc::write(self.descriptor(), &buf[..len]);
         match usize::try_from(count) {
             Ok(count) => Ok(count.min(len)),

@@ -24,7 +24,7 @@ pub(crate) fn greatest_lag(streams: &[StreamSpec]) -> u32
     greatest
 }
 
-/// Returns the frames for which a stream's lane needs room next to a stream of this lag.
+/// Returns the number of frames that a stream's lane has to hold next to a stream of this lag.
 pub(crate) fn capacity_for(stream: &StreamSpec, block: u16, lag: u32) -> u32
     requires short { lag ≤ 2 ^ 23 }
     requires block { block ≤ 192 }

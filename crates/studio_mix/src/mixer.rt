@@ -293,7 +293,7 @@ impl Mixer {
         lane.has_room(mark)
     }
 
-    /// Takes the next mark of a stream, which is borrowed and for which there is room, whether or not one is wanted.
+    /// Takes the next mark of a stream, borrowed, whether or not one is wanted. The lane has to have room for it.
     pub fn keep_ref(&mut self, stream: usize, mark: &MarkRef<'_>)
         requires accepted { is_next_of self.old stream mark.now ≡ true }
         requires room { has_room_of self.old stream mark.now ≡ true }

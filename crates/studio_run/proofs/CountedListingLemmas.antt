@@ -1,4 +1,4 @@
--- The reasons for which the listing of a trace and its counts are not both written.
+-- Why the listing of a trace and its counts are not both written.
 use Rattle.std.proofs.Common.{inl, inr, ℕ, List, Option}
 use Rattle.studio_config.specs.Studio.{Studio}
 use Rattle.studio_session.specs.Event.{TraceEvent}

@@ -1,4 +1,4 @@
--- The reasons for which the text of a trace is not written.
+-- Why the text of a trace is not written.
 use Rattle.std.proofs.Common.{◌≡◌, inl, inr, ◌<◌, ℕ, List, Option, None, Result, Ok, Err, true, nat_lt, length, if◌then◌else◌, refl, sym, ap, subst, arith}
 use Rattle.std.specs.Prelude.{◌⊎◌, IfErr, IsErrAnd}
 use Rattle.std.specs.Io.KnownBytes.{Consumes, IsAtEnd}

@@ -1,4 +1,4 @@
--- The text that is written of a trace, and the reasons for which there may be none.
+-- The text that is written of a trace, and why there may be none.
 use Rattle.std.specs.Prelude.{◌≡◌, ◌<◌, ◌⊎◌, ℕ, List, [], length, Option, Some, None, Ok, Err}
 use Rattle.std.specs.Io.KnownBytes.{Appends, Consumes, IsAtEnd}
 use Rattle.studio_config.specs.Studio.{Studio}

@@ -35,7 +35,7 @@ pub enum ReadFault {
 #[error("device: write")]
 pub struct WriteFault;
 
-/// Reads to the end of the input, or to the first octet for which a trace has no room.
+/// Reads to the end of the input, or to the first octet that is too many for a trace.
 pub fn read_octets<R: Read>(alloc: Global, reader: &mut R) -> Result<Vec<u8>, ReadFault>
     ensures ok { IfOk result (λ text. Consumes (R.remaining reader.old) (R.remaining reader.new) text.items) }
     ensures end { OnOk result (IsAtEnd (R.remaining reader.new)) }

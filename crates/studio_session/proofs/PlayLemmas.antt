@@ -111,7 +111,7 @@ covered_of : (wants covered : Bool) → wants ≡ false → wants ≡ not covere
 covered_of wants true e f = refl
 covered_of wants false e f = absurd (false≢true (sym e ∙ f))
 
--- a stream of which the mixer wants no mark for the next block is final
+-- a stream is final if the mixer wants no mark of it for the next block
 pub plays_covered : (studio : Studio) (events : List TraceEvent) (feeds : List Feed) (next number : ℕ) (mixer : MixerState) (cursor : CursorState) (wants : Bool)
     → number < length feeds → Plays studio events feeds next number mixer cursor → wants ≡ false
     → ((fs : List Feed) (f : Feed) → HasFeeds studio mixer fs next → slice_get fs number ≡ Some f → wants ≡ not (covers (cover_of (format_of f.stream) f.marks) (block_start studio.output (next + 1))))

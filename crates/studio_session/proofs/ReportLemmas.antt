@@ -48,7 +48,7 @@ finished stream number open_at events cursor settled all p =
           ∙ ap (λ l. merge_tally_of stream number open_at l) whole;
     }
 
--- what holds for the elements by their places holds after one more element for which it holds
+-- what holds for the elements by their places holds after one more such element
 pub places_more : {X : Type 0} (P : ℕ → X → Type 0) (xs : List X) (n : ℕ) (x : X) → length xs ≡ n → P n x → ((i : ℕ) (y : X) → slice_get xs i ≡ Some y → P i y)
     → (i : ℕ) (y : X) → slice_get (xs ++ x ∷ []) i ≡ Some y → P i y
 places_more P xs n x count p before i y at =

@@ -1,4 +1,4 @@
--- The reasons for which a report and its file were not written.
+-- Why a report and its file were not written.
 use Rattle.std.proofs.Common.{ℕ, List, Option}
 use Rattle.std.specs.Io.KnownBytes.{Consumes, IsAtEnd}
 use Rattle.studio_config.specs.Studio.{Studio}

@@ -20,7 +20,7 @@ pub enum FileFault {
     Write,
 }
 
-/// The error because of which a stream can have no WAV file.
+/// Why a stream can have no WAV file.
 #[derive(Clone, Copy, Debug, PartialEq, Eq, Error)]
 pub enum StreamWavFault {
     /// The studio has no stream of this number.
@@ -31,7 +31,7 @@ pub enum StreamWavFault {
     Channels,
 }
 
-/// The error because of which a report or a listing, or its WAV file, was not written whole.
+/// Why a report or a listing, or its WAV file, was not written whole.
 #[derive(Debug, Drop, Error)]
 pub enum WavRunFault {
     /// The error of the report or the listing.

@@ -65,8 +65,8 @@ pub(crate) fn header_octets(format: WavFormat, chunk: &[u8], count: u64) -> Head
     head
 }
 
-/// Returns the file's size: the number of octets behind this field, of which `more` are a further chunk, with one more
-/// octet after data of an odd length.
+/// Returns the file's size: the number of octets behind this field. `more` of them are a further chunk. After data of
+/// an odd length there is one octet more.
 fn riff_size(more: u64, count: u64) -> u64
     requires count { count < 2 ^ 63 }
     requires more { more ≤ 610 }

@@ -8,7 +8,7 @@ use std::io;
 use std::io::Write;
 use thiserror::Error;
 
-/// The reason for which a live run's WAV file ends before the run.
+/// Why a live run's WAV file ends before the run.
 #[derive(Clone, Copy, Debug, PartialEq, Eq, Error)]
 pub enum WavEnd {
     /// A write failed.
@@ -19,7 +19,7 @@ pub enum WavEnd {
     Slow,
 }
 
-/// The error because of which a live run has no WAV file.
+/// Why a live run has no WAV file.
 #[derive(Clone, Copy, PartialEq, Eq)]
 pub enum LiveWavFault {
     /// There is a file at its path, or something else.
@@ -85,6 +85,6 @@ pub trait CreateLiveWav {
     /// The type of the files.
     type Audio: WavFiles + Send + Drop;
 
-    /// Returns the files, none of which is created yet. Returns `AllocError` if an allocation fails.
+    /// Returns the files. None is created yet. Returns `AllocError` if an allocation fails.
     fn wav_files(&self, alloc: Global) -> Result<Self::Audio, AllocError>;
 }

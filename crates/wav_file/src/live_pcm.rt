@@ -4,7 +4,7 @@ ghost use Rattle.std.specs.Prelude.{◌≡◌};
 use std::io::Write;
 use thiserror::Error;
 
-/// The reason for which a live run's raw PCM ends before the run.
+/// Why a live run's raw PCM ends before the run.
 #[derive(Clone, Copy, Debug, PartialEq, Eq, Error)]
 pub enum PcmEnd {
     /// Nobody reads the pipe any more.
@@ -15,7 +15,7 @@ pub enum PcmEnd {
     Write,
 }
 
-/// The error because of which a live run has no output of raw PCM.
+/// Why a live run has no output of raw PCM.
 #[derive(Clone, Copy, PartialEq, Eq)]
 pub enum PcmFault {
     /// There is something at its path that is no FIFO.

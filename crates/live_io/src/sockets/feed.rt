@@ -29,8 +29,8 @@ pub struct FeedFlags<'a> {
 }
 
 /// A feed from a socket. It waits once the socket is empty, or it has a flag that says if the socket is read. It ends
-/// once the flag `stop`
-/// is set, once its clock has reached a time, or after 1,000 faults of the socket without a datagram.
+/// once the flag `stop` is set, once its clock has reached a time, or after 1,000 faults of the socket without a
+/// datagram.
 #[derive(Drop)]
 pub struct UdpFeed<'a, R: Clock> {
     retrying: RetryingSocket<'a, Receiver<'a>, SystemClock<'a, R>>,

@@ -85,7 +85,7 @@ pub struct SocketHealth {
 }
 
 impl SocketHealth {
-    /// Returns the health of a socket that has not failed, and of which the kernel has said nothing.
+    /// Returns the health of a socket that has not failed, before the kernel has said anything about it.
     pub fn new() -> SocketHealth {
         SocketHealth {
             faults: AtomicU64::new(0),

@@ -50,7 +50,7 @@ impl GainLink {
         self.exchange(WITHDRAWN)
     }
 
-    /// Wakes the page, for which there is an outcome.
+    /// Wakes the page, which waits for an outcome.
     pub(crate) fn wake(&self) {
         self.parker.unpark();
     }

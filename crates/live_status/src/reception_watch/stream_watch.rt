@@ -22,7 +22,7 @@ pub(crate) struct StreamWatch {
 impl StreamWatch {
     ghost use Rattle.live_status.specs.StreamWatch.{IsNewWatch, NotesStream, ShowsWatch};
 
-    /// Returns the watch of a stream of which no packet arrived by the time `now`, in sampling instants.
+    /// Returns the watch of a stream without an arrival by the time `now`, in sampling instants.
     pub(crate) fn new(stream: &StreamSpec, now: i64) -> StreamWatch
         ensures { IsNewWatch now stream.now result }
     {

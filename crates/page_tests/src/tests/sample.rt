@@ -57,7 +57,7 @@ fn counts() -> Counts {
     counts
 }
 
-/// Returns a stream with a name and two paths, of which the second has few known numbers.
+/// Returns a stream with a name and two paths. The second path has few known numbers.
 fn stream() -> StreamState {
     let mut stream = StreamState::default();
     stream.name = StreamName::from(NAME).ok();

@@ -45,7 +45,7 @@ pub(crate) struct Section {
 }
 
 impl Section {
-    /// Returns a section of which no block was read.
+    /// Returns a section, before any block was read.
     pub(crate) fn new() -> Section
         ensures { section_view result ≡ spec.no_section }
     {

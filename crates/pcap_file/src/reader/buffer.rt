@@ -34,7 +34,7 @@ const MAX_READ: usize = 65_536;
 /// The number of octets that the buffer has room for.
 const CAPACITY: usize = MAX_FRONT + MAX_READ;
 
-/// The octets that were read, of which the first are passed over. Its memory, 1 MiB, is allocated once.
+/// The octets that were read. The first of them are passed over. Its memory, 1 MiB, is allocated once.
 #[derive(Drop)]
 pub struct ReadBuffer {
     pub(crate) held: Vec<u8>,

@@ -30,7 +30,7 @@ pub(crate) struct StreamTimes {
 }
 
 impl StreamTimes {
-    /// Returns the times of a stream of which one packet came.
+    /// Returns the times of a stream whose first packet came.
     fn new(ts: u32, reading: u64) -> StreamTimes {
         StreamTimes {
             offset: offset_at(ts, reading),

@@ -18,7 +18,7 @@ pub struct MixStatsReceiver {
     ring: Consumer<MixStats>,
 }
 
-/// Opens the channel for a mix of this many channels, of which at most the first 8 are reported.
+/// Opens the channel for a mix of this many channels. At most the first 8 are reported.
 ///
 /// Allocates all memory of both ends. Returns `AllocError` if that fails.
 // One place is enough: the peaks stay with the sender until the place is free, so no peak is lost.

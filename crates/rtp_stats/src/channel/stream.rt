@@ -38,7 +38,7 @@ pub struct StreamStatsReceiver {
     ring: Consumer<StreamStats>,
 }
 
-/// Opens the channel for a stream of which no packet was offered yet.
+/// Opens the channel for a stream, before any packet was offered.
 ///
 /// Allocates all memory of both ends. Returns `AllocError` if that fails.
 pub fn stream_stats_channel(

@@ -1,4 +1,4 @@
-//! The sums of which a least-squares slope is made.
+//! The sums behind a least-squares slope.
 ghost use Rattle.std.specs.Prelude.{◌≡◌, ℕ, ◌+◌, ◌<◌, ◌≤◌, ◌^◌, IfSome};
 ghost use Rattle.rtp_stats.specs.Drift.{IsSmall, down_of, no_sums, place_in, run_of, up_of, with_point, with_second};
 

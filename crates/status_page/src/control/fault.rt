@@ -29,7 +29,7 @@ pub(crate) enum ControlFault {
 }
 
 impl ControlFault {
-    /// Returns the reason for which a run refuses a change.
+    /// Returns why a run refuses a change.
     pub(crate) fn of(fault: ChangeFault) -> ControlFault
         ensures { result ≡ fault_of fault }
     {

@@ -14,7 +14,7 @@ const MIN_OCTETS: usize = 16;
 /// The greatest number of octets of a token.
 const MAX_OCTETS: usize = 256;
 
-/// A token: 16 to 256 octets, each of which is visible ASCII.
+/// A token: 16 to 256 octets of visible ASCII.
 #[derive(Drop)]
 pub struct Token {
     octets: ArrayVec<u8, MAX_OCTETS>,

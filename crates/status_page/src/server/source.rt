@@ -10,15 +10,14 @@ use std::time::{Clock, Duration};
 // Half the time between two snapshots, so that a client sees each of them before the next one comes.
 const POLL_INTERVAL_MS: u64 = 50;
 
-/// The longest time for which the last snapshot is shown after the end of a run, in milliseconds.
+/// The longest time that the last snapshot is shown after the end of a run, in milliseconds.
 // Three times as long as a page waits between two requests, so that each open page shows how the run ended.
 const LAST_SHOWN_MS: u64 = 300;
 
 /// The longest wait for sockets while the last snapshot is shown, in milliseconds.
 const LAST_POLL_MS: u64 = 10;
 
-/// A source of snapshots from a ring, of which it uses the newest. The run has ended once the ring's producer was
-/// dropped.
+/// A source of the newest snapshot in a ring. The run has ended once the ring's producer was dropped.
 #[derive(Drop)]
 pub struct RingSource {
     ring: Consumer<Snapshot>,

@@ -34,7 +34,7 @@ use crate::rings::marks::MarkProducer;
 use crate::stream_end::packets_in::BATCH;
 use path_merge::{Goal, Merge, SlotWindow};
 
-/// The reason for which a turn stopped.
+/// Why a turn stopped.
 #[derive(Clone, Copy, PartialEq, Eq)]
 pub enum StopReason {
     /// All marks up to the requested time were pushed.
@@ -83,7 +83,7 @@ pub(crate) fn push_next(marks: &mut MarkProducer, merge: &mut Merge<SlotWindow>,
     is_some
 }
 
-/// Pushes marks up to a time, while there is room. Returns their number and the reason for which it stopped.
+/// Pushes marks up to a time, while there is room. Returns their number and why it stopped.
 pub(crate) fn push_marks(
     marks: &mut MarkProducer,
     merge: &mut Merge<SlotWindow>,

@@ -48,7 +48,7 @@ fn snooze_after<R: Wait>(rt: &R, pause: &mut Backoff, now: i64, note: &TurnNote)
     if note.from.iter().any(|count| *count > 0) {
         pause.reset();
     }
-    // A turn takes at most 64 packets of a path, so a path of which 64 were taken may have more.
+    // A turn takes at most 64 packets of a path. If it took 64, the path may have more.
     let more = note.from.iter().any(|count| *count == 64);
     if !more && note.why_stopped != StopReason::Batch {
         pause.snooze_aligned(rt, now);

@@ -33,7 +33,7 @@ fn offer_until_taken<R: Wait>(rt: &R, end: &mut PathEnd, datagram: &[u8], stop: 
     ensures offers { result ≡ true → OffersAgain datagram.now end.old end.new }
 {
     let mut pause = Backoff::up_to(FULL_PAUSE);
-    // One offer and 1,000 more. A datagram for which all fail is dropped, and the path goes on with the next.
+    // One offer and 1,000 more. If all fail, the datagram is dropped, and the path goes on with the next.
     for _ in 0..1001u32 {
         if end.offer(datagram) != Offer::Full {
             return true;

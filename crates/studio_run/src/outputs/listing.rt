@@ -161,7 +161,7 @@ pub fn list_marks_and_counts<R: Read, W: Write, C: Write>(
     Ok(())
 }
 
-/// Writes the listing of events of which none is at fault, and then their counts. It allocates before it writes.
+/// Writes the listing of events without a fault, and then their counts. It allocates before it writes.
 fn write_both<W: Write, C: Write>(
     alloc: Global,
     spec: &StudioSpec,

@@ -202,7 +202,7 @@ fn read_arrival<'a>(path: Path, rest: Option<&'a [u8]>) -> Result<LineEvent<'a>,
     })
 }
 
-/// Reads the fields after the word `close`, of which there are none.
+/// Reads the fields after the word `close`: there are none.
 fn read_close<'a>(rest: Option<&'a [u8]>) -> Result<LineEvent<'a>, TraceFaultKind>
     ensures said { close_of (fields_after rest.entry) ≡ event_of result }
     ensures last { IfOk result (IsLastIn rest.entry) }

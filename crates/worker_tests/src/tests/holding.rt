@@ -275,7 +275,7 @@ fn run_late<R: Threads + Wait + Abort + Sync>(
     report
 }
 
-/// Tests the counts of packets of which the first of each feed was taken, and the others refused at full rings.
+/// Tests the counts if the first packet of each feed was taken, and the others were refused at full rings.
 fn are_refused(rt: &impl Abort, report: &WorkReport) {
     let counts = only(rt, report);
     assert!(rt; counts.arrived == 2 && counts.taken == 1);

@@ -131,7 +131,7 @@ fn has_blocks(rt: &impl Abort, file: &MemoryFile, firsts: &[u8], instant: u64)
     }
 }
 
-/// A mix of seven blocks goes to files of three blocks each, of which the last has one.
+/// A mix of seven blocks goes to files of three blocks each. The last file has one.
 #[test]
 fn each_file_has_the_blocks_of_its_place(rt: HostRuntime) {
     let (result, files, file) = written(&rt, rt.alloc(), 3);

@@ -325,8 +325,8 @@ fn gives_marks(rt: &impl Abort, stream: &mut StreamEnd) {
     assert!(rt; stream.turn(0).is_ok() && stream.turn(96).is_ok());
 }
 
-/// Lets one stream send its marks, of which the mixer takes a number and returns no datagram, and then the other
-/// stream.
+/// Lets one stream send its marks; the mixer takes `taken` of them and returns no datagram. Then lets the other stream
+/// send its marks.
 fn give_in_turn(
     rt: &impl Abort,
     early: &mut StreamEnd,
@@ -340,7 +340,7 @@ fn give_in_turn(
 }
 
 /// Tests two streams that send their marks in this order: the first one has eight packets, the second one none. Up to
-/// 96 the first one has fifteen slots, of which the first block wants eight, and the second one is silent up to 48.
+/// 96 the first one has fifteen slots, eight of them for the first block, and the second one is silent up to 48.
 fn mixes_in_order(rt: &impl Abort, alloc: Global, last_first: bool) {
     let TwoStreams {
         mut of_first,
