@@ -33,8 +33,8 @@ count_help OffGrid = codes "Packets whose timestamp was not in step with their n
 count_help Late = codes "Packets that came after their deadline."
 count_help Ahead = codes "Packets beyond the reorder window."
 count_help WrongSource = codes "Packets of another synchronization source."
-count_help Got = codes "Slots that were handed on with a payload."
-count_help Lost = codes "Slots that were handed on as lost."
+count_help Got = codes "Slots that were passed to the mix with a payload."
+count_help Lost = codes "Slots that were passed to the mix as lost."
 count_help Restarts = codes "Packets that opened a new epoch."
 
 -- the value of a number

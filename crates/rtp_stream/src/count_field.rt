@@ -98,8 +98,8 @@ impl CountField {
             CountField::Late => "Packets that came after their deadline.",
             CountField::Ahead => "Packets beyond the reorder window.",
             CountField::WrongSource => "Packets of another synchronization source.",
-            CountField::Got => "Slots that were handed on with a payload.",
-            CountField::Lost => "Slots that were handed on as lost.",
+            CountField::Got => "Slots that were passed to the mix with a payload.",
+            CountField::Lost => "Slots that were passed to the mix as lost.",
             CountField::Restarts => "Packets that opened a new epoch.",
         }
     }
