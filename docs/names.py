@@ -1,4 +1,4 @@
-"""The table of docs/FORMATS.md that joins the names of each number in the report, in the lines of --stats, in /state and in /metrics.
+"""The table of docs/METRICS.md that joins the names of each number in the report, in the lines of --stats, in /state and in /metrics.
 Keys, kinds and descriptions are those of the crate status_page, and the words of lines those of the crates that write the lines."""
 import re
 
@@ -123,9 +123,9 @@ def words_of(files, pattern):
 
 
 def differences():
-    """Whether FORMATS has another table, and words of lines that the table lacks, or has too many."""
-    if "\n".join(table()) not in (ROOT / "docs" / "FORMATS.md").read_text():
-        yield "docs/FORMATS.md lacks the output of docs/list names"
+    """Whether METRICS has another table, and words of lines that the table lacks, or has too many."""
+    if "\n".join(table()) not in (ROOT / "docs" / "METRICS.md").read_text():
+        yield "docs/METRICS.md lacks the output of docs/list names"
     counted = set(texts(COUNTS.read_text(), "pub fn key(").values()) | {"source"}
     # The second copy of the mix, and the other paths, have names of the same form.
     alike = lambda words: {re.sub("_b$", "_a", word) for word in words}

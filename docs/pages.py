@@ -248,7 +248,7 @@ def differences():
     yield from wrong_defaults()
     yield from missing_faults()
     yield from lacks("docs/FORMATS.md", command_words(), "the word")
-    yield from lacks("docs/OPERATING.md", metrics(), "the metric")
+    yield from lacks("docs/METRICS.md", metrics(), "the metric")
     yield from (f"docs/OPERATING.md lacks the alert {alert}" for alert in alerts() if alert not in page("docs/OPERATING.md"))
     yield from copied_code()
     yield from unlinked_pages()
