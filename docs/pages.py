@@ -22,6 +22,7 @@ NEVER = {
     r"a front of": "a prefix of",
     r"sightings": "what is counted, by name",
     r"stands as it is": "is unchanged",
+    r"(?:the reasons? for|because of) which": "why",
 }
 SOURCES = ROOT / "crates"
 ERRORS = "file_commands/src/fault.rt", "studio_main/src/fault.rt", "live_run/src/fault.rt"
