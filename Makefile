@@ -47,8 +47,13 @@ lib: bin/library/lib/libdarbexum.a
 bin/library/lib/libdarbexum.a: $(sources) bindings/c/darbexum.h bindings/cpp/darbexum.hpp packaging/library packaging/darbexum.pc.in
 	gate/build --library bin/library $(PROVED)
 
-bin/darbexum-live bin/darbexum-sdp: bin/%: %
+bin/darbexum-live: bin/%: %
 	install -D $* $@
+
+# A link, since the script finds its package from where it is itself.
+bin/darbexum-sdp: sdp/darbexum-sdp
+	mkdir -p bin
+	ln -sf ../$< $@
 
 # With nothing built, or with sources that are newer, by a run that proves nothing.
 run:
