@@ -1,14 +1,17 @@
 """The times that a check of a crate has kept, of each goal and each answer, and the goals that have no answer."""
 import re
 
-# The name of a declaration and the microseconds of the phases of its check, as the toolchain's record of a module has them.
+# The name of a declaration and the microseconds of the phases of its check, as the toolchain's record of a module has
+# them.
 CHECKED = re.compile(rb'"name":"([^"]+)","notes":\[[^\]]*\],"own":\[[^\]]*\],"phases":\[([\d,]+)\]')
 
 
 def times_of(top, crate, module):
-    """The seconds, the function and the name of each goal that the check of a crate below `top` has proved by itself, if the module
-    is Proof, or of each answer, if it is Answers."""
-    home, prefix, suffix = top / "crates" / crate / "out" / "incremental", f"Rattle-{crate}-proofs.", f".{module}.decls.oantt"
+    """The seconds, the function and the name of each goal that the check of a crate below `top` has proved by itself,
+    if the module is Proof, or of each answer, if it is Answers."""
+    home, prefix, suffix = (
+        top / "crates" / crate / "out" / "incremental", f"Rattle-{crate}-proofs.", f".{module}.decls.oantt"
+    )
     for record in home.glob(f"*/records/{prefix}*{suffix}"):
         function = record.name.removeprefix(prefix).removesuffix(suffix)
         for name, phases in CHECKED.findall(record.read_bytes()):
@@ -26,11 +29,15 @@ def answered(file):
 
 def is_open(goal, have):
     """Whether a goal has no answer, alone or with all clauses of its call or return."""
-    return goal not in have and goal.split("-clause-")[0] not in have and not any(it.startswith(f"{goal}-clause-") for it in have)
+    return (
+        goal not in have and goal.split("-clause-")[0] not in have
+        and not any(it.startswith(f"{goal}-clause-") for it in have)
+    )
 
 
 def open_goals(top, crate):
-    """The seconds, the function and the name of each goal that has no answer. The records of a check also have older ones."""
+    """The seconds, the function and the name of each goal that has no answer. The records of a check also have older
+    ones."""
     for seconds, function, goal in times_of(top, crate, "Proof"):
         if is_open(goal, answered(answers_file(top, crate, function))):
             yield seconds, function, goal

@@ -44,7 +44,8 @@ def load():
 
 
 def ticks():
-    """The ticks of all processors since the system began, and of these the ones that the host of a virtual machine took."""
+    """The ticks of all processors since the system began, and of these the ones that the host of a virtual machine
+    took."""
     with open("/proc/stat") as file:
         fields = [int(field) for field in file.readline().split()[1:9]]
     return sum(fields), fields[7]
@@ -74,7 +75,17 @@ def save(name, words, before, lines):
     day = datetime.date.today().isoformat()
     machine = f"{os.cpu_count()} processors, {model.group(1) if model else 'unknown'}"
     script = os.path.basename(sys.argv[0])
-    text = "\n".join([f"bench/{script} {words}".strip() + f", {day}, {machine}, load {before} to {load()}, {taken():.0f} % taken by the host", "", *lines]) + "\n"
+    text = (
+        "\n".join(
+            [
+                f"bench/{script} {words}".strip()
+                + f", {day}, {machine}, load {before} to {load()}, {taken():.0f} % taken by the host",
+                "",
+                *lines,
+            ]
+        )
+        + "\n"
+    )
     print(text, end="")
     with create(name, day) as file:
         file.write(text)

@@ -1,4 +1,5 @@
-"""Random traces of senders that are astray: they drift, burst, pause, lose cycles and begin again, on one to four paths, with forged packets."""
+"""Random traces of senders that are astray: they drift, burst, pause, lose cycles and begin again, on one to four
+paths, with forged packets."""
 
 from traces import FRAMES, OCTETS, datagram
 
@@ -26,7 +27,8 @@ gains = [[65536]]
 
 
 def sent_at(random, count):
-    """When each of so many packets is sent, in sampling instants from the first one's: a sender's own time, in bursts."""
+    """When each of so many packets is sent, in sampling instants from the first one's: a sender's own time, in
+    bursts."""
     pace = FRAMES * random.choice((1, 1, 0.9, 0.95, 1.05, 1.1, 0.5, 2))
     burst = random.choice((1, 1, 1, 2, 3, 5, 10))
     at, slips = 0.0, random.choice((0, 0, 0.01, 0.05))
@@ -49,12 +51,16 @@ def run(random, paths, start, begin):
         for path in range(paths):
             now = start + at + delays[path] + random.randrange(jitter + 1)
             if random.random() >= lost:
-                yield now, random.random(), ("abcd"[path], 0, datagram(random, seq + n, ts + n * FRAMES, ssrc, payload, 1))
+                yield now, random.random(), (
+                    "abcd"[path], 0, datagram(random, seq + n, ts + n * FRAMES, ssrc, payload, 1)
+                )
         now, last = start + at, "abcd"[paths - 1]
         if random.random() < forged:
             # numbers on the grid and beyond the window, or numbers again that were heard
             jump = random.choice((8, 9, 20, 100, 1000, -1, -5, -20))
-            yield now, random.random(), (last, 0, datagram(random, seq + n + jump, ts + (n + jump) * FRAMES, ssrc, payload, 1))
+            yield now, random.random(), (
+                last, 0, datagram(random, seq + n + jump, ts + (n + jump) * FRAMES, ssrc, payload, 1)
+            )
         if random.random() < strays:
             other = random.choice(((seq + n, ts + n * FRAMES + 1, ssrc), (seq + n, ts + n * FRAMES, 7)))
             yield now, random.random(), (random.choice("abcd"[:paths]), 0, datagram(random, *other, payload, 1))
@@ -70,7 +76,9 @@ def trace(random):
         if random.random() < 0.5:
             begin = random.randrange(65536), random.randrange(2**32), random.choice((1, 2, 3))
     last, step = max([start] + [time for time, _, _ in comings]) + 30, random.choice((1, 3, 6, 6, 7, 12, 40))
-    comings += [(now, random.random(), ("tick", now)) for now in range(random.randrange(6), last, step) if random.random() < 0.9]
+    comings += [
+        (now, random.random(), ("tick", now)) for now in range(random.randrange(6), last, step) if random.random() < 0.9
+    ]
     if random.random() < 0.7:
         comings.append((last, 2, ("close",)))
     comings.sort(key=lambda coming: coming[:2])

@@ -1,11 +1,14 @@
 #!/usr/bin/env python3
 """python3 diff/examples.py: the examples of docs/RECEPTION.md through the reference, beside values written by hand.
 
-Left out are those of samples and of specifications, of payloads that the stream has no room for, and of a packet's path.
+Left out are those of samples and of specifications, of payloads that the stream has no room for, and of a packet's
+path.
 """
 import sys
 
-from reference import LATENCY, Anchor, Packet, Stream, answer, fault_of, marks, media_time_of, nearest, next_due, packet_of
+from reference import (
+    LATENCY, Anchor, Packet, Stream, answer, fault_of, marks, media_time_of, nearest, next_due, packet_of
+)
 
 PAYLOAD, CHANGED = "11" * 18, "11" * 17 + "12"
 END = "0 end"
@@ -53,7 +56,10 @@ EIGHT = sequence("a", 8, 500, 4294967274)
 
 # what it shows, the stream, the events, the fates, the listing
 RUNS = [
-    ("fates: copies", ANY, [A(1, 0), B(1, 0), B(1, 0, 1, CHANGED), reading(12)], "taken double unlike", [got(65537, 0)]),
+    (
+        "fates: copies", ANY, [A(1, 0), B(1, 0), B(1, 0, 1, CHANGED), reading(12)], "taken double unlike",
+        [got(65537, 0)]
+    ),
     (
         "fates: the wrap, in time",
         ANY,

@@ -11,8 +11,8 @@ PROBATION = 8
 ASTRAY, LAST = 8, 64
 LATEST = 2**60
 
-# what a specification asks for: a source or None, the offset of the media clock or None for the clocks of arrivals, whether
-# the clock follows a sender that is astray, and how many paths there are
+# what a specification asks for: a source or None, the offset of the media clock or None for the clocks of arrivals,
+# whether the clock follows a sender that is astray, and how many paths there are
 Stream = namedtuple("Stream", "source offset follows paths", defaults=(None, 0, False, 2))
 Packet = namedtuple("Packet", "seq ts ssrc payload")
 Anchor = namedtuple("Anchor", "number ts media ssrc")
@@ -102,7 +102,9 @@ def anchor_at(packet, media):
 
 def follows(before, packet):
     """Whether a packet is the next one in sequence."""
-    return (packet.ssrc, packet.seq, packet.ts) == (before.ssrc, (before.seq + 1) % 65536, (before.ts + FRAMES) % 2**32)
+    return (packet.ssrc, packet.seq, packet.ts) == (
+        before.ssrc, (before.seq + 1) % 65536, (before.ts + FRAMES) % 2**32
+    )
 
 
 def completes_probation(came):
@@ -117,7 +119,8 @@ def last_of_path(stood, path):
 
 
 def is_emptying(anchor, due, stood):
-    """Whether what is held is handed on and nothing more is taken: packets come too early on each path of which one is held."""
+    """Whether what is held is handed on and nothing more is taken: packets come too early on each path of which one is
+    held."""
     early, holds = {}, {}
     for path in "abcd":
         early[path] = sum(one.beyond for one in last_of_path(stood, path)) >= ASTRAY
@@ -290,7 +293,8 @@ def fault_of(events, stream=PROGRAM):
 
 
 def answer(events, stream=PROGRAM):
-    """What the program has to write on standard output and on standard error, its status, and counts of fates and marks."""
+    """What the program has to write on standard output and on standard error, its status, and counts of fates and
+    marks."""
     fault = fault_of(events, stream)
     if fault:
         return "", fault + "\n", 1, Counter({fault.split()[-1]: 1})

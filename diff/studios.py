@@ -1,4 +1,5 @@
-"""Random studios of one to three streams, and traces of them: losses, delays, strays, restarts, near and far readings."""
+"""Random studios of one to three streams, and traces of them: losses, delays, strays, restarts, near and far
+readings."""
 
 from traces import datagram, text_of
 
@@ -39,7 +40,9 @@ def studio_of(random):
     tables = [("[[stream]]", stream) for stream in streams] + [("[output]", output)]
     lines = [f"open_at = {open_at}"]
     for head, table in tables:
-        lines += [head] + [f'{key} = "{value}"' if isinstance(value, str) else f"{key} = {value}" for key, value in table.items()]
+        lines += [head] + [
+            f'{key} = "{value}"' if isinstance(value, str) else f"{key} = {value}" for key, value in table.items()
+        ]
     return open_at, streams, "".join(line + "\n" for line in lines)
 
 
@@ -67,7 +70,9 @@ def comings_of(random, open_at, number, stream):
 def studio_trace(random):
     """A configuration's text, and that of a trace."""
     open_at, streams, config = studio_of(random)
-    comings = [coming for number, stream in enumerate(streams) for coming in comings_of(random, open_at, number, stream)]
+    comings = [
+        coming for number, stream in enumerate(streams) for coming in comings_of(random, open_at, number, stream)
+    ]
     now, last = open_at, max([open_at] + [time for time, _, _ in comings]) + random.choice((0, 50, 3000, 100_000))
     while now < last:
         comings.append((now, random.random(), ("tick", now)))

@@ -1,4 +1,5 @@
-"""Random traces: senders' packets on two paths, with losses, delays, copies that differ, strays, restarts and faults."""
+"""Random traces: senders' packets on two paths, with losses, delays, copies that differ, strays, restarts and
+faults."""
 
 FRAMES, OCTETS = 6, 18
 
@@ -53,7 +54,9 @@ def sender(random, start, path_names):
             delay = random.choice((0, 0, 1, 5, 6, 11, 12, 12, 13, 18, 24, -6, -30, -36))
             stream = 1 if random.random() < 0.0005 else 0
             name = "c" if random.random() < 0.0005 else name
-            yield media + n * FRAMES + delay, random.random(), (name, stream, datagram(random, number, ts, source, sent))
+            yield media + n * FRAMES + delay, random.random(), (
+                name, stream, datagram(random, number, ts, source, sent)
+            )
 
 
 class Run:
@@ -75,10 +78,14 @@ def begun_anew(random, run, media):
     seq, offset, ssrc = run.seq, random.choice((0, 0, 0, 0, 0, 1, -1, 3, 6, -6)), run.ssrc
     if random.random() < 0.6:
         # numbers that wrap within a probation, that step back or ahead, or any
-        seq = random.choice((65536 - random.randrange(12), seq + 1, seq + 9, seq - 8, seq + 32768, random.randrange(65536)))
+        seq = random.choice(
+            (65536 - random.randrange(12), seq + 1, seq + 9, seq - 8, seq + 32768, random.randrange(65536))
+        )
     if random.random() < 0.2:
         # media times that go back, lie ahead, or are of another time altogether
-        offset = random.choice((-7, -30, -60, 7, 30, 40, 100, 2**31, 2**31 - 1, 65536 * FRAMES, random.randrange(2**32)))
+        offset = random.choice(
+            (-7, -30, -60, 7, 30, 40, 100, 2**31, 2**31 - 1, 65536 * FRAMES, random.randrange(2**32))
+        )
     if random.random() < 0.4:
         ssrc = random.choice((1, 2, 3, 0xFFFFFFFF))
     return Run(seq, media + offset, ssrc)

@@ -1,8 +1,9 @@
 #!/usr/bin/env python3
-"""docs/figures.py [--check]: draws the figures of the pages as SVG files in docs/figures; with --check it prints which files differ.
+"""docs/figures.py [--check]: draws the figures of the pages as SVG files in docs/figures; with --check it prints which
+files differ.
 
-Numbers come from the configurations and traces of examples/, and each call that a figure names has to be in its crate. The colours
-follow the reader's scheme, light or dark, over a background of their own.
+Numbers come from the configurations and traces of examples/, and each call that a figure names has to be in its crate.
+The colours follow the reader's scheme, light or dark, over a background of their own.
 """
 import sys
 import tomllib
@@ -71,7 +72,10 @@ class Figure:
 
     def svg(self):
         width, height = self.size
-        head = f'<svg xmlns="http://www.w3.org/2000/svg" viewBox="0 0 {width} {height}" width="{width}" height="{height}" role="img">'
+        head = (
+            f'<svg xmlns="http://www.w3.org/2000/svg" viewBox="0 0 {width} {height}" width="{width}" height="{height}"'
+            ' role="img">'
+        )
         title = f"<title>{escape(self.label)}</title>"
         back = f'<rect width="{width}" height="{height}" class="back"/>'
         return "\n".join([head, title, f"<style>{STYLE}</style>", back, *self.parts, "</svg>", ""])
@@ -97,17 +101,33 @@ def latency():
     """When a packet of examples/live may come: too early, in time and late, about its media time."""
     stream = studio("live/live.toml")["stream"][0]
     early = stream["window"] * stream["frames"] - stream["latency"]
-    figure = Figure(760, 230, "Packets are taken from the window before their deadline up to the deadline, which is the latency after the media time.")
+    figure = Figure(
+        760, 230,
+        (
+            "Packets are taken from the window before their deadline up to the deadline, which is the latency after the"
+            " media time."
+        ),
+    )
     scale, zero, top = 3.2 / 48, 400, 70
     begin, end = zero - early * scale, zero + stream["latency"] * scale
-    figure.text(20, 24, f"The arrival of one packet, by latency = {stream['latency']} and window = {stream['window']} packets of {stream['frames']}", "bold")
+    figure.text(
+        20, 24,
+        (
+            f"The arrival of one packet, by latency = {stream['latency']} and window = {stream['window']} packets of"
+            f" {stream['frames']}"
+        ),
+        "bold",
+    )
     figure.box(20, top, begin - 20, 44, "early", "Ahead")
     figure.box(begin, top, end - begin, 44, "good")
     figure.text((begin + zero) / 2, top + 27, "Taken, if it is the first copy", "bold", "middle")
     figure.box(end, top, 740 - end, 44, "late", "Late")
     figure.text(30, top - 8, "too early for the window", "small")
     figure.text(end + 8, top - 8, "its slot was passed on as lost", "small")
-    for x, words, below in ((begin, milliseconds(-early), "a window before the deadline"), (zero, "0", "media time of the packet"), (end, f"+{milliseconds(stream['latency'])}", "deadline")):
+    for x, words, below in (
+        (begin, milliseconds(-early), "a window before the deadline"), (zero, "0", "media time of the packet"),
+        (end, f"+{milliseconds(stream['latency'])}", "deadline")
+    ):
         figure.line((x, top), (x, top + 62))
         figure.text(x, top + 78, words, "bold", "middle" if x != zero else "end")
         figure.text(x, top + 95, below, "small", "middle" if x != zero else "end")
@@ -124,9 +144,15 @@ def latency():
 WAY = [
     ("datagram of a path", "rtp_wire", "read", "header and payload, or the first fault of RFC 3550"),
     ("header and payload, borrowed", "rtp_stream", "StreamSpec::admit_ref", "tests payload type and length"),
-    ("packet of the stream, borrowed", "path_merge", "Merge::offer_ref", "finds its number and fate; copies a taken payload into its slot"),
+    (
+        "packet of the stream, borrowed", "path_merge", "Merge::offer_ref",
+        "finds its number and fate; copies a taken payload into its slot"
+    ),
     ("clock reading", "path_merge", "Merge::pass_to", "returns each due mark, in order"),
-    ("marks: slots, quiets, the end", "lane_align", "Lane::feed_ref", "keeps the samples of each channel by media time"),
+    (
+        "marks: slots, quiets, the end", "lane_align", "Lane::feed_ref",
+        "keeps the samples of each channel by media time"
+    ),
     ("values at media times", "gain_mix", "mix_counted", "sums by gains, rounds once, saturates once"),
     ("output samples of a block", "mix_packets", "Packer::next", "writes the RTP header before them"),
 ]
@@ -135,7 +161,10 @@ WAY = [
 def way():
     """The way of a datagram through the crates."""
     step = 84
-    figure = Figure(760, len(WAY) * step + 40, "A datagram passes from rtp_wire through rtp_stream, path_merge, lane_align and gain_mix to mix_packets.")
+    figure = Figure(
+        760, len(WAY) * step + 40,
+        "A datagram passes from rtp_wire through rtp_stream, path_merge, lane_align and gain_mix to mix_packets."
+    )
     for place, (given, crate, path, does) in enumerate(WAY):
         y = place * step + 34
         figure.arrow((150, y - 34), (150, y))
@@ -152,7 +181,12 @@ def embed_merge():
     """One stream by the calls of a Merge."""
     figure = Figure(760, 190, "Packets and clock readings go into a Merge, and marks come out.")
     figure.box(290, 40, 200, 110, "box", "Merge", "one stream")
-    for place, (given, path) in enumerate((("packet of a path", "Merge::offer"), ("clock reading", "Merge::advance"), ("nothing more comes", "Merge::close"))):
+    for place, (given, path) in enumerate(
+        (
+            ("packet of a path", "Merge::offer"), ("clock reading", "Merge::advance"),
+            ("nothing more comes", "Merge::close")
+        )
+    ):
         y = 55 + place * 38
         call("path_merge", path)
         figure.text(20, y - 5, given, "small")
@@ -168,7 +202,10 @@ def embed_merge():
 
 def embed_engine():
     """A studio as one object, in the caller's loop."""
-    figure = Figure(760, 210, "The caller's loop passes datagrams and clock readings to an Engine, which writes the output's datagrams.")
+    figure = Figure(
+        760, 210,
+        "The caller's loop passes datagrams and clock readings to an Engine, which writes the output's datagrams."
+    )
     figure.box(20, 30, 190, 120, "box", "your loop", "sockets and clock")
     figure.box(330, 30, 410, 120, "box")
     figure.text(535, 54, "Engine", "bold", "middle")
@@ -181,21 +218,34 @@ def embed_engine():
         figure.arrow((210, y), (330, y))
     figure.text(218, 130, "datagram in out", "small")
     figure.arrow((330, 135), (210, 135))
-    figure.text(20, 180, "Engine::new allocates all that the engine ever needs. No later call allocates or waits.", "small")
+    figure.text(
+        20, 180, "Engine::new allocates all that the engine ever needs. No later call allocates or waits.", "small"
+    )
     call("studio_engine", "Engine::new")
     return figure
 
 
 def embed_workers():
     """A studio over rings: the ends, the rings between them and the workers that call them."""
-    figure = Figure(760, 310, "Each path has a worker and a ring to its stream's worker, which has a ring of marks to the worker of the mixer.")
-    for crate, path in (("studio_ends", "PathEnd::offer"), ("studio_ends", "StreamEnd::turn"), ("studio_ends", "MixEnd::turn"), ("studio_rings", "run_workers")):
+    figure = Figure(
+        760, 310,
+        (
+            "Each path has a worker and a ring to its stream's worker, which has a ring of marks to the worker of the"
+            " mixer."
+        ),
+    )
+    for crate, path in (
+        ("studio_ends", "PathEnd::offer"), ("studio_ends", "StreamEnd::turn"), ("studio_ends", "MixEnd::turn"),
+        ("studio_rings", "run_workers")
+    ):
         call(crate, path)
     for stream, y in ((0, 30), (1, 150)):
         for path, letter in enumerate("ab"):
             top = y + path * 54
             figure.box(20, top, 170, 44, "box", f"worker of path {stream}{letter}", "PathEnd::offer")
-            figure.arrow((190, top + 22), (250, top + 22), (250, y + 49 - 12 + path * 24), (300, y + 49 - 12 + path * 24))
+            figure.arrow(
+                (190, top + 22), (250, top + 22), (250, y + 49 - 12 + path * 24), (300, y + 49 - 12 + path * 24)
+            )
         figure.text(200, y + 16, "ring of packets", "small")
         figure.box(300, y + 24, 180, 50, "box", f"worker of stream {stream}", "StreamEnd::turn")
         figure.text(488, y + 42, "ring of marks", "small")
@@ -204,14 +254,24 @@ def embed_workers():
     figure.box(560, 120, 180, 46, "good", "worker of the mixer", "MixEnd::turn")
     figure.arrow((740, 143), (757, 143))
     figure.text(620, 185, "datagrams to the sink", "small")
-    figure.text(20, 276, "Each worker of a path or stream has a thread of its own. The worker of the mixer runs in the calling thread.", "small")
+    figure.text(
+        20, 276,
+        "Each worker of a path or stream has a thread of its own. The worker of the mixer runs in the calling thread.",
+        "small"
+    )
     figure.text(20, 296, "No ring has a lock. No end allocates or waits after the studio is opened.", "small")
     return figure
 
 
 def history():
     """HasHistory: the events so far on one side, the merge and its marks on the other."""
-    figure = Figure(760, 300, "The events so far determine all marks; HasHistory relates them to the merge and to the number of marks that were returned.")
+    figure = Figure(
+        760, 300,
+        (
+            "The events so far determine all marks; HasHistory relates them to the merge and to the number of marks"
+            " that were returned."
+        ),
+    )
     figure.text(20, 24, "HasHistory stream open_at merge events k", "code")
     events = ["tick 0", "a 1", "b 1", "a 2", "close"]
     figure.text(20, 63, "events", "bold")
@@ -227,7 +287,14 @@ def history():
     figure.box(110, 200, 460, 50, "box", "the merge", "window, anchor, time, counts")
     figure.arrow((562, 59), (650, 59), (650, 225), (570, 225))
     figure.text(590, 190, "lead to", "small")
-    figure.text(20, 280, "Contract of each call: if HasHistory holds before it, it holds after it, of the list to which the call's event was added.", "small")
+    figure.text(
+        20, 280,
+        (
+            "Contract of each call: if HasHistory holds before it, it holds after it, of the list to which the call's"
+            " event was added."
+        ),
+        "small",
+    )
     return figure
 
 
@@ -238,7 +305,9 @@ def block():
     slots = [(int(line.split()[0]), int(line.split()[3])) for line in lines if " slot " in line]
     scale, left = 6.4, 110
     place = lambda time: left + time * scale
-    figure = Figure(760, 240, "Packets of two streams of unlike length over media time, and the two blocks of the output.")
+    figure = Figure(
+        760, 240, "Packets of two streams of unlike length over media time, and the two blocks of the output."
+    )
     for stream, y in ((0, 30), (1, 80)):
         figure.text(20, y + 20, f"stream {stream}", "bold")
         frames = config["stream"][stream]["frames"]
@@ -273,7 +342,10 @@ def deadlines():
     stream = studio("first/studio.toml")["stream"][0]
     frames, latency, scale, left = stream["frames"], stream["latency"], 24, 120
     place = lambda time: left + time * scale
-    figure = Figure(760, 232, "Each packet's deadline is the latency after its media time, and the number due next changes at each deadline.")
+    figure = Figure(
+        760, 232,
+        "Each packet's deadline is the latency after its media time, and the number due next changes at each deadline."
+    )
     figure.text(20, 24, "time", "bold")
     for time in range(0, 25, frames):
         figure.text(place(time), 24, str(time), "small", "middle")
@@ -301,7 +373,10 @@ def restart():
     stream = studio("restart/studio.toml")["stream"][0]
     frames, latency, scale, left = stream["frames"], stream["latency"], 15, 120
     place = lambda time: left + time * scale
-    figure = Figure(760, 214, "After a restart there is no slot between the end of the last slot of an epoch and the first of the next.")
+    figure = Figure(
+        760, 214,
+        "After a restart there is no slot between the end of the last slot of an epoch and the first of the next."
+    )
     figure.text(20, 50, "media time", "bold")
     slots = list(media_slots("restart"))
     figure.box(place(frames), 30, (slots[1][2] - frames) * scale - 1, 32, "box", "no slot")
@@ -325,7 +400,8 @@ RESULTS = ROOT / "bench" / "results"
 
 
 def result_rows(name, columns):
-    """The rows of numbers in a file of results, for each processor that it names. A row has as many words as there are columns."""
+    """The rows of numbers in a file of results, for each processor that it names. A row has as many words as there are
+    columns."""
     found, processor = {}, None
     for line in (RESULTS / name).read_text().splitlines():
         words = line.replace(" by ", "x").split()
@@ -362,17 +438,30 @@ def bars(title, unit, groups, names):
 
 def bench_mix():
     """Frames mixed a second, by the shape of the matrix, ours next to the best of C's four forms."""
-    rows = {processor: [(words[0].replace("x", " by "), float(words[1]), max(map(float, words[2:6]))) for words in found] for processor, found in result_rows("mix-2026-11-27.txt", 7).items()}
-    return bars("bench/mix, 2026-11-27: outputs by inputs", "millions of frames a second; more is better", rows, ("ours", "the best of C"))
+    rows = {
+        processor: [(words[0].replace("x", " by "), float(words[1]), max(map(float, words[2:6]))) for words in found]
+        for processor, found in result_rows("mix-2026-11-27.txt", 7).items()
+    }
+    return bars(
+        "bench/mix, 2026-11-27: outputs by inputs", "millions of frames a second; more is better", rows,
+        ("ours", "the best of C")
+    )
 
 
 def bench_merge():
     """Instructions an arrival, by the octets of a payload, ours next to C's, with a window of 512 packets."""
-    rows = {processor: [(f"{words[0]} octets", float(words[2]), float(words[3])) for words in found if words[1] == "512"] for processor, found in result_rows("merge-2026-11-27.txt", 8).items()}
+    rows = {
+        processor: [(f"{words[0]} octets", float(words[2]), float(words[3])) for words in found if words[1] == "512"]
+        for processor, found in result_rows("merge-2026-11-27.txt", 8).items()
+    }
     return bars("bench/merge, 2026-11-27, window 512", "instructions an arrival; less is better", rows, ("ours", "C"))
 
 
-FIGURES = {"latency": latency, "way": way, "merge": embed_merge, "engine": embed_engine, "workers": embed_workers, "history": history, "block": block, "deadlines": deadlines, "restart": restart, "mix": bench_mix, "merge-cost": bench_merge}
+FIGURES = {
+    "latency": latency, "way": way, "merge": embed_merge, "engine": embed_engine, "workers": embed_workers,
+    "history": history, "block": block, "deadlines": deadlines, "restart": restart, "mix": bench_mix,
+    "merge-cost": bench_merge
+}
 
 
 def differences():

@@ -1,5 +1,6 @@
-"""The table of docs/METRICS.md that joins the names of each number in the report, in the lines of --stats, in /state and in /metrics.
-Keys, kinds and descriptions are those of the crate status_page, and the words of lines those of the crates that write the lines."""
+"""The table of docs/METRICS.md that joins the names of each number in the report, in the lines of --stats, in /state
+and in /metrics. Keys, kinds and descriptions are those of the crate status_page, and the words of lines those of the
+crates that write the lines."""
 import re
 
 from sources import ROOT
@@ -13,8 +14,8 @@ REPORT = "studio_run/src/lines/counts.rt", "live_status/src/lines/report.rt", "s
 STATS = "live_status/src/lines/running.rt", "live_status/src/lines/drift.rt"
 HEAD = "| In the report | In `--stats` | In `/state` | In `/metrics` | Meaning |\n|---|---|---|---|---|"
 
-# The words in lines of the numbers that are no counts of a merge: the first word of the line, and the word before the number. A line
-# with one number has no further word.
+# The words in lines of the numbers that are no counts of a merge: the first word of the line, and the word before the
+# number. A line with one number has no further word.
 IN_REPORT = {
     "path_datagrams": "path offered",
     "path_packets": "path sent",
@@ -62,7 +63,10 @@ FURTHER = {
     "pcm_left_out": ("pcm.left_out", "LEFT_OUT_HELP", False),
 }
 # Words of the report that are in nothing else.
-REPORT_ALONE = {"sink blocks": "Datagrams of the mix.", "sink sent_a": "Datagrams of the mix that were sent to the address of this copy."}
+REPORT_ALONE = {
+    "sink blocks": "Datagrams of the mix.",
+    "sink sent_a": "Datagrams of the mix that were sent to the address of this copy."
+}
 # Words before numbers that are no counts.
 NO_COUNTS = {"time"}
 
@@ -109,7 +113,9 @@ def rows_of_fields():
     source = METRICS.read_text()
     for name, (state, constant, is_gauge) in FURTHER.items():
         meaning = re.search(rf'const {constant}: &str =\s+"([^"]+)"', source)[1]
-        yield row(IN_REPORT.get(name), IN_STATS.get(name), state, f"darbexum_{name}{'' if is_gauge else '_total'}", meaning)
+        yield row(
+            IN_REPORT.get(name), IN_STATS.get(name), state, f"darbexum_{name}{'' if is_gauge else '_total'}", meaning
+        )
 
 
 def table():
@@ -130,10 +136,17 @@ def differences():
     # The second copy of the mix, and the other paths, have names of the same form.
     alike = lambda words: {re.sub("_b$", "_a", word) for word in words}
     last = lambda names: {name.split()[-1] for name in names}
-    report = words_of(REPORT, r'push_count\(text, "(\w+)"') | set(re.findall(r'writeln!\(output, "(\w+) \{', read(REPORT[-1]))) - {"open_at"}
+    report = words_of(REPORT, r'push_count\(text, "(\w+)"') | set(
+        re.findall(r'writeln!\(output, "(\w+) \{', read(REPORT[-1]))
+    ) - {"open_at"}
     for found, named, kind in (
         (report | {"from_a"}, {*IN_REPORT.values(), *REPORT_ALONE}, "the report"),
         (words_of(STATS, r'push\(" (\w+)="\)') | {"from_a"}, IN_STATS.values(), "--stats"),
     ):
-        yield from (f"docs/names.py lacks the word {word} of {kind}" for word in sorted(alike(found) - last(named) - counted))
-        yield from (f"docs/names.py has the word {word}, which {kind} doesn't have" for word in sorted(last(named) - alike(found) - counted))
+        yield from (
+            f"docs/names.py lacks the word {word} of {kind}" for word in sorted(alike(found) - last(named) - counted)
+        )
+        yield from (
+            f"docs/names.py has the word {word}, which {kind} doesn't have"
+            for word in sorted(last(named) - alike(found) - counted)
+        )

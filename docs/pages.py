@@ -1,4 +1,5 @@
-"""What the pages have to say, by the sources: keys, fault lines, metrics, words of the command line, alerts, code, links and words."""
+"""What the pages have to say, by the sources: keys, fault lines, metrics, words of the command line, alerts, code,
+links and words."""
 import re
 
 import sources
@@ -113,14 +114,19 @@ def wrong_defaults():
     """Keys whose default in CONFIGURATION is not that of `help config`. Words after a semicolon explain it."""
     known = dict(defaults())
     for table in page("docs/CONFIGURATION.md").split("\n| Key |")[1:]:
-        head, _, *rows = [[cell.strip() for cell in row.strip("|").split("|")] for row in table.partition("\n\n")[0].splitlines()]
+        head, _, *rows = [
+            [cell.strip() for cell in row.strip("|").split("|")] for row in table.partition("\n\n")[0].splitlines()
+        ]
         column = head.index("Default") + 1 if "Default" in head else None
         for row in rows if column else []:
             written = row[column].replace("`", "").partition(";")[0]
             for key in re.findall(r"`(\w+)`", row[0]):
                 # A source (SSRC) has a default in a stream's table alone.
                 if written != known.get(key, "") and (key, written) != ("ssrc", "any"):
-                    yield f"docs/CONFIGURATION.md has the default '{written}' of {key}, and help config '{known.get(key, 'required')}'"
+                    yield (
+                        f"docs/CONFIGURATION.md has the default '{written}' of {key}, and help config"
+                        f" '{known.get(key, 'required')}'"
+                    )
 
 
 def error_lines():
@@ -135,7 +141,9 @@ def error_lines():
 
 def missing_faults():
     text = page("docs/FORMATS.md") + page("docs/CONFIGURATION.md")
-    yield from (f"docs/FORMATS.md lacks the fault line '{line}'" for line in sorted(set(error_lines())) if line not in text)
+    yield from (
+        f"docs/FORMATS.md lacks the fault line '{line}'" for line in sorted(set(error_lines())) if line not in text
+    )
 
 
 def command_words():
@@ -150,18 +158,27 @@ def metric_names(group, file, counts=()):
     """The metrics of a group of numbers, by the keys and kinds in its file."""
     text = (SOURCES / "status_page/src/fields" / file).read_text()
     named = dict(re.findall(r'Field::(\w+) => "(\w+)"', text))
-    gauges = {name for arm in re.findall(r"((?:\w+Field::\w+(?:\(_\))?\s*\|?\s*)+)=>\s*\{?\s*MetricKind::Gauge", text) for name in re.findall(r"Field::(\w+)", arm)}
+    gauges = {
+        name
+        for arm in re.findall(r"((?:\w+Field::\w+(?:\(_\))?\s*\|?\s*)+)=>\s*\{?\s*MetricKind::Gauge", text)
+        for name in re.findall(r"Field::(\w+)", arm)
+    }
     for name, key in named.items():
         yield f"darbexum_{group}_{key}{'' if name in gauges else '_total'}"
     yield from (f"darbexum_{group}_{key}_total" for key in counts)
 
 
 def metrics():
-    counts = re.findall(r'CountField::\w+ => "(\w+)"', (SOURCES / "rtp_stream/src/count_field.rt").read_text().partition("fn word")[0])
+    counts = re.findall(
+        r'CountField::\w+ => "(\w+)"', (SOURCES / "rtp_stream/src/count_field.rt").read_text().partition("fn word")[0]
+    )
     yield from metric_names("stream", "stream.rt", counts)
     yield from metric_names("path", "path.rt")
     yield from metric_names("output", "output.rt")
-    yield from ("darbexum_stream_state", "darbexum_sends_failed_total", "darbexum_record_state", "darbexum_record_datagrams_total")
+    yield from (
+        "darbexum_stream_state", "darbexum_sends_failed_total", "darbexum_record_state",
+        "darbexum_record_datagrams_total"
+    )
     yield from ("darbexum_wav_state", "darbexum_wav_blocks_total")
     yield from ("darbexum_pcm_state", "darbexum_pcm_blocks_total", "darbexum_pcm_left_out_total")
 
@@ -224,10 +241,19 @@ def unlinked_pages():
 
 def unknown_names():
     """Names in the column `In code` of GLOSSARY, and lemma files in PROOFS, that no crate has."""
-    files = [file for kind in ("rt", "antt") for folder in ("src", "specs") for file in SOURCES.glob(f"*/{folder}/**/*.{kind}")]
+    files = [
+        file
+        for kind in ("rt", "antt")
+        for folder in ("src", "specs")
+        for file in SOURCES.glob(f"*/{folder}/**/*.{kind}")
+    ]
     known = set(re.findall(r"\w+", "\n".join(file.read_text() for file in files)))
     for row in re.findall(r"^\| [^|]* \| [^|]* \|([^|]*)\| [^|]* \|$", page("docs/GLOSSARY.md"), re.MULTILINE):
-        yield from (f"docs/GLOSSARY.md names {name}, which is in no crate" for name in re.findall(r"\w+", " ".join(re.findall(r"`([^`]*)`", row))) if name not in known)
+        yield from (
+            f"docs/GLOSSARY.md names {name}, which is in no crate"
+            for name in re.findall(r"\w+", " ".join(re.findall(r"`([^`]*)`", row)))
+            if name not in known
+        )
     lemmas = {file.stem for file in SOURCES.glob("*/proofs/**/*.antt")}
     for name in re.findall(r"`(\w+(?:Lemmas|Cases))`", page("docs/PROOFS.md")):
         if name not in lemmas:
@@ -250,7 +276,9 @@ def differences():
     yield from missing_faults()
     yield from lacks("docs/FORMATS.md", command_words(), "the word")
     yield from lacks("docs/METRICS.md", metrics(), "the metric")
-    yield from (f"docs/OPERATING.md lacks the alert {alert}" for alert in alerts() if alert not in page("docs/OPERATING.md"))
+    yield from (
+        f"docs/OPERATING.md lacks the alert {alert}" for alert in alerts() if alert not in page("docs/OPERATING.md")
+    )
     yield from copied_code()
     yield from unlinked_pages()
     yield from unknown_names()

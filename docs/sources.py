@@ -20,7 +20,8 @@ REFUSED = re.compile(r"(.*\.) \[(\w+(?:::\w+)?: \w+)\]")
 
 
 class Call(NamedTuple):
-    """A function: the type or trait that it belongs to, if any, its `///` lines, the names of its clauses, and its head with them."""
+    """A function: the type or trait that it belongs to, if any, its `///` lines, the names of its clauses, and its head
+    with them."""
 
     name: str
     owner: str
@@ -64,7 +65,8 @@ class Edit(NamedTuple):
 
 @cache
 def crate_lines():
-    """The lines of crates.txt that name a crate: its section, its name with its kind, and what it depends on. A line `# TITLE` begins a section."""
+    """The lines of crates.txt that name a crate: its section, its name with its kind, and what it depends on. A line `#
+    TITLE` begins a section."""
     lines, section = [], ""
     for line in (ROOT / "crates.txt").read_text().splitlines():
         code, sign, comment = line.partition("#")
@@ -126,7 +128,8 @@ def line_count(crate, suffix):
 
 
 def crate_map(with_lines=False):
-    """The map of the crates: for each section its title, then a line for each crate with its sentence and, if asked for, its lines."""
+    """The map of the crates: for each section its title, then a line for each crate with its sentence and, if asked
+    for, its lines."""
     for section, names in sections().items():
         yield section
         for name in names:
@@ -142,7 +145,9 @@ def code_files(crate):
 
 def logic_files(crate):
     """The files of a crate's definitions and lemmas."""
-    return [file for folder in ("specs", "proofs") for file in sorted((ROOT / "crates" / crate / folder).glob("*.antt"))]
+    return [
+        file for folder in ("specs", "proofs") for file in sorted((ROOT / "crates" / crate / folder).glob("*.antt"))
+    ]
 
 
 def code_of(crate):
@@ -175,7 +180,8 @@ def lines_above(text, place):
 
 
 def clauses_from(text, place):
-    """The names of the clauses between a function's name and its body, and where the body begins; a clause without a name has its keyword."""
+    """The names of the clauses between a function's name and its body, and where the body begins; a clause without a
+    name has its keyword."""
     clauses, depth, begin, at = {"requires": [], "ensures": []}, 0, place, place
     for at in range(place, len(text)):
         if text[at] in "([{":
@@ -220,7 +226,11 @@ def exports_of(crate):
 def public_calls_of(crate):
     """Each call that a library gives out, to crates or to C, with its contract."""
     exports = exports_of(crate)
-    return [call for call in calls_of(crate) if call.public and ((call.owner or call.name) in exports or TO_C in call.attributes)]
+    return [
+        call
+        for call in calls_of(crate)
+        if call.public and ((call.owner or call.name) in exports or TO_C in call.attributes)
+    ]
 
 
 def tests_of(crate):
@@ -236,7 +246,8 @@ class Case(NamedTuple):
     rows: list
 
 
-# All worked cases, in the order in which they are read: each topic with its files of tests, its examples and its scripts.
+# All worked cases, in the order in which they are read: each topic with its files of tests, its examples and its
+# scripts.
 RECEPTION, STUDIO, WORKERS, LIVE, PAGE = (
     f"crates/{crate}/src" for crate in ("worked_cases", "engine_tests", "worker_tests", "live_tests", "page_tests")
 )
@@ -248,9 +259,18 @@ CASE_PLACES = {
     "Gains": [f"{STUDIO}/tests/{name}.rt" for name in ("gains", "moving_gains")],
     "Outputs and blocks": [f"{STUDIO}/tests/{name}.rt" for name in ("datagrams", "mixer", "lists")],
     "Traces": [
-        *(f"examples/{name}" for name in ("first", "wrapped", "lost", "arrival-clock", "two-streams", "unlike-packets", "every-key")),
-        *(f"examples/{name}" for name in ("silent-stream", "long-latency", "gain-change", "moving-gains", "restart", "four-paths")),
-        *(f"examples/follow-{name}" for name in ("late", "seven", "early", "paths", "early-path", "pause", "stall", "restart", "flood")),
+        *(
+            f"examples/{name}"
+            for name in ("first", "wrapped", "lost", "arrival-clock", "two-streams", "unlike-packets", "every-key")
+        ),
+        *(
+            f"examples/{name}"
+            for name in ("silent-stream", "long-latency", "gain-change", "moving-gains", "restart", "four-paths")
+        ),
+        *(
+            f"examples/follow-{name}"
+            for name in ("late", "seven", "early", "paths", "early-path", "pause", "stall", "restart", "flood")
+        ),
         "examples/capture",
         "examples/blocks",
         f"{STUDIO}/tests/players.rt",
@@ -267,7 +287,10 @@ CASE_PLACES = {
     ],
     "Sockets and the clock": [f"{LIVE}/sockets.rt"],
     "The page": [f"{PAGE}/tests/{name}.rt" for name in ("texts", "requests", "controls", "sockets")],
-    "Captures and live runs": ["tests/captures", "tests/control", "tests/desk", "tests/loopback", "tests/networks", "tests/page", "tests/faders", "tests/senders"],
+    "Captures and live runs": [
+        "tests/captures", "tests/control", "tests/desk", "tests/loopback", "tests/networks", "tests/page",
+        "tests/faders", "tests/senders"
+    ],
 }
 ROW = re.compile(r'\bshows:\s*"((?:[^"\\]|\\.)*)"', re.DOTALL)
 # The greatest length of a row of a script as it is listed.
@@ -286,11 +309,14 @@ def cases_at(place):
     else:
         text = path.read_text()
         said = text.split('"""')[1]
-        yield Case(place, path.name, FIRST_SENTENCE.match(" ".join(said.partition(": ")[2].split()))[1], rows_of_script(text))
+        yield Case(
+            place, path.name, FIRST_SENTENCE.match(" ".join(said.partition(": ")[2].split()))[1], rows_of_script(text)
+        )
 
 
 def rows_of_script(text):
-    """The rows of a script: its tables, which are lists of tuples, each behind its comment, and the names of the cases that it runs."""
+    """The rows of a script: its tables, which are lists of tuples, each behind its comment, and the names of the cases
+    that it runs."""
     lines, tree, rows = text.splitlines(), ast.parse(text), []
     for node in tree.body:
         if isinstance(node, ast.Assign) and isinstance(node.value, ast.List):
@@ -298,9 +324,18 @@ def rows_of_script(text):
             entries = [entry for part in parts for entry in part if isinstance(entry, ast.Tuple)]
             above = next(place for place in range(node.lineno - 2, -1, -1) if not lines[place].startswith("# "))
             if entries:
-                rows.append((node.lineno, " ".join(line.removeprefix("# ") for line in lines[above + 1 : node.lineno - 1])))
+                rows.append(
+                    (node.lineno, " ".join(line.removeprefix("# ") for line in lines[above + 1 : node.lineno - 1]))
+                )
                 rows += [(node.lineno, "  " + shortened(", ".join(map(ast.unparse, entry.elts)))) for entry in entries]
-    calls = {"Case", *(it.name for it in tree.body if isinstance(it, ast.FunctionDef) and it.args.args and it.args.args[0].arg == "name")}
+    calls = {
+        "Case",
+        *(
+            it.name
+            for it in tree.body
+            if isinstance(it, ast.FunctionDef) and it.args.args and it.args.args[0].arg == "name"
+        ),
+    }
     for node in ast.walk(tree):
         if isinstance(node, ast.Call) and isinstance(node.func, ast.Name) and node.func.id in calls and node.args:
             name = node.args[0].value if isinstance(node.args[0], ast.Constant) else ""
@@ -329,7 +364,12 @@ def cases_in(place, text):
 def unlisted_cases():
     """The files of tests in the crates of worked cases, and the examples, that no topic names."""
     listed = {place for places in CASE_PLACES.values() for place in places}
-    files = [file for crate in (RECEPTION, STUDIO, WORKERS, LIVE, PAGE) for file in sorted((ROOT / crate).rglob("*.rt")) if TEST.search(file.read_text())]
+    files = [
+        file
+        for crate in (RECEPTION, STUDIO, WORKERS, LIVE, PAGE)
+        for file in sorted((ROOT / crate).rglob("*.rt"))
+        if TEST.search(file.read_text())
+    ]
     examples = [trace.parent for trace in sorted((ROOT / "examples").glob("*/input.trace"))]
     return [name for name in (str(path.relative_to(ROOT)) for path in [*files, *examples]) if name not in listed]
 
@@ -343,7 +383,11 @@ def lemma_files_of(crate):
 
 def edit_files(crate):
     """The files of a crate's edits: those that the gate tries, then those that `make mutants` adds."""
-    return [file for folder in (ROOT / "crates" / crate / "must-fail", ROOT / "mutants" / crate) for file in sorted(folder.glob("*.edit"))]
+    return [
+        file
+        for folder in (ROOT / "crates" / crate / "must-fail", ROOT / "mutants" / crate)
+        for file in sorted(folder.glob("*.edit"))
+    ]
 
 
 def edits_of(crate):
@@ -372,4 +416,6 @@ def clauses_of(crate):
 def trait_clauses(call):
     """What a method promises by the trait that it belongs to."""
     others = [other for crate in crates() for other in calls_of(crate)] if call.trait else []
-    return [clause for other in others if (other.owner, other.name) == (call.trait, call.name) for clause in other.ensures]
+    return [
+        clause for other in others if (other.owner, other.name) == (call.trait, call.name) for clause in other.ensures
+    ]

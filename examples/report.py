@@ -1,8 +1,9 @@
 #!/usr/bin/env python3
-"""examples/report.py FOLDER [FILE]: prints an example's report, report.txt or another file, as the program has to print it.
+"""examples/report.py FOLDER [FILE]: prints an example's report, report.txt or another file, as the program has to print
+it.
 
-The scripts of examples/, tests/ and gate/ import it: it has the one list of the counts in the line of a merge. A stored report may
-lack a count that is 0, so a further count changes only the reports in which it isn't 0.
+The scripts of examples/, tests/ and gate/ import it: it has the one list of the counts in the line of a merge. A stored
+report may lack a count that is 0, so a further count changes only the reports in which it isn't 0.
 """
 import os
 import sys

@@ -1,7 +1,8 @@
 """How long a run of the gate still takes, by what a saved run of bench/gate spent on each task.
 
-A task is a crate and a kind, as in `provers`. The seconds of this run's ended tasks, compared with those of the saved run, say how
-fast this machine is. What is left takes at least as long as its longest chain of crates, and as its sum on all processors.
+A task is a crate and a kind, as in `provers`. The seconds of this run's ended tasks, compared with those of the saved
+run, say how fast this machine is. What is left takes at least as long as its longest chain of crates, and as its sum on
+all processors.
 """
 import re
 from pathlib import Path
@@ -20,7 +21,11 @@ LEAST = 0.05
 
 def newest(folder=RESULTS):
     """The text of the last saved run of the whole gate, which begins so; an empty text if there is none."""
-    runs = sorted((found[1], int(found[2] or 1), file) for file in folder.glob("gate-*.txt") if (found := SAVED.fullmatch(file.name)))
+    runs = sorted(
+        (found[1], int(found[2] or 1), file)
+        for file in folder.glob("gate-*.txt")
+        if (found := SAVED.fullmatch(file.name))
+    )
     texts = (file.read_text() for _, _, file in reversed(runs))
     return next((text for text in texts if text.startswith(WHOLE)), "")
 
@@ -29,7 +34,11 @@ def seconds_of(line):
     """The processor seconds of a crate's tasks in a line of a saved table."""
     cells = (line[NAME + CELL * place :][:SECONDS].strip() for place in range(len(COLUMNS)))
     seconds = {column: int(cell) for column, cell in zip(COLUMNS, cells) if cell}
-    return {kind: sum(seconds.get(column, 0) for column in columns) for kind, columns in KINDS if any(column in seconds for column in columns)}
+    return {
+        kind: sum(seconds.get(column, 0) for column in columns)
+        for kind, columns in KINDS
+        if any(column in seconds for column in columns)
+    }
 
 
 def saved_seconds(text):

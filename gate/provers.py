@@ -1,7 +1,8 @@
 """The processor time of the provers that run on this machine, by crate and by task.
 
-A task is the proof of a crate, that of its tests, the proof with which its wrong bodies begin (the seed), or those wrong bodies (the
-edits). Times are read once a second of the processes themselves, some of which have words or names that are no UTF-8.
+A task is the proof of a crate, that of its tests, the proof with which its wrong bodies begin (the seed), or those
+wrong bodies (the edits). Times are read once a second of the processes themselves, some of which have words or names
+that are no UTF-8.
 """
 import os
 import threading
@@ -33,7 +34,8 @@ def seconds_of(pid):
 
 
 class Provers:
-    """A thread that adds up what the provers spend until `end`: the seconds of each task, and the minute in which it ended."""
+    """A thread that adds up what the provers spend until `end`: the seconds of each task, and the minute in which it
+    ended."""
 
     def __init__(self):
         self.begin, self.over = time.monotonic(), threading.Event()
@@ -68,9 +70,13 @@ class Provers:
     def table(self):
         """A line for each crate, by the minute in which its last task ended, and the sums."""
         yield "crate".ljust(18) + "".join(f"{kind + ' s':>10}{'ended':>7}" for kind in KINDS)
-        for crate in sorted({crate for crate, _ in self.spent}, key=lambda it: max(self.ended.get((it, kind), 0) for kind in KINDS)):
+        for crate in sorted(
+            {crate for crate, _ in self.spent}, key=lambda it: max(self.ended.get((it, kind), 0) for kind in KINDS)
+        ):
             tasks = [(crate, kind) for kind in KINDS]
-            cells = (f"{self.spent[task]:10.0f}{self.ended[task]:7.0f}" if task in self.ended else " " * 17 for task in tasks)
+            cells = (
+                f"{self.spent[task]:10.0f}{self.ended[task]:7.0f}" if task in self.ended else " " * 17 for task in tasks
+            )
             yield (crate.ljust(18) + "".join(cells)).rstrip()
         yield "all".ljust(18) + "".join(f"{self.sum_of(kind):10.0f}       " for kind in KINDS).rstrip()
 

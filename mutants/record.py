@@ -1,7 +1,7 @@
 """The record of the wrong bodies that the prover refused: `refused.txt`, a line for each crate that has any.
 
-A line holds the crate, how many edits it has, how many of them were refused, the date, and two checksums: of the crate, and of what
-the crates below it show to it. While both hold, no edit of the crate can have become provable.
+A line holds the crate, how many edits it has, how many of them were refused, the date, and two checksums: of the crate,
+and of what the crates below it show to it. While both hold, no edit of the crate can have become provable.
 """
 import fcntl
 import hashlib
@@ -16,7 +16,10 @@ import sources
 
 FILE = Path(__file__).resolve().parent / "refused.txt"
 TOKEN = re.compile(r"[\w']+|[^\w\s]")
-HEAD = "# crate, edits, refused, date, checksum of the crate, checksum of what the crates below show: written by make mutants"
+HEAD = (
+    "# crate, edits, refused, date, checksum of the crate, checksum of what the crates below show: written by make"
+    " mutants"
+)
 
 
 class Line(NamedTuple):
@@ -38,7 +41,9 @@ def code(text):
     """The tokens of a text without comments, so that a change of comments or layout costs no new try."""
     tokens = TOKEN.findall("\n".join(sources.code_lines(text)))
     # A list that is broken over lines has a comma more.
-    return " ".join(token for token, after in zip(tokens, [*tokens[1:], ""]) if token != "," or after not in (")", "]", "}"))
+    return " ".join(
+        token for token, after in zip(tokens, [*tokens[1:], ""]) if token != "," or after not in (")", "]", "}")
+    )
 
 
 def edit(text):
@@ -60,7 +65,8 @@ def own_sum(crate):
 
 @cache
 def interface_sum(crate):
-    """The checksum of what a crate shows to those above: its definitions, its public calls with their clauses, its public types."""
+    """The checksum of what a crate shows to those above: its definitions, its public calls with their clauses, its
+    public types."""
     parts, exports = [crate], sources.exports_of(crate)
     for file in sorted((sources.ROOT / "crates" / crate / "specs").rglob("*.antt")):
         parts += [file.name, code(file.read_text())]
@@ -86,8 +92,14 @@ def read():
 
 def write(lines):
     """Writes the record, with the crates in the order of crates.txt."""
-    rows = [[crate, str(line.edits), str(line.refused), *line[2:]] for crate in sources.crates() if (line := lines.get(crate))]
-    FILE.write_text("\n".join([HEAD, *(f"{row[0]:16} {row[1]:>3} {row[2]:>3}  {'  '.join(row[3:])}" for row in rows), ""]))
+    rows = [
+        [crate, str(line.edits), str(line.refused), *line[2:]]
+        for crate in sources.crates()
+        if (line := lines.get(crate))
+    ]
+    FILE.write_text(
+        "\n".join([HEAD, *(f"{row[0]:16} {row[1]:>3} {row[2]:>3}  {'  '.join(row[3:])}" for row in rows), ""])
+    )
 
 
 def update(lines):
@@ -109,7 +121,10 @@ def differences():
         elif line.own != own_sum(crate) or line.edits != edits:
             yield f"{crate}: it changed since its edits were tried on {line.date}: make mutants {crate}"
         elif line.below != below_sum(crate):
-            yield f"{crate}: a definition or contract of a crate below it changed since its edits were tried on {line.date}: make mutants {crate}"
+            yield (
+                f"{crate}: a definition or contract of a crate below it changed since its edits were tried on"
+                f" {line.date}: make mutants {crate}"
+            )
         elif line.refused < line.edits:
             yield f"{crate}: {line.edits - line.refused} of its {line.edits} edits were not refused"
     for crate in lines.keys() - set(sources.crates()):

@@ -1,9 +1,10 @@
-"""Tries edits of a crate over what its check kept: those that change different functions in one check, and then each that is left alone.
+"""Tries edits of a crate over what its check kept: those that change different functions in one check, and then each
+that is left alone.
 
-A contract is not changed by an edit, so whether a function meets its own says nothing of another function. Of a check with several edits
-those are refused whose own functions the prover says are not proved, with a message that points into the function or into its proofs.
-What such a check does not decide is tried alone, and is refused by the rules of `rt must-fail`, which begins with a proof of the crate from
-nothing where these checks begin with what is kept.
+A contract is not changed by an edit, so whether a function meets its own says nothing of another function. Of a check
+with several edits those are refused whose own functions the prover says are not proved, with a message that points into
+the function or into its proofs. What such a check does not decide is tried alone, and is refused by the rules of `rt
+must-fail`, which begins with a proof of the crate from nothing where these checks begin with what is kept.
 """
 import re
 import subprocess
@@ -84,7 +85,8 @@ def function_at(lines, number):
 
 
 def applied(texts, edit, home):
-    """The texts of the files with an edit, and the functions that it changes; None if its lines are not there once, or in no function."""
+    """The texts of the files with an edit, and the functions that it changes; None if its lines are not there once, or
+    in no function."""
     texts, places = dict(texts), set()
     for change in edit.changes:
         text = texts.get(change.file) or (home / change.file).read_text()
@@ -148,14 +150,17 @@ def check(home, texts):
     try:
         for file, text in texts.items():
             (home / file).write_text(text)
-        return subprocess.run(["rt", "check", "--jobs", "1"], cwd=home, capture_output=True, text=True, errors="replace", check=False)
+        return subprocess.run(
+            ["rt", "check", "--jobs", "1"], cwd=home, capture_output=True, text=True, errors="replace", check=False
+        )
     finally:
         for file, text in kept.items():
             (home / file).write_text(text)
 
 
 def refused_in(home, edits):
-    """The edits that one check of all of them refuses, each by a message of its own. Where the check decides nothing, halves are tried."""
+    """The edits that one check of all of them refuses, each by a message of its own. Where the check decides nothing,
+    halves are tried."""
     texts = {}
     for edit in edits:
         texts = applied(texts, edit, home)[0]
@@ -184,16 +189,22 @@ def changed(edit, home):
 
 
 def is_refused_alone(home, edit):
-    """Whether a check of the crate with this edit alone refuses it, by a message that says more than that a name is gone."""
+    """Whether a check of the crate with this edit alone refuses it, by a message that says more than that a name is
+    gone."""
     texts = changed(edit, home)
     if not texts:
         return False
     ran = check(home, texts)
     lines = (ran.stdout + ran.stderr).rstrip().splitlines()
     placed = [line for line in lines if PLACED.match(line) and ": warning" not in line]
-    unread = [line for line in placed if UNTRIED.search(line) or NAMES.search(line) and not re.match(r"(\./)?proofs/", line)]
+    unread = [
+        line for line in placed if UNTRIED.search(line) or NAMES.search(line) and not re.match(r"(\./)?proofs/", line)
+    ]
     verdict = any(line.startswith("logic=not-proved") for line in lines)
-    return ran.returncode == 1 and verdict and not unread and not UNREAD.search("\n".join(lines)) and any(not NAMES.search(line) for line in placed)
+    return (
+        ran.returncode == 1 and verdict and not unread and not UNREAD.search("\n".join(lines))
+        and any(not NAMES.search(line) for line in placed)
+    )
 
 
 def refused(home, files):

@@ -14,7 +14,8 @@ def words(comment):
 
 
 def head_sections(comment):
-    """The paragraphs of the comment at the header's front that have no title, and those that begin with one, by their titles."""
+    """The paragraphs of the comment at the header's front that have no title, and those that begin with one, by their
+    titles."""
     plain, named = [], {}
     for paragraph in words(comment).split("\n\n")[1:]:
         title, _, rest = paragraph.partition(". ")
@@ -63,7 +64,8 @@ def described(comment, code):
 
 
 def page_text():
-    """The man page from its synopsis on, in the dialect of the pages. It ends with an error if a part of the header is missing."""
+    """The man page from its synopsis on, in the dialect of the pages. It ends with an error if a part of the header is
+    missing."""
     text = HEADER.read_text(encoding="utf-8")
     head, _, rest = text.partition(" */\n")
     plain, named = head_sections(head)
@@ -72,15 +74,28 @@ def page_text():
     others = [(comment, code) for comment, code in found if not CALL.search(code)]
     shown = [name for _, code in calls for name in CALL.findall(code)]
     values = [name for _, code in others for name, _, _ in VALUE.findall(code)]
-    lost = [name for name in re.findall(r"^\S.*?(darbexum_\w+)\(|^    (DARBEXUM_\w+) =", rest, re.MULTILINE) if "".join(name) not in {*shown, *values}]
+    lost = [
+        name
+        for name in re.findall(r"^\S.*?(darbexum_\w+)\(|^    (DARBEXUM_\w+) =", rest, re.MULTILINE)
+        if "".join(name) not in {*shown, *values}
+    ]
     if lost or set(named) != set(NAMED):
-        raise SystemExit(f"packaging/man: {HEADER.name} has parts that are not understood: {lost} {sorted(set(NAMED) - set(named))}")
-    return "\n\n".join([
-        "## Synopsis", "    #include <darbexum.h>", *(narrow(code) for _, code in calls),
-        "Link with `-ldarbexum`. `pkg-config --cflags --libs darbexum` prints the flags.",
-        "## Description", *plain,
-        *(f"## {name}\n\n{named[name]}" for name in NAMED),
-        "## Calls", *(f"### {', '.join(CALL.findall(code))}\n\n{comment}" for comment, code in calls),
-        "## Constants and types", *(described(comment, code) for comment, code in others),
-        "",
-    ])
+        raise SystemExit(
+            f"packaging/man: {HEADER.name} has parts that are not understood: {lost} {sorted(set(NAMED) - set(named))}"
+        )
+    return "\n\n".join(
+        [
+            "## Synopsis",
+            "    #include <darbexum.h>",
+            *(narrow(code) for _, code in calls),
+            "Link with `-ldarbexum`. `pkg-config --cflags --libs darbexum` prints the flags.",
+            "## Description",
+            *plain,
+            *(f"## {name}\n\n{named[name]}" for name in NAMED),
+            "## Calls",
+            *(f"### {', '.join(CALL.findall(code))}\n\n{comment}" for comment, code in calls),
+            "## Constants and types",
+            *(described(comment, code) for comment, code in others),
+            "",
+        ]
+    )

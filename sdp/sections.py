@@ -22,9 +22,7 @@ MILLISECONDS = re.compile(r"(\d{0,9})(?:\.(\d{0,12}))?", re.ASCII)
 FRAME_COUNT = re.compile(r"(\d{1,6})(?:-(\d{1,6}))?", re.ASCII)
 RTPMAP = re.compile(r"(\d{1,3})\s+([^\s/]+)/(\d{1,9})(?:/(\d{1,9}))?", re.ASCII)
 # An attribute of RFC 7273, with its value. A clock may have an identifier before it.
-DIRECT = re.compile(
-    r"(?:id=\S+\s+)?direct(?:=(\d{1,20}))?(?:\s+rate=(\d{1,9})/(\d{1,9}))?", re.ASCII | re.IGNORECASE
-)
+DIRECT = re.compile(r"(?:id=\S+\s+)?direct(?:=(\d{1,20}))?(?:\s+rate=(\d{1,9})/(\d{1,9}))?", re.ASCII | re.IGNORECASE)
 
 
 def describe(section: Section) -> None:

@@ -1,7 +1,7 @@
 """Captures in the making: their records and blocks, and what is told of each.
 
-Each datagram of a file has a number of its own, by which a trace shows that it came whole and in its place. A time shows in a trace's
-readings, 3 sampling instants in 62,500 nanoseconds since the first datagram.
+Each datagram of a file has a number of its own, by which a trace shows that it came whole and in its place. A time
+shows in a trace's readings, 3 sampling instants in 62,500 nanoseconds since the first datagram.
 """
 import struct
 from typing import NamedTuple
@@ -51,7 +51,8 @@ TIMES = [
     (None, None, 2**32, 206_110_430),
 ]
 
-# A pcap file's number and order; of its packets the second, the units beyond it, and the sampling instants since the first.
+# A pcap file's number and order; of its packets the second, the units beyond it, and the sampling instants since the
+# first.
 FORMS = [
     (MICROSECONDS, LITTLE, [(1, 2, 0), (1, 22, 0), (1, 23, 1), (2, 1002, 48048)]),
     (MICROSECONDS, BIG, [(1, 2, 0), (1, 22, 0), (1, 23, 1), (2, 1002, 48048)]),
@@ -137,7 +138,9 @@ def interface(order, link=RAW, resolution=None, offset=None, limit=0, options=b"
 
 
 def enhanced(order, number, units, frame):
-    return block(order, 6, struct.pack(order + "IIIII", number, units >> 32, units % 2**32, len(frame), len(frame)) + frame)
+    return block(
+        order, 6, struct.pack(order + "IIIII", number, units >> 32, units % 2**32, len(frame), len(frame)) + frame
+    )
 
 
 def simple(order, frame, original=None):
@@ -164,7 +167,10 @@ def two_paths(skew=1000):
 
 def flow(network, count, first=1, stamp=0, step=6, skew=0, **more):
     """The times and records of packets of a flow, one a millisecond."""
-    return [(1000 * place + skew, sent(1000 * place + skew, network, first + place, stamp + step * place, **more)) for place in range(count)]
+    return [
+        (1000 * place + skew, sent(1000 * place + skew, network, first + place, stamp + step * place, **more))
+        for place in range(count)
+    ]
 
 
 def merged(*flows):
@@ -173,13 +179,18 @@ def merged(*flows):
 
 
 def three_paths(streams):
-    """Streams of three paths, of eight packets each: the second comes later than the first, and the third earlier, by 10 and 20
-    microseconds more for each stream."""
+    """Streams of three paths, of eight packets each: the second comes later than the first, and the third earlier, by
+    10 and 20 microseconds more for each stream."""
     records = []
     for stream in range(streams):
         for path, behind in enumerate((0, 10 * (stream + 1), -20 * (stream + 1))):
-            records += [(number > 0, 1000 * number + behind + 5000, 3 * stream + path + 1, number + 1, 6 * number, stream + 1) for number in range(8)]
-    return pcap_of(*(sent(*record[1:]) for record in sorted(records, key=lambda record: (record[0], record[1 + (not record[0])]))))
+            records += [
+                (number > 0, 1000 * number + behind + 5000, 3 * stream + path + 1, number + 1, 6 * number, stream + 1)
+                for number in range(8)
+            ]
+    return pcap_of(
+        *(sent(*record[1:]) for record in sorted(records, key=lambda record: (record[0], record[1 + (not record[0])])))
+    )
 
 
 def sources(count):
@@ -229,7 +240,8 @@ def odd_packets(first=1):
 
 
 def odd(order, first=1):
-    """A section with such packets, each in a block without a time, behind one with a time; then one that a limit cuts."""
+    """A section with such packets, each in a block without a time, behind one with a time; then one that a limit
+    cuts."""
     parts = [Part(section(order)), Part(interface(order, limit=64))]
     parts.append(Part(enhanced(order, 0, 1_000_000, ip_around(rtp(first))), rtp(first)))
     parts += [part._replace(octets=simple(order, part.octets)) for part in odd_packets(first + 1)]
@@ -238,7 +250,8 @@ def odd(order, first=1):
 
 
 def small():
-    """A file of two sections in both orders, with three interfaces, a block of another type and a packet without a time."""
+    """A file of two sections in both orders, with three interfaces, a block of another type and a packet without a
+    time."""
     return [
         Part(section(LITTLE) + interface(LITTLE) + interface(LITTLE, RAW, 9, 1)),
         Part(enhanced(LITTLE, 0, 5, ip_around(rtp(1))), rtp(1)),
@@ -269,7 +282,9 @@ def great():
 
 def described(stream):
     """The description of a stream's paths in a record, by its table in a configuration."""
-    return "encoding {encoding} channels {channels} frames {frames} pt {pt} paths {paths}".format(**{"paths": 2, **stream})
+    return "encoding {encoding} channels {channels} frames {frames} pt {pt} paths {paths}".format(
+        **{"paths": 2, **stream}
+    )
 
 
 def change(at, gains):
@@ -278,21 +293,28 @@ def change(at, gains):
 
 
 def live_record(open_at, paths, trace, descriptions=()):
-    """The record of a live run of this trace by a studio that was opened at a time, whose streams have so many paths, and these
-    descriptions; without them it is a record of version 0.3.0. If the trace has lines `gains AT GAIN ..`, or `octets HEX`, its gains can
-    change, and each is a change that the run took there, or one of this payload."""
+    """The record of a live run of this trace by a studio that was opened at a time, whose streams have so many paths,
+    and these descriptions; without them it is a record of version 0.3.0. If the trace has lines `gains AT GAIN ..`, or
+    `octets HEX`, its gains can change, and each is a change that the run took there, or one of this payload."""
     options = option(LITTLE, 1, b"open_at %d" % open_at) + option(LITTLE, 4, b"darbexum") + option(LITTLE, 0, b"")
     blocks = [block(LITTLE, 0x0A0D0D0A, struct.pack("<IHHq", 0x1A2B3C4D, 1, 0, -1) + options)]
     for stream, count in enumerate(paths):
         text = option(LITTLE, 3, descriptions[stream].encode()) if descriptions else b""
-        blocks += [interface(LITTLE, RAW, 9, options=option(LITTLE, 2, b"%d %c" % (stream, 97 + path)) + text) for path in range(count)]
+        blocks += [
+            interface(LITTLE, RAW, 9, options=option(LITTLE, 2, b"%d %c" % (stream, 97 + path)) + text)
+            for path in range(count)
+        ]
     lines = [line.split() for line in trace.splitlines() if line.strip() and line[0] != "#"]
     if any(word in ("gains", "octets") for word, *_ in lines):
         blocks.append(interface(LITTLE, RAW, 9, options=option(LITTLE, 2, b"gains") + option(LITTLE, 3, b"gains")))
     nanoseconds = 0
     for word, *more in lines:
         if word in ("gains", "octets"):
-            payload = bytes.fromhex("".join(more)) if word == "octets" else change(int(more[0]) - open_at, [int(gain) for gain in more[1:]])
+            payload = (
+                bytes.fromhex("".join(more))
+                if word == "octets"
+                else change(int(more[0]) - open_at, [int(gain) for gain in more[1:]])
+            )
             blocks.append(enhanced(LITTLE, sum(paths), nanoseconds, ip_around(payload)))
         elif word == "tick":
             nanoseconds = -((open_at - int(more[0])) * 62_500 // 3)

@@ -1,9 +1,9 @@
 #!/usr/bin/env python3
 """check.py FOLDER: tests the element darbexummix, whose plugin is in FOLDER, against what a sender sent on 127.0.0.1.
 
-One path loses a fifth of its packets, and nothing is missing; then both do, and only what both lost is silence. Two elements stand
-in one pipeline. Gains move while the mix runs, by the program move, which is in FOLDER too (move.c). It prints what came out, and
-fails where it differs.
+One path loses a fifth of its packets, and nothing is missing; then both do, and only what both lost is silence. Two
+elements stand in one pipeline. Gains move while the mix runs, by the program move, which is in FOLDER too (move.c). It
+prints what came out, and fails where it differs.
 """
 import os
 import re
@@ -65,7 +65,10 @@ def free_ports(count):
 
 
 def launch(*words, **environment):
-    return subprocess.Popen(["gst-launch-1.0", "-e", *words], stdout=subprocess.PIPE, stderr=subprocess.STDOUT, text=True, env={**ENVIRONMENT, **environment})
+    return subprocess.Popen(
+        ["gst-launch-1.0", "-e", *words], stdout=subprocess.PIPE, stderr=subprocess.STDOUT, text=True,
+        env={**ENVIRONMENT, **environment}
+    )
 
 
 def ended(child):
@@ -86,15 +89,17 @@ def receiver(room, name, ports):
     config.write_text(CONFIG)
     return [
         *f"darbexummix name={name} location={config}".split(),
-        *f"udpsrc port={ports[0]} address=127.0.0.1 ! {name}.sink_0_0 udpsrc port={ports[1]} address=127.0.0.1 ! {name}.sink_0_1".split(),
+        *f"udpsrc port={ports[0]} address=127.0.0.1 ! {name}.sink_0_0 udpsrc port={ports[1]} address=127.0.0.1 !"
+        f" {name}.sink_0_1".split(),
         *f"{name}.src ! rtpL24depay ! filesink location={room}/{name}.raw".split(),
     ]
 
 
 def sender(room, ports, losses):
     """Sends a sine on both paths, each of which loses a share, and keeps it in a file."""
-    words = f"""audiotestsrc is-live=true wave=sine freq=437 samplesperbuffer=48 num-buffers={PACKETS} ! audioconvert dithering=none
-        ! audio/x-raw,format=S24BE,rate=48000,channels=2 ! tee name=r ! queue ! filesink location={room}/sent.raw r. ! queue
+    words = f"""audiotestsrc is-live=true wave=sine freq=437 samplesperbuffer=48 num-buffers={PACKETS}
+        ! audioconvert dithering=none ! audio/x-raw,format=S24BE,rate=48000,channels=2 ! tee name=r
+        ! queue ! filesink location={room}/sent.raw r. ! queue
         ! rtpL24pay pt=96 min-ptime=1000000 max-ptime=1000000 ! tee name=t"""
     for port, loss in zip(ports, losses):
         words += f" t. ! queue ! identity drop-probability={loss} ! udpsink host=127.0.0.1 port={port} sync=false"
@@ -121,7 +126,9 @@ def compared(sent, got):
 def expect_caps(text, name):
     """The caps of an element's src pad, as gst-launch prints them."""
     caps = re.findall(rf"GstDarbexumMix:{name}\.GstPad:src: caps = (.*)", text)
-    words = "application/x-rtp", "clock-rate=(int)48000", "encoding-name=(string)L24", "channels=(int)2", "payload=(int)97"
+    words = (
+        "application/x-rtp", "clock-rate=(int)48000", "encoding-name=(string)L24", "channels=(int)2", "payload=(int)97"
+    )
     expect("caps", caps and all(word in line for line in caps for word in words), caps)
 
 
@@ -140,7 +147,10 @@ def losses(room, shares):
 
 def inspect(_):
     done = run("gst-inspect-1.0", "darbexummix")
-    words = "sink_%u_%u", "Availability: On request", "application/x-rtp", "config", "location", "media-clock", "offset", "stats", "change-gains", "Mixer/Network/RTP/Audio"
+    words = (
+        "sink_%u_%u", "Availability: On request", "application/x-rtp", "config", "location", "media-clock", "offset",
+        "stats", "change-gains", "Mixer/Network/RTP/Audio"
+    )
     lacking = [word for word in words if word not in done.stdout]
     expect("gst-inspect", done.returncode == 0 and not lacking, (lacking, done.stdout, done.stderr))
 
@@ -148,25 +158,38 @@ def inspect(_):
 def refused(_):
     """A configuration with a fault is an error of the pipeline, and its text names the place."""
     done = run("gst-launch-1.0", "darbexummix", "config=open_at = 0", "!", "fakesink")
-    expect("a fault of the configuration", done.returncode != 0 and "config: stream: missing" in done.stdout + done.stderr, done.stdout + done.stderr)
+    expect(
+        "a fault of the configuration", done.returncode != 0 and "config: stream: missing" in done.stdout + done.stderr,
+        done.stdout + done.stderr
+    )
 
 
 def one_path(room):
     first, frames, same, silent = losses(room, (0.2, 0))
-    expect("frames of one lossy path", (same, silent) == (frames, 0) and frames >= 48 * (PACKETS - 100), (first, frames, same, silent))
+    expect(
+        "frames of one lossy path", (same, silent) == (frames, 0) and frames >= 48 * (PACKETS - 100),
+        (first, frames, same, silent)
+    )
     print(f"check.py: one path loses a fifth: {same} of {frames} frames as sent")
 
 
 def both_paths(room):
     first, frames, same, silent = losses(room, (0.2, 0.2))
-    expect("frames of two lossy paths", same + silent == frames and 0.01 < silent / frames < 0.08, (first, frames, same, silent))
+    expect(
+        "frames of two lossy paths", same + silent == frames and 0.01 < silent / frames < 0.08,
+        (first, frames, same, silent)
+    )
     print(f"check.py: both paths lose a fifth: {same} of {frames} frames as sent, {silent} silent, none other")
 
 
 def two_elements(room):
-    """Two elements in one pipeline, and caps and latency as gst-launch prints them: that of the stream, a packet and a block."""
+    """Two elements in one pipeline, and caps and latency as gst-launch prints them: that of the stream, a packet and a
+    block."""
     ports = free_ports(4)
-    child = launch("-v", *receiver(room, "mix", ports[:2]), *receiver(room, "other", ports[2:]), GST_DEBUG="pipeline:5,bin:5", GST_DEBUG_FILE=f"{room}/debug.txt")
+    child = launch(
+        "-v", *receiver(room, "mix", ports[:2]), *receiver(room, "other", ports[2:]), GST_DEBUG="pipeline:5,bin:5",
+        GST_DEBUG_FILE=f"{room}/debug.txt"
+    )
     time.sleep(1.5)
     sender(room, ports[:2], (0, 0))
     sender(room, ports[2:], (0, 0.2))
@@ -182,7 +205,8 @@ def two_elements(room):
 
 
 class LevelSender(threading.Thread):
-    """Sends packets of 1 ms to a port until it is stopped: each sample has the value LEVEL on the left, and -LEVEL on the right."""
+    """Sends packets of 1 ms to a port until it is stopped: each sample has the value LEVEL on the left, and -LEVEL on
+    the right."""
 
     def __init__(self, port):
         super().__init__(daemon=True)
@@ -193,7 +217,10 @@ class LevelSender(threading.Thread):
         begin, number = time.monotonic(), 0
         with socket.socket(socket.AF_INET, socket.SOCK_DGRAM) as sender:
             while not self.is_stopped.wait(max(0, begin + number / 1000 - time.monotonic())):
-                head = bytes([0x80, 96]) + (number % 65536).to_bytes(2, "big") + (48 * number).to_bytes(4, "big") + bytes(4)
+                head = (
+                    bytes([0x80, 96]) + (number % 65536).to_bytes(2, "big") + (48 * number).to_bytes(4, "big")
+                    + bytes(4)
+                )
                 sender.sendto(head + frame * 48, ("127.0.0.1", self.port))
                 number += 1
 
@@ -214,13 +241,19 @@ def wait_for_sound(path, begin):
 
 
 def moved_gains(room):
-    """Gains change at the next block, and at a time within a block: exactly there, and both channels by their own gain. Changes that
-    can't be are refused by their codes, and change nothing; nor does a flush of the path."""
+    """Gains change at the next block, and at a time within a block: exactly there, and both channels by their own gain.
+    Changes that can't be are refused by their codes, and change nothing; nor does a flush of the path."""
     (port,) = free_ports(1)
     config, mix = Path(room) / "studio.toml", Path(room) / "mix.raw"
     config.write_text(CONFIG.replace(f"latency = {LATENCY}", "latency = 9600"))
-    pipeline = f"darbexummix name=mix location={config} udpsrc name=in port={port} address=127.0.0.1 ! mix.sink_0_0 mix.src ! rtpL24depay ! filesink buffer-mode=unbuffered location={mix}"
-    child = subprocess.Popen([f"{FOLDER}/move", pipeline], stdin=subprocess.PIPE, stdout=subprocess.PIPE, stderr=subprocess.PIPE, text=True, env=ENVIRONMENT)
+    pipeline = (
+        f"darbexummix name=mix location={config} udpsrc name=in port={port} address=127.0.0.1 ! mix.sink_0_0 mix.src !"
+        f" rtpL24depay ! filesink buffer-mode=unbuffered location={mix}"
+    )
+    child = subprocess.Popen(
+        [f"{FOLDER}/move", pipeline], stdin=subprocess.PIPE, stdout=subprocess.PIPE, stderr=subprocess.PIPE, text=True,
+        env=ENVIRONMENT
+    )
 
     def asked(*words):
         child.stdin.write(f"{' '.join(map(str, words))}\n")

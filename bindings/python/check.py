@@ -26,8 +26,13 @@ def main():
     engine = darbexum.Engine(CONFIG)
     assert engine.time == 0 and len(engine.streams) == 1
     stream = engine.streams[0]
-    assert (stream.paths, stream.latency, stream.window, darbexum.Clock(stream.clock)) == (2, 12, 8, darbexum.Clock.MEDIA)
-    assert engine.output.as_dict() == {"start": 0, "sample_octets": 3, "channels": 1, "frames": 6, "payload_type": 97, "ssrc": 2, "datagram_octets": 30}
+    assert (stream.paths, stream.latency, stream.window, darbexum.Clock(stream.clock)) == (
+        2, 12, 8, darbexum.Clock.MEDIA
+    )
+    assert engine.output.as_dict() == {
+        "start": 0, "sample_octets": 3, "channels": 1, "frames": 6, "payload_type": 97, "ssrc": 2,
+        "datagram_octets": 30
+    }
     assert engine.arrive(0, 0, PACKET) is darbexum.Outcome.TAKEN
     # An engine may go to another thread.
     outcomes = []
@@ -55,7 +60,9 @@ def main():
     assert engine.settled and engine.next_deadline() is None
     counts = engine.counts(0)
     assert (counts.arrived, counts.taken, counts.double, list(counts.taken_by)) == (2, 1, 1, [1, 0, 0, 0]), counts
-    assert engine.path_counts(0, 1).as_dict() == {"offered": 1, "sent": 1, "bad": 0, "wrong_type": 0, "wrong_length": 0, "full": 0}
+    assert engine.path_counts(0, 1).as_dict() == {
+        "offered": 1, "sent": 1, "bad": 0, "wrong_type": 0, "wrong_length": 0, "full": 0
+    }
 
 
 main()

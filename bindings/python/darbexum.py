@@ -8,8 +8,8 @@
     for datagram in engine.close():
         send(datagram)
 
-darbexum.h says what the units are and in which order calls are made. One thread at a time may call an engine: ctypes lets
-other threads run during a call. `samples` uses numpy if it is there.
+darbexum.h says what the units are and in which order calls are made. One thread at a time may call an engine: ctypes
+lets other threads run during a call. `samples` uses numpy if it is there.
 
 The library is looked for at $DARBEXUM_LIBRARY, next to this file, and where the system looks.
 """
@@ -94,12 +94,18 @@ class Output(_Struct):
 class Stream(_Struct):
     """What is fixed of a stream."""
 
-    _fields_ = [("size", c.c_size_t), *_fields(c.c_uint32, "sample_octets channels frames payload_type paths latency window clock")]
+    _fields_ = [
+        ("size", c.c_size_t),
+        *_fields(c.c_uint32, "sample_octets channels frames payload_type paths latency window clock")
+    ]
 
 
 def _load():
     beside = os.path.join(os.path.dirname(os.path.realpath(__file__)), "libdarbexum.so.0")
-    for name in (os.environ.get("DARBEXUM_LIBRARY"), beside if os.path.exists(beside) else None, ctypes.util.find_library("darbexum")):
+    for name in (
+        os.environ.get("DARBEXUM_LIBRARY"), beside if os.path.exists(beside) else None,
+        ctypes.util.find_library("darbexum")
+    ):
         if name:
             return c.CDLL(name)
     return c.CDLL("libdarbexum.so.0")
@@ -273,13 +279,16 @@ class Engine:
         return found
 
     def samples(self, datagram):
-        """The samples of a datagram of the output, a row for each sampling instant: a numpy array, or a list of lists."""
+        """The samples of a datagram of the output, a row for each sampling instant: a numpy array, or a list of
+        lists."""
         output = self.output
         octets, width = datagram[12:], output.sample_octets
         try:
             import numpy
         except ImportError:
-            values = [int.from_bytes(octets[at : at + width], "big", signed=True) for at in range(0, len(octets), width)]
+            values = [
+                int.from_bytes(octets[at : at + width], "big", signed=True) for at in range(0, len(octets), width)
+            ]
             return [values[at : at + output.channels] for at in range(0, len(values), output.channels)]
         parts = numpy.frombuffer(octets, numpy.uint8).reshape(-1, output.channels, width).astype(numpy.int32)
         values = sum(parts[..., index] << 8 * (3 - index) for index in range(width))

@@ -1,6 +1,6 @@
 #!/usr/bin/env python3
-"""Writes capture.pcapng: a stream on two paths with losses, one on a single path, and what isn't RTP. The samples of the
-first count from 1; those of the second count from 1001 on the left and down from -1001 on the right."""
+"""Writes capture.pcapng: a stream on two paths with losses, one on a single path, and what isn't RTP. The samples of
+the first count from 1; those of the second count from 1001 on the left and down from -1001 on the right."""
 import pathlib
 import struct
 
