@@ -7,7 +7,6 @@ The colours follow the reader's scheme, light or dark, over a background of thei
 """
 import sys
 import tomllib
-from pathlib import Path
 from xml.sax.saxutils import escape
 
 sys.dont_write_bytecode = True
