@@ -9,6 +9,9 @@ import subprocess
 import sys
 
 HERE = os.path.dirname(os.path.abspath(__file__))
+# What a script needs of runs, ports and pages is in the package harness, which is imported behind this module.
+sys.dont_write_bytecode = True
+sys.path.insert(0, os.path.join(HERE, "..", "tests"))
 CRATE = os.path.join(HERE, "..", "crates", "studio_bench")
 
 
@@ -16,7 +19,7 @@ CRATE = os.path.join(HERE, "..", "crates", "studio_bench")
 BUILDS = {"default": ([], []), "x86-64-v3": (["--cpu=x86-64-v3"], ["-march=x86-64-v3"])}
 
 
-def build(folder, name="default"):
+def build(folder: str, name: str = "default") -> str:
     """Builds studio_bench for a processor, and answers where a copy of it is."""
     ran = subprocess.run(["rt", "run", *BUILDS[name][0]], cwd=CRATE, capture_output=True, text=True)
     if ran.returncode != 0:
@@ -26,7 +29,7 @@ def build(folder, name="default"):
     return program
 
 
-def build_c(folder, source, name="default"):
+def build_c(folder: str, source: str, name: str = "default") -> str:
     """Builds a C program that stands here for a processor, and answers where it is."""
     program = os.path.join(folder, f"{source}-{name}")
     subprocess.run(["cc", "-O3", *BUILDS[name][1], os.path.join(HERE, source + ".c"), "-o", program], check=True)
@@ -39,7 +42,13 @@ def field(program, words, place):
     return int(ran.stdout.split()[place])
 
 
-def load():
+def in_real_time() -> list[str]:
+    """Returns the words that start a program at a real-time priority, or none if the system doesn't let them."""
+    words = ["chrt", "--fifo", "50"]
+    return words if subprocess.run([*words, "true"], stderr=subprocess.DEVNULL).returncode == 0 else []
+
+
+def load() -> str:
     return f"{os.getloadavg()[0]:.1f}"
 
 
@@ -68,7 +77,7 @@ def create(name, day):
             return open(os.path.join(HERE, "results", f"{name}-{day}{suffix}.txt"), "x")
 
 
-def save(name, words, before, lines):
+def save(name: str, words: str, before: str, lines: list[str]) -> None:
     """Prints the lines under a head that names the run and the machine, and saves them by the day."""
     with open("/proc/cpuinfo") as file:
         model = re.search(r"model name\s*: (.*)", file.read())
