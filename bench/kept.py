@@ -1,12 +1,14 @@
 """The times that a check of a crate has kept, of each goal and each answer, and the goals that have no answer."""
 import re
+from collections.abc import Iterator
+from pathlib import Path
 
 # The name of a declaration and the microseconds of the phases of its check, as the toolchain's record of a module has
 # them.
 CHECKED = re.compile(rb'"name":"([^"]+)","notes":\[[^\]]*\],"own":\[[^\]]*\],"phases":\[([\d,]+)\]')
 
 
-def times_of(top, crate, module):
+def times_of(top: Path, crate: str, module: str) -> Iterator[tuple[float, str, str]]:
     """The seconds, the function and the name of each goal that the check of a crate below `top` has proved by itself,
     if the module is Proof, or of each answer, if it is Answers."""
     home, prefix, suffix = (
@@ -18,7 +20,7 @@ def times_of(top, crate, module):
             yield sum(map(int, phases.split(b","))) / 1e6, function, name.decode()
 
 
-def answers_file(top, crate, function):
+def answers_file(top: Path, crate: str, function: str) -> Path:
     return top / "crates" / crate / "proofs" / function.replace(".", "/") / "Answers.antt"
 
 
@@ -35,7 +37,7 @@ def is_open(goal, have):
     )
 
 
-def open_goals(top, crate):
+def open_goals(top: Path, crate: str) -> Iterator[tuple[float, str, str]]:
     """The seconds, the function and the name of each goal that has no answer. The records of a check also have older
     ones."""
     for seconds, function, goal in times_of(top, crate, "Proof"):

@@ -1,5 +1,6 @@
 """Random traces of senders that are astray: they drift, burst, pause, lose cycles and begin again, on one to four
 paths, with forged packets."""
+from random import Random
 
 from traces import FRAMES, OCTETS, datagram
 
@@ -66,7 +67,7 @@ def run(random, paths, start, begin):
             yield now, random.random(), (random.choice("abcd"[:paths]), 0, datagram(random, *other, payload, 1))
 
 
-def trace(random):
+def trace(random: Random) -> tuple[int, list[tuple]]:
     """How many paths there are, and the events of a trace, in order."""
     paths, comings, start = random.choice((1, 1, 2, 2, 3, 4)), [], random.choice((0, 0, 7, 100))
     begin = random.choice((0, 1, 65500, random.randrange(65536))), random.randrange(2**32), random.choice((1, 2))

@@ -26,7 +26,7 @@ Stood = namedtuple("Stood", "path number behind beyond")
 PROGRAM = Stream()
 
 
-def packet_of(octets):
+def packet_of(octets: bytes) -> Packet | None:
     """The stream's packet in a datagram, or None."""
     if len(octets) < 12 or octets[0] >> 6 != 2:
         return None
@@ -49,17 +49,17 @@ def packet_of(octets):
     return Packet(seq, ts, ssrc, octets[begin:end])
 
 
-def nearest(low, cycle, reference):
+def nearest(low: int, cycle: int, reference: int) -> int:
     """The number with these low bits that lies nearest to a reference."""
     least = reference - cycle // 2
     return least + (low - least) % cycle
 
 
-def media_time_of(anchor, number):
+def media_time_of(anchor: Anchor, number: int) -> int:
     return anchor.media + (number - anchor.number) * FRAMES
 
 
-def next_due(anchor, time):
+def next_due(anchor: Anchor, time: int) -> int:
     """The least number from the anchor's on whose deadline is after the time."""
     return anchor.number + max(0, (time - (anchor.media + LATENCY)) // FRAMES + 1)
 
@@ -255,7 +255,7 @@ def slots_of_close(epochs, time):
     return slots(epochs, range(next_due(anchor, time), max(packets) + 1))
 
 
-def marks(events, stream=PROGRAM):
+def marks(events: list[tuple], stream: Stream = PROGRAM) -> tuple[list[str], Counter]:
     """The lines of the listing, and the fates."""
     epochs, fates = arrivals(events, stream)
     lines, time, quiet, any_slot = [], 0, -LATENCY, False
@@ -275,7 +275,7 @@ def marks(events, stream=PROGRAM):
     return lines, fates
 
 
-def fault_of(events, stream=PROGRAM):
+def fault_of(events: list[tuple], stream: Stream = PROGRAM) -> str | None:
     """The first fault of an event, or None."""
     time, closed = 0, False
     for place, event in enumerate(events):
@@ -292,7 +292,7 @@ def fault_of(events, stream=PROGRAM):
     return None
 
 
-def answer(events, stream=PROGRAM):
+def answer(events: list[tuple], stream: Stream = PROGRAM) -> tuple[str, str, int, Counter]:
     """What the program has to write on standard output and on standard error, its status, and counts of fates and
     marks."""
     fault = fault_of(events, stream)

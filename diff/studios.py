@@ -1,5 +1,6 @@
 """Random studios of one to three streams, and traces of them: losses, delays, strays, restarts, near and far
 readings."""
+from random import Random
 
 from traces import datagram, text_of
 
@@ -67,7 +68,7 @@ def comings_of(random, open_at, number, stream):
         seq, media = seq + 1, media + frames
 
 
-def studio_trace(random):
+def studio_trace(random: Random) -> tuple[str, str]:
     """A configuration's text, and that of a trace."""
     open_at, streams, config = studio_of(random)
     comings = [

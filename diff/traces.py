@@ -1,10 +1,11 @@
 """Random traces: senders' packets on two paths, with losses, delays, copies that differ, strays, restarts and
 faults."""
+from random import Random
 
 FRAMES, OCTETS = 6, 18
 
 
-def datagram(random, seq, ts, ssrc, payload, plain=0.8):
+def datagram(random: Random, seq: int, ts: int, ssrc: int, payload: bytes, plain: float = 0.8) -> bytes:
     """An RTP packet; sometimes with CSRCs, an extension or padding, or with a fault."""
     first, between, after = 0x80, b"", b""
     if random.random() > plain:
@@ -156,7 +157,7 @@ def restarting(random, start):
         old, run = run, begun_anew(random, run, media)
 
 
-def trace(random):
+def trace(random: Random) -> list[tuple]:
     """The events of a trace, in order."""
     start, comings = random.choice((0, 0, 0, 100, 2**32 - 50, 2**40, 2**60 - 400)), []
     if random.random() < 0.5:
@@ -185,7 +186,7 @@ def trace(random):
     return events
 
 
-def text_of(events):
+def text_of(events: list[tuple]) -> str:
     """The trace as docs/FORMATS.md says it."""
     lines = []
     for event in events:

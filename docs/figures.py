@@ -7,6 +7,7 @@ The colours follow the reader's scheme, light or dark, over a background of thei
 """
 import sys
 import tomllib
+from collections.abc import Iterator
 from xml.sax.saxutils import escape
 
 sys.dont_write_bytecode = True
@@ -463,7 +464,7 @@ FIGURES = {
 }
 
 
-def differences():
+def differences() -> Iterator[str]:
     """The figures that are not as this script draws them."""
     for name, draw in FIGURES.items():
         file = FOLDER / f"{name}.svg"

@@ -2,6 +2,7 @@
 and in /metrics. Keys, kinds and descriptions are those of the crate status_page, and the words of lines those of the
 crates that write the lines."""
 import re
+from collections.abc import Iterator
 
 from sources import ROOT
 
@@ -118,7 +119,7 @@ def rows_of_fields():
         )
 
 
-def table():
+def table() -> list[str]:
     """The lines of the table."""
     alone = (row(words, None, None, None, meaning) for words, meaning in REPORT_ALONE.items())
     return [HEAD, *rows_of_counts(), *rows_of_fields(), *alone]
@@ -128,7 +129,7 @@ def words_of(files, pattern):
     return {word for file in files for word in re.findall(pattern, read(file))} - NO_COUNTS
 
 
-def differences():
+def differences() -> Iterator[str]:
     """Whether METRICS has another table, and words of lines that the table lacks, or has too many."""
     if "\n".join(table()) not in (ROOT / "docs" / "METRICS.md").read_text():
         yield "docs/METRICS.md lacks the output of docs/list names"

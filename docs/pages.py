@@ -1,6 +1,8 @@
 """What the pages have to say, by the sources: keys, fault lines, metrics, words of the command line, alerts, code,
 links and words."""
 import re
+from collections.abc import Iterator
+from pathlib import Path
 
 import sources
 from sources import ROOT
@@ -35,7 +37,7 @@ def page(name):
     return path.read_text() if path.is_file() else ""
 
 
-def all_pages():
+def all_pages() -> list[Path]:
     """The pages of the repository, without what is built."""
     return [path for path in sorted(ROOT.glob("**/*.md")) if "out" not in path.relative_to(ROOT).parts]
 
@@ -268,7 +270,7 @@ def unknown_outputs():
             yield f"docs/MIXING.md has the line {line[:40]}.., which is in no report of examples/"
 
 
-def differences():
+def differences() -> Iterator[str]:
     yield from broken_links()
     yield from wrong_words()
     yield from missing_keys()

@@ -1,6 +1,7 @@
 """What the sources say of themselves: crates, tests, edits, public calls and lemma files, each with its sentence."""
 import ast
 import re
+from collections.abc import Iterator
 from functools import cache
 from pathlib import Path
 from typing import NamedTuple
@@ -79,17 +80,17 @@ def crate_lines():
 
 
 @cache
-def dependencies():
+def dependencies() -> dict[str, list[str]]:
     """The crates and libraries that each crate names in crates.txt, the lowest first."""
     return {name.split()[0]: below for _, name, below in crate_lines()}
 
 
-def heading(crate):
+def heading(crate: str) -> str:
     """The name of a crate as crates.txt has it: with `staticlib` behind it if it is a static library."""
     return next(name for _, name, _ in crate_lines() if name.split()[0] == crate)
 
 
-def crates():
+def crates() -> list[str]:
     """The names of all crates, the lowest first."""
     return list(dependencies())
 
@@ -103,7 +104,7 @@ def sections():
 
 
 @cache
-def below(crate):
+def below(crate: str) -> list[str]:
     """All crates of the repository that a crate depends on, the lowest first."""
     named = [name for name in dependencies()[crate] if name in dependencies()]
     found = {*named, *(deeper for name in named for deeper in below(name))}
@@ -116,7 +117,7 @@ def root_of(crate):
     return next((file.read_text() for file in files if file.is_file()), "")
 
 
-def crate_sentence(crate):
+def crate_sentence(crate: str) -> str:
     """What a crate is: the first sentence of the `//!` text in its root file."""
     return FIRST_SENTENCE.match(" ".join(HEAD_LINE.findall(root_of(crate))))[1]
 
@@ -127,7 +128,7 @@ def line_count(crate, suffix):
     return sum(file.read_text().count("\n") for file in files if "out" not in file.relative_to(ROOT).parts)
 
 
-def crate_map(with_lines=False):
+def crate_map(with_lines: bool = False) -> Iterator[str]:
     """The map of the crates: for each section its title, then a line for each crate with its sentence and, if asked
     for, its lines."""
     for section, names in sections().items():
@@ -138,24 +139,24 @@ def crate_map(with_lines=False):
         yield ""
 
 
-def code_files(crate):
+def code_files(crate: str) -> list[Path]:
     """The files of a crate's code."""
     return sorted((ROOT / "crates" / crate / "src").rglob("*.rt"))
 
 
-def logic_files(crate):
+def logic_files(crate: str) -> list[Path]:
     """The files of a crate's definitions and lemmas."""
     return [
         file for folder in ("specs", "proofs") for file in sorted((ROOT / "crates" / crate / folder).glob("*.antt"))
     ]
 
 
-def code_of(crate):
+def code_of(crate: str) -> list[str]:
     """The text of each file of a crate's code."""
     return [file.read_text() for file in code_files(crate)]
 
 
-def owners_in(text):
+def owners_in(text: str) -> Iterator[Owner]:
     """The types, traits and implementations of a file."""
     for found in OWNER.finditer(text):
         kind, head, body = found.groups()
@@ -200,7 +201,7 @@ def clauses_from(text, place):
 
 
 @cache
-def calls_of(crate):
+def calls_of(crate: str) -> list[Call]:
     """All functions of a crate, at the top of a file or of a type or trait."""
     return [call for text in code_of(crate) for call in calls_in(text)]
 
@@ -216,14 +217,14 @@ def calls_in(text):
         yield Call(found[2], owner.name, owner.trait, public, *above, **clauses, head=text[found.start() : end])
 
 
-def exports_of(crate):
+def exports_of(crate: str) -> set[str]:
     """The names that a library gives out."""
     root = ROOT / "crates" / crate / "src" / "lib.rt"
     found = EXPORT.findall(root.read_text()) if root.is_file() else []
     return {name.strip() for _, several, one in found for name in (several or one).split(",")}
 
 
-def public_calls_of(crate):
+def public_calls_of(crate: str) -> list[Call]:
     """Each call that a library gives out, to crates or to C, with its contract."""
     exports = exports_of(crate)
     return [
@@ -233,7 +234,7 @@ def public_calls_of(crate):
     ]
 
 
-def tests_of(crate):
+def tests_of(crate: str) -> list[Call]:
     return [call for call in calls_of(crate) if "#[test]" in call.attributes]
 
 
@@ -298,7 +299,7 @@ ROW_WIDTH = 160
 TEST = re.compile(r"#\[test\]\s*fn (\w+)")
 
 
-def cases_at(place):
+def cases_at(place: str) -> Iterator[Case]:
     """The worked cases of a file of tests, of an example or of a script."""
     path = ROOT / place
     if path.suffix == ".rt":
@@ -361,7 +362,7 @@ def cases_in(place, text):
         start = test.end()
 
 
-def unlisted_cases():
+def unlisted_cases() -> list[str]:
     """The files of tests in the crates of worked cases, and the examples, that no topic names."""
     listed = {place for places in CASE_PLACES.values() for place in places}
     files = [
@@ -374,14 +375,14 @@ def unlisted_cases():
     return [name for name in (str(path.relative_to(ROOT)) for path in [*files, *examples]) if name not in listed]
 
 
-def lemma_files_of(crate):
+def lemma_files_of(crate: str) -> Iterator[tuple[str, str]]:
     """Each lemma file of a crate with its first line."""
     for file in sorted((ROOT / "crates" / crate / "proofs").glob("*.antt")):
         if file.stem != "Lib":
             yield file.stem, file.read_text().splitlines()[0]
 
 
-def edit_files(crate):
+def edit_files(crate: str) -> list[Path]:
     """The files of a crate's edits: those that the gate tries, then those that `make mutants` adds."""
     return [
         file
@@ -390,20 +391,20 @@ def edit_files(crate):
     ]
 
 
-def edits_of(crate):
+def edits_of(crate: str) -> Iterator[Edit]:
     """Each edit of a crate."""
     for file in edit_files(crate):
         said = REFUSED.fullmatch(file.read_text().splitlines()[0])
         yield Edit(file.stem, file.parent.name == "must-fail", *(said.groups() if said else ("", "")))
 
 
-def code_lines(text):
+def code_lines(text: str) -> list[str]:
     """The lines of a .rt or .antt file without blank ones and those that are a comment."""
     return [line for line in map(str.strip, text.splitlines()) if not COMMENT.match(line)]
 
 
 @cache
-def clauses_of(crate):
+def clauses_of(crate: str) -> set[str]:
     """All that can refuse an edit of a crate: `call: clause`, `type: ghost field` and `type: invariant`."""
     calls = {f"{call.path()}: {clause}" for call in calls_of(crate) for clause in call.ensures + trait_clauses(call)}
     owners = [owner for text in code_of(crate) for owner in owners_in(text)]

@@ -15,11 +15,13 @@ NAME, CELL, SECONDS = 18, 17, 10
 # In the table a crate's edits and the proof that they begin with are two kinds. Here they are one task.
 KINDS = ("proofs", ["proofs"]), ("tests", ["tests"]), ("edits", ["seeds", "edits"])
 COLUMNS = "proofs", "tests", "seeds", "edits"
+# A crate and a kind.
+Task = tuple[str, str]
 # Below this share of the saved seconds the speed of this machine isn't known.
 LEAST = 0.05
 
 
-def newest(folder=RESULTS):
+def newest(folder: Path = RESULTS) -> str:
     """The text of the last saved run of the whole gate, which begins so; an empty text if there is none."""
     runs = sorted(
         (found[1], int(found[2] or 1), file)
@@ -41,7 +43,7 @@ def seconds_of(line):
     }
 
 
-def saved_seconds(text):
+def saved_seconds(text: str) -> dict[Task, float]:
     """The processor seconds of each task in the text of a saved run."""
     _, _, table = text.partition("\ncrate ")
     lines = table.partition("\nall ")[0].splitlines()[1:]
@@ -67,7 +69,9 @@ def chain(crate, rest, above, known):
     return known[crate]
 
 
-def minutes_left(saved, spent, done, below, lanes):
+def minutes_left(
+    saved: dict[Task, float], spent: dict[Task, float], done: set[Task], below: dict[str, list[str]], lanes: int
+) -> float | None:
     """About how many minutes the tasks of crates that are not done still take; none if nothing is known of them yet.
 
     `below` has the crates that each crate depends on, and `lanes` tasks run at the same time."""

@@ -7,6 +7,7 @@ import fcntl
 import hashlib
 import re
 import sys
+from collections.abc import Iterator
 from functools import cache
 from pathlib import Path
 from typing import NamedTuple
@@ -52,7 +53,7 @@ def edit(text):
 
 
 @cache
-def own_sum(crate):
+def own_sum(crate: str) -> str:
     """The checksum of a crate's sources, specs, proofs and edits."""
     home, parts = sources.ROOT / "crates" / crate, []
     for folder in ("src", "specs", "proofs"):
@@ -78,7 +79,7 @@ def interface_sum(crate):
     return sum_of(parts)
 
 
-def below_sum(crate):
+def below_sum(crate: str) -> str:
     """The checksum of what all crates below a crate show to it."""
     return sum_of([interface_sum(name) for name in sorted(sources.below(crate))])
 
@@ -102,14 +103,14 @@ def write(lines):
     )
 
 
-def update(lines):
+def update(lines: dict[str, Line]) -> None:
     """Puts lines into the record, which another run may write at the same time."""
     with open(FILE, "a+") as file:
         fcntl.flock(file, fcntl.LOCK_EX)
         write({**read(), **lines})
 
 
-def differences():
+def differences() -> Iterator[str]:
     """What the record lacks: crates that changed since their edits were tried, and edits that were not refused."""
     lines = read()
     for crate in sources.crates():

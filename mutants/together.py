@@ -207,7 +207,7 @@ def is_refused_alone(home, edit):
     )
 
 
-def refused(home, files):
+def refused(home: Path, files: list[Path]) -> list[Path]:
     """Of these files of edits of the crate in a folder, those that checks over what is kept there refuse."""
     edits = [read(file) for file in files]
     found = [edit.file for group in batches(edits, home) for edit in refused_in(home, group)]

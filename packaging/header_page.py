@@ -63,7 +63,7 @@ def described(comment, code):
     return f"{comment}\n\n{value_table(code) if code.startswith('enum ') else code_block(code)}".rstrip()
 
 
-def page_text():
+def page_text() -> str:
     """The man page from its synopsis on, in the dialect of the pages. It ends with an error if a part of the header is
     missing."""
     text = HEADER.read_text(encoding="utf-8")

@@ -4,7 +4,8 @@ Each datagram of a file has a number of its own, by which a trace shows that it 
 shows in a trace's readings, 3 sampling instants in 62,500 nanoseconds since the first datagram.
 """
 import struct
-from typing import NamedTuple
+from collections.abc import Iterable, Iterator, Sequence
+from typing import Any, NamedTuple
 
 LITTLE, BIG = "<", ">"
 MICROSECONDS, NANOSECONDS = 0xA1B2C3D4, 0xA1B23C4D
@@ -93,41 +94,46 @@ class Part(NamedTuple):
     others: int = 0
 
 
-def rtp(number):
+def rtp(number: int) -> bytes:
     """An RTP packet of two octets, of one sampling instant."""
     return struct.pack(">BBHIIH", 128, 96, number, number, 7, number + 1000)
 
 
-def ip_around(datagram, options=b""):
+def ip_around(datagram: bytes, options: bytes = b"") -> bytes:
     """An IPv4 packet of UDP from 10.0.0.1:5004 to 239.1.2.3:5005, which isn't to be fragmented."""
     udp = struct.pack(">HHHH", 5004, 5005, len(datagram) + 8, 0) + datagram
     head = struct.pack(">BBHHHBBH", 0x45 + len(options) // 4, 0, len(udp) + len(options) + 20, 1, 0x4000, 64, 17, 0)
     return head + bytes([10, 0, 0, 1, 239, 1, 2, 3]) + options + udp
 
 
-def pcap_head(magic=MICROSECONDS, order=LITTLE, link=RAW, version=(2, 4)):
+def pcap_head(
+    magic: int = MICROSECONDS, order: str = LITTLE, link: int = RAW, version: tuple[int, int] = (2, 4)
+) -> bytes:
     return struct.pack(order + "IHHIIII", magic, *version, 0, 0, 65535, link)
 
 
-def record(frame, seconds=1, units=2, order=LITTLE):
+def record(frame: bytes, seconds: int = 1, units: int = 2, order: str = LITTLE) -> bytes:
     return struct.pack(order + "IIII", seconds, units, len(frame), len(frame)) + frame
 
 
-def block(order, kind, body):
+def block(order: str, kind: int, body: bytes) -> bytes:
     body += bytes(-len(body) % 4)
     length = struct.pack(order + "I", len(body) + 12)
     return struct.pack(order + "I", kind) + length + body + length
 
 
-def section(order, minor=0):
+def section(order: str, minor: int = 0) -> bytes:
     return block(order, 0x0A0D0D0A, struct.pack(order + "IHHq", 0x1A2B3C4D, 1, minor, -1))
 
 
-def option(order, code, value):
+def option(order: str, code: int, value: bytes) -> bytes:
     return struct.pack(order + "HH", code, len(value)) + value + bytes(-len(value) % 4)
 
 
-def interface(order, link=RAW, resolution=None, offset=None, limit=0, options=b""):
+def interface(
+    order: str, link: int = RAW, resolution: int | None = None, offset: int | None = None, limit: int = 0,
+    options: bytes = b""
+) -> bytes:
     if resolution is not None:
         options += option(order, 9, bytes([resolution]))
     if offset is not None:
@@ -137,17 +143,19 @@ def interface(order, link=RAW, resolution=None, offset=None, limit=0, options=b"
     return block(order, 1, struct.pack(order + "HHI", link, 0, limit) + options)
 
 
-def enhanced(order, number, units, frame):
+def enhanced(order: str, number: int, units: int, frame: bytes) -> bytes:
     return block(
         order, 6, struct.pack(order + "IIIII", number, units >> 32, units % 2**32, len(frame), len(frame)) + frame
     )
 
 
-def simple(order, frame, original=None):
+def simple(order: str, frame: bytes, original: int | None = None) -> bytes:
     return block(order, 3, struct.pack(order + "I", original or len(frame)) + frame)
 
 
-def sent(micros, network, number, stamp, source=7, length=18, kind=96):
+def sent(
+    micros: int, network: int, number: int, stamp: int, source: int = 7, length: int = 18, kind: int = 96
+) -> bytes:
     """The record of an RTP packet from 10.0.0.N to 239.1.2.N, both at port 5004, whose payload's octets are 17."""
     datagram = struct.pack(">BBHII", 128, kind, number % 2**16, stamp % 2**32, source) + b"\x11" * length
     udp = struct.pack(">HHHH", 5004, 5004, len(datagram) + 8, 0) + datagram
@@ -155,17 +163,19 @@ def sent(micros, network, number, stamp, source=7, length=18, kind=96):
     return record(head + bytes([10, 0, 0, network, 239, 1, 2, network]) + udp, 1 + micros // 10**6, micros % 10**6)
 
 
-def pcap_of(*records):
+def pcap_of(*records: bytes) -> bytes:
     return pcap_head() + b"".join(records)
 
 
-def two_paths(skew=1000):
+def two_paths(skew: int = 1000) -> bytes:
     """Two paths over the wrap of the numbers; the third packet's time goes back, and one is lost on the second path."""
     first, second = [sent(0, 1, 65535, 100), sent(skew, 2, 65535, 100)], [sent(500, 1, 0, 106), sent(1041, 2, 0, 106)]
     return pcap_of(*first, *second, sent(2000, 1, 1, 112))
 
 
-def flow(network, count, first=1, stamp=0, step=6, skew=0, **more):
+def flow(
+    network: int, count: int, first: int = 1, stamp: int = 0, step: int = 6, skew: int = 0, **more: int
+) -> list[tuple[int, bytes]]:
     """The times and records of packets of a flow, one a millisecond."""
     return [
         (1000 * place + skew, sent(1000 * place + skew, network, first + place, stamp + step * place, **more))
@@ -173,12 +183,12 @@ def flow(network, count, first=1, stamp=0, step=6, skew=0, **more):
     ]
 
 
-def merged(*flows):
+def merged(*flows: list[tuple[int, bytes]]) -> bytes:
     """A capture of flows, in the order of their times."""
     return pcap_of(*(octets for _, octets in sorted(sum(flows, []), key=lambda row: row[0])))
 
 
-def three_paths(streams):
+def three_paths(streams: int) -> bytes:
     """Streams of three paths, of eight packets each: the second comes later than the first, and the third earlier, by
     10 and 20 microseconds more for each stream."""
     records = []
@@ -193,12 +203,12 @@ def three_paths(streams):
     )
 
 
-def sources(count):
+def sources(count: int) -> bytes:
     """Two packets of each of so many sources."""
     return pcap_of(*(sent(0, 1, number, 6 * number, source) for source in range(count) for number in (0, 1)))
 
 
-def times(order, first=1, rows=TIMES):
+def times(order: str, first: int = 1, rows: list[tuple] = TIMES) -> list[Part]:
     """A section with an interface for each time, and their packets; the datagrams' numbers begin with the first."""
     parts = [Part(section(order))]
     parts += [Part(interface(order, RAW, resolution, offset)) for resolution, offset, _, _ in rows]
@@ -208,7 +218,7 @@ def times(order, first=1, rows=TIMES):
     return parts
 
 
-def links(order, first=1):
+def links(order: str, first: int = 1) -> list[Part]:
     """A section with an interface for each link, and their packets, one a millisecond."""
     parts = [Part(section(order))]
     parts += [Part(interface(order, link)) for link, _, _ in LINKS]
@@ -220,7 +230,7 @@ def links(order, first=1):
     return parts
 
 
-def odd_packets(first=1):
+def odd_packets(first: int = 1) -> Iterator[Part]:
     """IP packets with changes, with options, with padding, cut, and of no RTP, as parts that aren't framed yet."""
     for place, digits, found in ODD:
         datagram = rtp(first if found == WHOLE else 0)
@@ -239,7 +249,7 @@ def odd_packets(first=1):
     yield Part(ip_around(b"v=0\r\n"), others=1)
 
 
-def odd(order, first=1):
+def odd(order: str, first: int = 1) -> list[Part]:
     """A section with such packets, each in a block without a time, behind one with a time; then one that a limit
     cuts."""
     parts = [Part(section(order)), Part(interface(order, limit=64))]
@@ -249,7 +259,7 @@ def odd(order, first=1):
     return [*parts, Part(simple(order, ip_around(rtp(0))[:30], original=42), others=1)]
 
 
-def small():
+def small() -> list[Part]:
     """A file of two sections in both orders, with three interfaces, a block of another type and a packet without a
     time."""
     return [
@@ -263,7 +273,7 @@ def small():
     ]
 
 
-def pcap(magic, order, rows):
+def pcap(magic: int, order: str, rows: list[tuple]) -> list[Part]:
     """A pcap file with a packet for each row."""
     parts = [Part(pcap_head(magic, order))]
     for place, (seconds, units, instants) in enumerate(rows):
@@ -272,7 +282,7 @@ def pcap(magic, order, rows):
     return parts
 
 
-def great():
+def great() -> list[Part]:
     """A file with all of these."""
     parts = times(BIG, rows=TIMES[:5])
     for more, order in ((links, LITTLE), (odd, LITTLE)):
@@ -280,7 +290,7 @@ def great():
     return parts
 
 
-def described(stream):
+def described(stream: dict[str, Any]) -> str:
     """The description of a stream's paths in a record, by its table in a configuration."""
     return "encoding {encoding} channels {channels} frames {frames} pt {pt} paths {paths}".format(
         **{"paths": 2, **stream}
@@ -292,7 +302,7 @@ def change(at, gains):
     return struct.pack(f">qQ{len(gains)}i", at, 0, *gains)
 
 
-def live_record(open_at, paths, trace, descriptions=()):
+def live_record(open_at: int, paths: list[int], trace: str, descriptions: Sequence[str] = ()) -> bytes:
     """The record of a live run of this trace by a studio that was opened at a time, whose streams have so many paths,
     and these descriptions; without them it is a record of version 0.3.0. If the trace has lines `gains AT GAIN ..`, or
     `octets HEX`, its gains can change, and each is a change that the run took there, or one of this payload."""
@@ -326,5 +336,5 @@ def live_record(open_at, paths, trace, descriptions=()):
     return b"".join(blocks)
 
 
-def octets_of(parts):
+def octets_of(parts: Iterable[Part]) -> bytes:
     return b"".join(part.octets for part in parts)

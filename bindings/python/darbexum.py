@@ -158,7 +158,7 @@ def fault_text(code):
     return room.value.decode()
 
 
-def version():
+def version() -> tuple[int, int, int]:
     """The version of the library, as (0, 3, 0)."""
     number = _call("version")()
     return number >> 16, number >> 8 & 255, number & 255
