@@ -1,5 +1,5 @@
-//! Tests of the parts of a live run, one by one: its sockets and clock, its record and its statistics. Worked cases over
-//! public calls.
+//! Tests of the parts of a live run, one by one: its sockets and clock, its record and its statistics.
+//! Worked cases over public calls.
 //!
 //! - `sockets`: sockets that fail or are empty, the kernel's table of sockets, and the opening of a live run.
 //! - `records`: the octets of a record as `pcap_file` writes them, and what it reads in them.

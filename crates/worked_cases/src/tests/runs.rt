@@ -40,8 +40,8 @@ fn loses_every_thousandth<W: Window>(rt: &impl Abort, bench: &mut Bench<W>) {
     bench.has_counts(rt, counts, "");
 }
 
-/// The same packets by `offer` and `advance`, which take and return packets and marks by value: each reading gives the
-/// slot that is due, and nothing after it.
+/// By `offer` and `advance`, which take packets and return marks by value, the same packets give the same slots: each
+/// reading gives the one that is due, and nothing after it.
 #[test]
 fn three_cycles_by_value(rt: HostRuntime) {
     let spec = spec_of(&rt, STREAM);
