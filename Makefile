@@ -13,9 +13,10 @@ names := $(wordlist 2,$(words $(MAKECMDGOALS)),$(MAKECMDGOALS))
 $(names): ;@:
 endif
 
-.PHONY: help build lib run try test test-memory check mutants fmt install deb clean
+.PHONY: help demo build lib run try test test-memory check mutants fmt install deb clean
 
 help:
+	@echo "make demo     a live run with a page in a browser, of senders with faults; not proved if it is not built"
 	@echo "make run      the program on its stored example; not proved if it is not built"
 	@echo "make try      the worked traces and the tests of reception; nothing is proved"
 	@echo "make build    prove and build bin/darbexum, with bin/darbexum-live and -sdp; with CPU=v3, for x86-64-v3"
@@ -28,6 +29,10 @@ help:
 	@echo "make install  programs, library, man pages, completions, service and alerts below PREFIX (/usr/local), and DESTDIR before it"
 	@echo "make deb      the same as Debian packages, in bin/: darbexum, libdarbexum0 and libdarbexum-dev"
 	@echo "make clean    what was built and kept"
+
+# DEMO has options of demo/run, as DEMO="--page 8081".
+demo:
+	@demo/run $(DEMO)
 
 build: bin/darbexum bin/darbexum-live bin/darbexum-sdp
 
