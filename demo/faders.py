@@ -6,8 +6,8 @@ import threading
 from page import NoAnswer, Page
 
 UNITY = 65_536
-# The gains that move: an output channel, and an input.
-CELLS = (0, 0), (1, 1)
+# The gains that move, by output channel and input: both channels of the first stream.
+CELLS = (0, 0), (0, 1)
 # A fader moves between two levels in decibels and back in so many seconds, in so many steps a second.
 LOW, HIGH, PERIOD, STEPS = -30, -6, 10, 5
 
