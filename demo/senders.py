@@ -9,7 +9,7 @@ from dataclasses import dataclass
 PACKETS_PER_SECOND = 250
 FRAMES = 192
 RATE = 48_000
-# Stereo L24: the octets of a sampling instant, and its greatest value.
+# The greatest value of a sample of L24.
 FULL_SCALE = 2**23 - 1
 # A tone swells and fades once in so many packets, so that the meters move.
 SWELL = 500
