@@ -5,6 +5,7 @@ pub mod Sinks
 pub mod Balances
 pub mod Memory
 pub mod Gains
+pub mod Outputs
 pub use Rattle.rtp_stream.specs.Reception
 pub use Rattle.rtp_stream.specs.PathCounts
 pub use Rattle.rtp_stream.specs.Marks

@@ -1,4 +1,4 @@
-//! The devices that a run is given, the traits `Feed`, `Clock`, `Sink` and `GainSource`, and its report.
+//! The devices that a run is given, the traits `Feed`, `Clock`, `Sink` and `GainSource`, its outputs, and its report.
 //!
 //! The caller of a run passes
 //!
@@ -9,6 +9,11 @@
 //!   `NoGains`.
 //!
 //! The run returns a `WorkReport`, or the `WorkFault` that says why it did not begin.
+//!
+//! What a run writes next to the datagrams of its mix are its outputs, at most one of each `OutputKind`.
+//! Each has an `OutputProgress`: the threads of the run set it, and any thread may read its
+//! `OutputState`, with its counts and the reason if it ended before the run. `RunProgress` has that of
+//! all kinds.
 //!
 //! A feed or a clock may state what it will return, and a sink what it was passed. The contracts of a
 //! run are about feeds, clocks and sinks that do so. `MemoryFeed`, `MemoryClock` and `MemorySink` do.
@@ -21,6 +26,10 @@ mod gain_source;
 mod memory_clock;
 mod memory_feed;
 mod memory_sink;
+mod output_kind;
+mod output_progress;
+mod output_state;
+mod output_states;
 mod report;
 mod sink;
 
@@ -33,5 +42,9 @@ pub use gain_source::{
 pub use memory_clock::MemoryClock;
 pub use memory_feed::MemoryFeed;
 pub use memory_sink::MemorySink;
+pub use output_kind::{OUTPUT_KINDS, OutputKind};
+pub use output_progress::{OutputProgress, RunProgress};
+pub use output_state::{OutputCounts, OutputEnd, OutputState};
+pub use output_states::OutputStates;
 pub use report::{WorkFault, WorkReport};
 pub use sink::{SendAnswer, SendCounts, Sink};
