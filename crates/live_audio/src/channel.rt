@@ -8,13 +8,13 @@ ghost use Rattle.live_audio.specs.Parts.{plan_of};
 ghost use Rattle.live_audio.specs.Room.{room_for};
 
 use crate::parts::AudioParts;
-use crate::result::AudioResult;
 use crate::room::ring_octets;
 use crate::tap::AudioTap;
 use crate::writer::{AudioWriter, format_of};
 use rtrb::RingBuffer;
 use std::alloc::{AllocError, Global};
 use studio_config::StudioSpec;
+use studio_io::OutputProgress;
 
 /// The two ends of a run's audio, over one ring.
 #[derive(Drop)]
@@ -32,7 +32,7 @@ impl<'a> AudioChannel<'a> {
         alloc: Global,
         studio: &StudioSpec,
         parts: Option<AudioParts>,
-        audio: &'a AudioResult,
+        audio: &'a OutputProgress,
     ) -> Result<AudioChannel<'a>, AllocError>
         ensures pair { IfOk result (λ channel. IsPair channel.tap.ring channel.writer.ring) }
         ensures open { IfOk result (λ channel. channel.tap.ended ≡ false) }

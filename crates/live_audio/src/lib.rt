@@ -11,12 +11,13 @@
 //! 4. With `AudioParts` the audio goes to one file after another, each with the same number of whole
 //!    blocks. Each has a `bext` chunk with the time of its first sample, and no block is left out or
 //!    written twice between two of them.
-//! 5. The last file ends with a whole block, whatever ended it. `AudioResult::state` returns the state of
-//!    the audio to other threads.
+//! 5. The last file ends with a whole block, whatever ended it.
 //!
 //! Raw PCM goes the same way to a `PcmOutput`, by the ends of a `PcmChannel` and `write_pcm`. Its
-//! reader may be slow: a block that does not fit in the ring is left out as a whole and counted, and
-//! the blocks behind it go on. `PcmResult::state` returns its state.
+//! reader may be slow: a block for which the ring has no room is left out as a whole and counted, and
+//! the blocks behind it go on.
+//!
+//! The ends set the `OutputProgress` of their output, which other threads read.
 //!
 //! Only `AudioChannel::new` and `PcmChannel::new` allocate.
 #![tactic(auto)]
@@ -24,11 +25,9 @@
 mod channel;
 mod parts;
 mod pcm_channel;
-mod pcm_result;
 mod pcm_tap;
 mod pcm_writer;
 mod renewal;
-mod result;
 mod room;
 mod sink;
 mod tap;
@@ -37,11 +36,9 @@ mod writer;
 pub use channel::AudioChannel;
 pub use parts::AudioParts;
 pub use pcm_channel::PcmChannel;
-pub use pcm_result::{PcmResult, PcmState};
 pub use pcm_tap::PcmTap;
 pub use pcm_writer::{PcmStop, PcmWriter, PcmWritten, write_pcm};
 pub use renewal::is_renewal_due;
-pub use result::{AudioResult, AudioState};
 pub use room::ring_octets;
 pub use sink::{AudioTaps, TappedSink};
 pub use tap::AudioTap;

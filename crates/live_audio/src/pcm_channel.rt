@@ -7,7 +7,6 @@ ghost use Rattle.live_audio.specs.PcmTap.{HasTapped};
 ghost use Rattle.live_audio.specs.PcmWriter.{IsFreshPcm};
 ghost use Rattle.live_audio.specs.Room.{room_for};
 
-use crate::pcm_result::PcmResult;
 use crate::pcm_tap::PcmTap;
 use crate::pcm_writer::PcmWriter;
 use crate::room::ring_octets;
@@ -15,6 +14,7 @@ use crate::writer::format_of;
 use rtrb::RingBuffer;
 use std::alloc::{AllocError, Global};
 use studio_config::StudioSpec;
+use studio_io::OutputProgress;
 
 /// The two ends of a run's raw PCM, over one ring.
 #[derive(Drop)]
@@ -31,7 +31,7 @@ impl<'a> PcmChannel<'a> {
     pub fn new(
         alloc: Global,
         studio: &StudioSpec,
-        pcm: &'a PcmResult,
+        pcm: &'a OutputProgress,
     ) -> Result<PcmChannel<'a>, AllocError>
         ensures pair { IfOk result (λ channel. IsPair channel.tap.ring channel.writer.ring) }
         ensures none { IfOk result (λ channel. HasTapped [] channel.tap) }

@@ -3,9 +3,9 @@ ghost use Rattle.std.specs.Prelude.{◌≡◌, ◌∷◌, ◌++◌, [], ℕ, Lis
 ghost use Rattle.rtrb.specs.Ring.{sent};
 ghost use Rattle.live_audio.specs.PcmTap.{HasTapped, LeavesOut, Takes};
 
-use crate::pcm_result::PcmResult;
 use crate::tap::samples_of;
 use rtrb::Producer;
+use studio_io::OutputProgress;
 
 /// The end of a ring in the run's thread, into which the samples of each datagram are put. It never waits.
 #[derive(Drop)]
@@ -15,13 +15,13 @@ pub struct PcmTap<'a> {
     is_open: bool,
     /// The number of blocks that were left out.
     left_out: u64,
-    /// The result of the output, in which that number is set.
-    pcm: &'a PcmResult,
+    /// The progress of the output, in which that number is set.
+    pcm: &'a OutputProgress,
 }
 
 impl<'r> PcmTap<'r> {
     /// Returns the end of a ring, into which it has put nothing yet.
-    pub(crate) fn new(ring: Producer<u8>, pcm: &'r PcmResult) -> PcmTap<'r>
+    pub(crate) fn new(ring: Producer<u8>, pcm: &'r OutputProgress) -> PcmTap<'r>
         ensures ring { result.ring ≡ ring }
         ensures none { sent ring ≡ [] → HasTapped [] result }
     {
@@ -60,7 +60,7 @@ impl<'r> PcmTap<'r> {
         ensures left_out { self.new.left_out ≡ self.old.left_out }
     {
         if !self.is_open {
-            self.is_open = self.pcm.is_open();
+            self.is_open = self.pcm.is_writing();
         }
         self.is_open
     }

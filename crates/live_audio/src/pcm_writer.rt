@@ -14,7 +14,6 @@ ghost use Rattle.live_audio.specs.PcmWriter.{
 };
 ghost use Rattle.wav_file.specs.Samples.{little_samples};
 
-use crate::pcm_result::PcmResult;
 use crate::writer::{CHUNK_OCTETS, PAUSE_MS, blocks_in};
 use mix_packets::OutSpec;
 use rtp_wire::Enc;
@@ -23,7 +22,8 @@ use std::io::{Error, ErrorKind};
 use std::sync::Wait;
 use std::thread::Parker;
 use std::time::Duration;
-use wav_file::{PcmEnd, PcmOutput, PcmRoom, to_little_endian};
+use studio_io::{OutputEnd, OutputProgress};
+use wav_file::{PcmOutput, PcmRoom, to_little_endian};
 
 /// The greatest number of octets behind which more are written.
 // With a chunk more it stays below 2^63.
@@ -48,7 +48,7 @@ pub struct PcmWritten {
 #[derive(Clone, Copy, Debug, PartialEq, Eq)]
 pub enum PcmStop {
     /// The output ended before its run.
-    Ended(PcmEnd),
+    Ended(OutputEnd),
     /// The run has ended, and the reader does not take the rest.
     Late,
 }
@@ -72,13 +72,17 @@ pub struct PcmWriter<'a> {
     octets: u64,
     /// The number of times that a full output may still be waited for once the run has ended.
     waits: u32,
-    /// The result of the output, in which the number of blocks so far is set.
-    pcm: &'a PcmResult,
+    /// The progress of the output, in which the number of blocks so far is set.
+    pcm: &'a OutputProgress,
 }
 
 impl<'a> PcmWriter<'a> {
     /// Returns the writer from a ring, of the samples of an output of the studio.
-    pub(crate) fn new(ring: Consumer<u8>, output: &OutSpec, pcm: &'a PcmResult) -> PcmWriter<'a>
+    pub(crate) fn new(
+        ring: Consumer<u8>,
+        output: &OutSpec,
+        pcm: &'a OutputProgress,
+    ) -> PcmWriter<'a>
         ensures ring { result.ring ≡ ring }
         ensures fresh { received ring ≡ [] → IsFreshPcm output.now result }
     {
@@ -98,14 +102,14 @@ impl<'a> PcmWriter<'a> {
         ensures same { IsSamePcm self.old self.new }
         ensures contents { D.Write.contents output.new ≡ D.Write.contents output.old }
     {
-        if self.pcm.is_open() {
+        if self.pcm.is_writing() {
             return None;
         }
         match output.room(0) {
             PcmRoom::Unread => None,
-            PcmRoom::Closed => Some(PcmStop::Ended(PcmEnd::Closed)),
+            PcmRoom::Closed => Some(PcmStop::Ended(OutputEnd::Closed)),
             PcmRoom::Ready | PcmRoom::Full => {
-                self.pcm.set_open();
+                self.pcm.set_writing();
                 None
             }
         }
@@ -170,7 +174,7 @@ impl<'a> PcmWriter<'a> {
             → HasPiped before (D.Write.contents output.new) self.new self.new.octets) }
     {
         if self.octets > MAX_OCTETS {
-            return Err(PcmStop::Ended(PcmEnd::Write));
+            return Err(PcmStop::Ended(OutputEnd::Write));
         }
         match self.ring.pop_entire_slice(chunk) {
             Ok(()) => self.write_chunk(rt, output, chunk),
@@ -245,12 +249,12 @@ impl<'a> PcmWriter<'a> {
     {
         match output.room(PAUSE_MS as u32) {
             PcmRoom::Ready => match output.write(octets) {
-                Ok(0) => Err(PcmStop::Ended(PcmEnd::Write)),
+                Ok(0) => Err(PcmStop::Ended(OutputEnd::Write)),
                 Ok(count) => Ok(count),
                 Err(fault) => self.stop_or_retry(&fault),
             },
             PcmRoom::Full => self.retry(),
-            PcmRoom::Unread | PcmRoom::Closed => Err(PcmStop::Ended(PcmEnd::Closed)),
+            PcmRoom::Unread | PcmRoom::Closed => Err(PcmStop::Ended(OutputEnd::Closed)),
         }
     }
 
@@ -261,8 +265,8 @@ impl<'a> PcmWriter<'a> {
     {
         match fault.kind() {
             ErrorKind::Interrupted | ErrorKind::WouldBlock => self.retry(),
-            ErrorKind::BrokenPipe => Err(PcmStop::Ended(PcmEnd::Closed)),
-            _ => Err(PcmStop::Ended(PcmEnd::Write)),
+            ErrorKind::BrokenPipe => Err(PcmStop::Ended(OutputEnd::Closed)),
+            _ => Err(PcmStop::Ended(OutputEnd::Write)),
         }
     }
 

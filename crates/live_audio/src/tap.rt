@@ -2,9 +2,8 @@
 ghost use Rattle.std.specs.Prelude.{◌≡◌, ◌≤◌, drop, length, false};
 ghost use Rattle.live_audio.specs.Tap.{Puts, StaysEnded};
 
-use crate::result::AudioResult;
 use rtrb::Producer;
-use wav_file::WavEnd;
+use studio_io::{OutputEnd, OutputProgress};
 
 /// The end of a ring in the run's thread, into which the samples of each datagram are put. It never waits.
 #[derive(Drop)]
@@ -12,13 +11,13 @@ pub struct AudioTap<'a> {
     ring: Producer<u8>,
     /// True once a block was not put. Nothing is put any more.
     ended: bool,
-    /// The result of the file, in which the reason of its end is set.
-    audio: &'a AudioResult,
+    /// The progress of the file, in which the reason of its end is set.
+    audio: &'a OutputProgress,
 }
 
 impl<'r> AudioTap<'r> {
     /// Returns the end of a ring, into which it has put nothing yet.
-    pub(crate) fn new(ring: Producer<u8>, audio: &'r AudioResult) -> AudioTap<'r>
+    pub(crate) fn new(ring: Producer<u8>, audio: &'r OutputProgress) -> AudioTap<'r>
         ensures ring { result.ring ≡ ring }
         ensures open { result.ended ≡ false }
     {
@@ -41,7 +40,7 @@ impl<'r> AudioTap<'r> {
         }
         if self.ring.push_entire_slice(samples_of(datagram)).is_err() {
             self.ended = true;
-            self.audio.set_end(WavEnd::Slow);
+            self.audio.set_end(OutputEnd::Slow);
         }
     }
 }

@@ -21,13 +21,13 @@ ghost use Rattle.live_audio.specs.AudioWriter.{
 
 use crate::parts::{AudioParts, PartPlan, WavParts, chunk_of, plan_of};
 use crate::renewal::is_renewal_due;
-use crate::result::AudioResult;
 use mix_packets::OutSpec;
 use rtrb::Consumer;
 use std::sync::Wait;
 use std::thread::Parker;
 use std::time::Duration;
-use wav_file::{LiveWav, LiveWavFile, WavEnd, WavFault, WavFiles, WavFormat};
+use studio_io::{OutputEnd, OutputProgress};
+use wav_file::{LiveWav, LiveWavFile, WavFault, WavFiles, WavFormat};
 
 /// The number of octets that are taken from the ring at once, at most: as many as a payload may have.
 pub(crate) const CHUNK_OCTETS: usize = 1440;
@@ -68,8 +68,8 @@ pub struct AudioWriter<'a> {
     plan: PartPlan,
     /// The number of blocks in all files so far.
     blocks: u64,
-    /// The result of the files, in which the number of blocks so far is set.
-    audio: &'a AudioResult,
+    /// The progress of the files, in which the number of blocks so far is set.
+    audio: &'a OutputProgress,
 }
 
 impl<'a> AudioWriter<'a> {
@@ -78,7 +78,7 @@ impl<'a> AudioWriter<'a> {
         ring: Consumer<u8>,
         output: &OutSpec,
         parts: Option<AudioParts>,
-        audio: &'a AudioResult,
+        audio: &'a OutputProgress,
     ) -> AudioWriter<'a>
         ensures ring { result.ring ≡ ring }
         ensures fresh { received ring ≡ [] → IsFresh output.now result }
@@ -286,7 +286,7 @@ impl<'a> AudioWriter<'a> {
     {
         let is_whole = finish_file(&parts.wav, file);
         if !is_whole {
-            self.audio.set_end(WavEnd::Write);
+            self.audio.set_end(OutputEnd::Write);
         }
         self.report_end(file);
         AudioFile {
@@ -322,7 +322,7 @@ impl<'a> AudioWriter<'a> {
         ensures same { D.Write.contents file.new ≡ D.Write.contents file.old }
         ensures result { result ≡ record { blocks = self.now.blocks; is_all = false; is_whole = is_whole } }
     {
-        self.audio.set_end(WavEnd::Write);
+        self.audio.set_end(OutputEnd::Write);
         self.report_end(file);
         AudioFile {
             blocks: self.blocks,
@@ -420,7 +420,7 @@ pub fn write_audio<R: Wait, F: WavFiles>(
             write_blocks(rt, writer, parts, files, file)
         }
         Err(_) => {
-            writer.audio.set_end(WavEnd::Write);
+            writer.audio.set_end(OutputEnd::Write);
             writer.report_end(file);
             AudioFile {
                 blocks: 0,

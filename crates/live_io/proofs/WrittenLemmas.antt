@@ -6,7 +6,7 @@ use Rattle.std.proofs.lemmas.List.{take-append-le}
 use Rattle.std.proofs.lemmas.List.Elements.{All-append, All-head, All-nil, All-tail}
 use Rattle.std.proofs.Math.Seq.{drop-append_seam, take-append-add, take-append_seam}
 use Rattle.rtrb.specs.Ring.{received}
-use Rattle.pcap_file.specs.RecordFile.{IsCut}
+use Rattle.live_io.specs.RecordFile.{IsCut}
 use Rattle.pcap_file.specs.WholeBlocks.{AreWhole, BeginsNone, IsBlock, datagram_count, holds_datagram, joined}
 use Rattle.pcap_file.specs.declared.record_blocks.WholeBlocks.{WholeBlocks}
 use Rattle.live_io.specs.RecordWriter.{FailsBehind, HasWritten, IsRecorded}

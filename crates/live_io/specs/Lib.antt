@@ -7,5 +7,6 @@ pub mod Names
 pub mod Ports
 pub mod ReceivePace
 pub mod RecordBlocks
+pub mod RecordFile
 pub mod RecordWriter
 pub mod Sharing

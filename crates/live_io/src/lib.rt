@@ -14,8 +14,9 @@
 //! 4. A `RecordChannel` has two ends of a ring. The thread of the run passes each datagram and each
 //!    change of gains to its `RecordObserver`, which pushes whole blocks and never waits.
 //!    `write_record`, in another thread, writes them to the file. If the file is too slow and the ring is
-//!    full, or a write fails, the record ends there, with a whole block. `RecordResult::state` returns
-//!    its state to other threads.
+//!    full, or a write fails, the record ends there, with a whole block. A `RecordFile` is where the
+//!    blocks go, and can be cut behind the last of them; `CreateRecord` creates one. Both ends set the
+//!    record's `OutputProgress`.
 #![tactic(auto)]
 
 mod clock;
@@ -26,9 +27,10 @@ mod tai;
 
 pub use clock::{RestClock, RunPeriod, SystemClock};
 pub use options::LiveOptions;
+pub use record::RecordChannel;
+pub use record::file::{CreateRecord, RecordFault, RecordFile};
 pub use record::observer::{DatagramOrigin, RecordObserver};
 pub use record::writer::{FileResult, RecordWriter, write_record};
-pub use record::{RecordChannel, RecordResult, RecordState};
 pub use sockets::addresses::{PathAddress, addresses_of};
 pub use sockets::backoff::FaultBackoff;
 pub use sockets::feed::{FeedFlags, UdpFeed, udp_feeds};

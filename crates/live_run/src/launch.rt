@@ -16,10 +16,11 @@ use crate::single_thread::{OpenRecord, RecordOutput, run_in_one_thread};
 use crate::status::{ServedPage, open_status};
 use crate::supervisor::stop_flags::StopFlags;
 use crate::workers::run_in_workers;
-use live_audio::{AudioChannel, AudioTap, AudioTaps, PcmChannel, PcmResult, PcmTap};
-use live_io::{LiveOptions, RecordChannel, RecordResult, RunPeriod, Sockets, open_sockets};
+use live_audio::{AudioChannel, AudioTap, AudioTaps, PcmChannel, PcmTap};
+use live_io::{
+    CreateRecord, LiveOptions, RecordChannel, RecordFile, RunPeriod, Sockets, open_sockets,
+};
 use live_status::{GainLink, Meter, OpenPage, RunGains, StatusInputs, StatusOutputs, open_page};
-use pcap_file::{CreateRecord, RecordFile};
 use rtrb::Producer;
 use status_page::{Snapshot, Token};
 use std::alloc::Global;
@@ -30,7 +31,7 @@ use std::sync::Wait;
 use std::thread::Threads;
 use std::time::Clock;
 use studio_config::StudioSpec;
-use studio_io::WorkReport;
+use studio_io::{OutputKind, RunProgress, WorkReport};
 use wav_file::{CreateLiveWav, CreatePcm, PcmOutput, WavFiles};
 
 mod side_tasks;
@@ -191,9 +192,9 @@ fn create_files<'a, P: CreateRecord + CreateLiveWav + CreatePcm>(
 ) -> Result<RunFiles<'a, P::File, P::Audio, P::Pcm>, LiveFault>
     ensures early { IfErr result IsEarly }
 {
-    let recording = recording_of(alloc, studio, is_controlled, inputs.recorded, record)?;
+    let recording = recording_of(alloc, studio, is_controlled, inputs.outputs, record)?;
     let (wav_tap, audio) = audio_of(alloc, studio, inputs, wav)?;
-    let (pcm_tap, piped) = pcm_of(alloc, studio, inputs.pcm, pcm)?;
+    let (pcm_tap, piped) = pcm_of(alloc, studio, inputs.outputs, pcm)?;
     Ok(RunFiles {
         recording,
         taps: AudioTaps {
@@ -254,9 +255,7 @@ fn run_open<
                 studio,
                 health: inputs.sockets.health,
                 unexpected: inputs.sockets.unexpected,
-                recorded: inputs.recorded,
-                audio: inputs.audio,
-                pcm: inputs.pcm,
+                outputs: inputs.outputs,
             },
             gains,
         },
@@ -275,8 +274,8 @@ fn run_open<
             ensures early { IfErr result IsEarly }
         { run_prepared(rt, alloc, studio, parts) },
     )?;
-    inputs.audio.set_sent(report.blocks);
-    inputs.pcm.set_sent(report.blocks);
+    inputs.outputs.of(OutputKind::Wav).set_given(report.blocks);
+    inputs.outputs.of(OutputKind::Pcm).set_given(report.blocks);
     Ok(report)
 }
 
@@ -293,15 +292,11 @@ fn audio_of<'a, P: CreateLiveWav>(
     let Some(wav) = wav else {
         return Ok((None, None));
     };
-    let AudioChannel { tap, writer } = AudioChannel::new(
-        alloc,
-        studio,
-        inputs.parts,
-        inputs.audio,
-    )?;
+    let progress = inputs.outputs.of(OutputKind::Wav);
+    let AudioChannel { tap, writer } = AudioChannel::new(alloc, studio, inputs.parts, progress)?;
     let mut files = wav.wav_files(alloc)?;
     let file = files.first()?;
-    inputs.audio.begin();
+    progress.set_writing();
     Ok((
         Some(tap),
         Some(OpenAudio {
@@ -317,7 +312,7 @@ fn audio_of<'a, P: CreateLiveWav>(
 fn pcm_of<'a, P: CreatePcm>(
     alloc: Global,
     studio: &StudioSpec,
-    pcm: &'a PcmResult,
+    outputs: &'a RunProgress,
     wanted: Option<&P>,
 ) -> Result<(Option<PcmTap<'a>>, Option<OpenPcm<'a, P::Pcm>>), LiveFault>
     ensures early { IfErr result IsEarly }
@@ -325,27 +320,29 @@ fn pcm_of<'a, P: CreatePcm>(
     let Some(wanted) = wanted else {
         return Ok((None, None));
     };
-    let PcmChannel { tap, writer } = PcmChannel::new(alloc, studio, pcm)?;
+    let progress = outputs.of(OutputKind::Pcm);
+    let PcmChannel { tap, writer } = PcmChannel::new(alloc, studio, progress)?;
     let output = wanted.create_pcm()?;
     let (mut writer, mut output) = (writer, output);
-    pcm.begin();
+    progress.set_waiting();
     // Before the run begins, so that an output that needs no reader, or has one, has the mix from its first block on.
     let _ = writer.open(&mut output);
     Ok((Some(tap), Some(OpenPcm { writer, output })))
 }
 
-/// Creates the record of a run, if one is wanted, with the place for its result. It has an interface for changes of
+/// Creates the record of a run, if one is wanted, and returns it with its progress. It has an interface for changes of
 /// gains if these can be changed. Takes its memory before it creates the file.
 fn recording_of<'a, P: CreateRecord>(
     alloc: Global,
     studio: &StudioSpec,
     is_controlled: bool,
-    recorded: &'a RecordResult,
+    outputs: &'a RunProgress,
     record: Option<&P>,
 ) -> Result<RecordOutput<'a, P::File>, LiveFault>
     ensures interface { IfOk result (λ output. HasGainsInterface is_controlled studio.now output.«record») }
     ensures early { IfErr result IsEarly }
 {
+    let recorded = outputs.of(OutputKind::Record);
     let Some(record) = record else {
         return Ok(RecordOutput {
             record: None,
@@ -354,7 +351,7 @@ fn recording_of<'a, P: CreateRecord>(
     };
     let channel = RecordChannel::new(alloc, studio, is_controlled, recorded)?;
     let file = record.create()?;
-    recorded.begin();
+    recorded.set_writing();
     Ok(RecordOutput {
         record: Some(OpenRecord { channel, file }),
         recorded,

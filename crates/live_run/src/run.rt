@@ -6,8 +6,7 @@ use crate::fault::LiveFault;
 use crate::inputs::LiveInputs;
 use crate::launch::launch_run;
 use crate::report::write_report;
-use live_io::LiveOptions;
-use pcap_file::CreateRecord;
+use live_io::{CreateRecord, LiveOptions};
 use status_page::Token;
 use std::alloc::Global;
 use std::io::Write;
@@ -32,12 +31,12 @@ use wav_file::{CreateLiveWav, CreatePcm};
 /// there is dropped.
 ///
 /// A run in one thread writes a record of the datagrams that it took to the file that `record` creates, if there is
-/// one, and sets the record's result. A run in either form writes the samples of the mix to the WAV file that `wav`
-/// creates, if there is one, and sets its result. The files are created once all sockets are bound. If a file is too
+/// one, and sets the record's progress. A run in either form writes the samples of the mix to the WAV file that `wav`
+/// creates, if there is one, and sets its progress. The files are created once all sockets are bound. If a file is too
 /// slow or a write to it fails, it ends with a whole block, and the run goes on.
 ///
 /// A run in either form also writes the samples of the mix as raw PCM to the output that `pcm` opens, if there is one,
-/// and sets its result. If its reader is slow, whole blocks are left out. If it goes away, the output ends, and the run
+/// and sets its progress. If its reader is slow, whole blocks are left out. If it goes away, the output ends, and the run
 /// goes on. With a token, `control`, requests to the page that have it change the gains while the run goes on.
 ///
 /// Returns `LiveFault::Unsettled` if the run was not settled; its report is written all the same. Every other error but

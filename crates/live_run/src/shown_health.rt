@@ -1,11 +1,11 @@
 //! The health of a run as its status shows it: of its sockets, its sends, its record, its WAV file and its raw PCM.
 
-use live_audio::{AudioResult, AudioState, PcmResult};
-use live_io::{RecordResult, RunHealth, UnexpectedSources};
+use live_io::{RunHealth, UnexpectedSources};
 use live_status::HealthSource;
 use rtp_stream::Path;
 use status_page::{PcmBlocks, PcmState, RecordState, SocketState, WavState};
 use studio_config::StudioSpec;
+use studio_io::{OutputCounts, OutputKind, OutputState, RunProgress};
 
 /// The health of a run as its status shows it. The threads of the run set the numbers, and any thread may read them.
 #[derive(Clone, Copy)]
@@ -13,9 +13,7 @@ pub(crate) struct ShownHealth<'a> {
     pub(crate) studio: &'a StudioSpec,
     pub(crate) health: &'a RunHealth,
     pub(crate) unexpected: &'a UnexpectedSources,
-    pub(crate) recorded: &'a RecordResult,
-    pub(crate) audio: &'a AudioResult,
-    pub(crate) pcm: &'a PcmResult,
+    pub(crate) outputs: &'a RunProgress,
 }
 
 impl ShownHealth<'_> {
@@ -68,31 +66,39 @@ impl HealthSource for ShownHealth<'_> {
     }
 
     fn record(&self) -> RecordState {
-        match self.recorded.state() {
-            live_io::RecordState::None => RecordState::Absent,
-            live_io::RecordState::Writing(datagrams) => RecordState::Writing(datagrams),
-            live_io::RecordState::Ended(datagrams, _end) => RecordState::Closed(datagrams),
+        match self.outputs.of(OutputKind::Record).state() {
+            OutputState::Absent => RecordState::Absent,
+            OutputState::Waiting(counts) | OutputState::Writing(counts) => RecordState::Writing(
+                counts.written,
+            ),
+            OutputState::Ended(counts, _) => RecordState::Closed(counts.written),
         }
     }
 
     fn wav(&self) -> WavState {
-        match self.audio.state() {
-            AudioState::None => WavState::Absent,
-            AudioState::Writing(blocks) => WavState::Writing(blocks),
-            AudioState::Ended(blocks, _end) => WavState::Closed(blocks),
+        match self.outputs.of(OutputKind::Wav).state() {
+            OutputState::Absent => WavState::Absent,
+            OutputState::Waiting(counts) | OutputState::Writing(counts) => WavState::Writing(
+                counts.written,
+            ),
+            OutputState::Ended(counts, _) => WavState::Closed(counts.written),
         }
     }
 
     fn pcm(&self) -> PcmState {
-        let blocks = PcmBlocks {
-            written: self.pcm.written(),
-            left_out: self.pcm.left_out(),
-        };
-        match self.pcm.state() {
-            live_audio::PcmState::None => PcmState::Absent,
-            live_audio::PcmState::Writing(..) if self.pcm.is_open() => PcmState::Writing(blocks),
-            live_audio::PcmState::Writing(..) => PcmState::Waiting(blocks),
-            live_audio::PcmState::Ended(..) => PcmState::Closed(blocks),
+        match self.outputs.of(OutputKind::Pcm).state() {
+            OutputState::Absent => PcmState::Absent,
+            OutputState::Waiting(counts) => PcmState::Waiting(blocks_of(counts)),
+            OutputState::Writing(counts) => PcmState::Writing(blocks_of(counts)),
+            OutputState::Ended(counts, _) => PcmState::Closed(blocks_of(counts)),
         }
+    }
+}
+
+/// Returns the numbers of blocks in the counts of the raw PCM.
+fn blocks_of(counts: OutputCounts) -> PcmBlocks {
+    PcmBlocks {
+        written: counts.written,
+        left_out: counts.left_out,
     }
 }

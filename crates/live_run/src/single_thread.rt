@@ -14,10 +14,9 @@ use crate::single_thread::socket_wait::ready_flags;
 use crate::supervisor::stop_flags::StopFlags;
 use crate::supervisor::{Supervisor, run_supervised};
 use live_io::{
-    FeedFlags, Receiver, RecordChannel, RecordObserver, RecordResult, RecordWriter, Sockets,
+    FeedFlags, Receiver, RecordChannel, RecordFile, RecordObserver, RecordWriter, Sockets,
     write_record,
 };
-use pcap_file::RecordFile;
 use std::alloc::Global;
 use std::io::Write;
 use std::sync::Wait;
@@ -25,7 +24,7 @@ use std::sync::atomic::AtomicBool;
 use std::thread::Threads;
 use std::time::Clock;
 use studio_config::StudioSpec;
-use studio_io::WorkReport;
+use studio_io::{OutputProgress, WorkReport};
 
 mod engine_io;
 mod observer;
@@ -38,13 +37,13 @@ pub(crate) struct OpenRecord<'a, D> {
     pub(crate) file: D,
 }
 
-/// The record of a run, if there is one, and the place for its result.
+/// The record of a run, if there is one, and its progress.
 #[derive(Drop)]
 pub(crate) struct RecordOutput<'a, D> {
     /// The record, if there is one.
     pub(crate) record: Option<OpenRecord<'a, D>>,
-    /// The result, which the run sets.
-    pub(crate) recorded: &'a RecordResult,
+    /// The progress, which the run sets.
+    pub(crate) recorded: &'a OutputProgress,
 }
 
 /// Runs a studio in this thread, the supervisor in another, and the writer of the record in a third, if there is a
@@ -105,7 +104,7 @@ fn prepare_run<'a, R: Wait + Clock, E: Write + Drop>(
     context: RunContext<'a, R, E>,
     ready: &'a [AtomicBool],
     record: Option<RecordObserver<'a>>,
-    recorded: &'a RecordResult,
+    recorded: &'a OutputProgress,
 ) -> Result<SupervisedRun<'a, R, E>, LiveFault>
     ensures gains { IfOk result (λ run. is_some run.io.gains ≡ is_some context.entry.gains) }
     ensures early { IfErr result IsEarly }
@@ -159,7 +158,7 @@ impl<R: Wait, D: RecordFile + Drop> SideTask<R> for RecordTask<'_, D> {
     fn complete(self, rt: &R) {
         let RecordTask { writer, file } = self;
         let (mut writer, mut file) = (writer, file);
-        // The writer itself sets the record's result.
+        // The writer itself sets the record's progress.
         let _written = write_record(rt, &mut writer, &mut file);
     }
 }
@@ -185,7 +184,7 @@ struct SupervisedRun<'a, R: Wait + Clock, E> {
     watch: PathWatch<'a>,
     until_eof: bool,
     flags: &'a StopFlags,
-    recorded: &'a RecordResult,
+    recorded: &'a OutputProgress,
 }
 
 impl<R: Threads + Wait + Sync + Clock, E: Write + Send + Drop> SupervisedRun<'_, R, E> {

@@ -24,4 +24,3 @@ pub mod RecordedStream
 pub mod Times
 pub mod WrittenRecord
 pub mod WholeBlocks
-pub mod RecordFile

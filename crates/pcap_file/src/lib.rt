@@ -18,8 +18,7 @@
 //!   a packet on it; `read_change` reads its payload. Each writes one block to the front of the caller's
 //!   slice, which has `MAX_BLOCK_LEN` octets, and returns its length. Times are in nanoseconds since the
 //!   opening (`nanoseconds_after`).
-//!   `whole_blocks` finds how much of what was written so far ends with a whole block. A `RecordFile` is
-//!   where the blocks go, and can be cut behind the last of them; `CreateRecord` creates one.
+//!   `whole_blocks` finds how much of what was written so far ends with a whole block.
 //!
 //! Only `open_reader` allocates. What a file holds is defined as `packets_of` and, with the marks of
 //! a record, `entries_of`, by draft-ietf-opsawg-pcap, draft-ietf-opsawg-pcapng and tcpdump's registry
@@ -36,7 +35,6 @@ mod fault;
 mod laws;
 mod reader;
 mod record_blocks;
-mod record_file;
 
 pub use block_parser::{BlockParser, CaptureBlock};
 pub use capture::open;
@@ -62,4 +60,3 @@ pub use laws::{
 pub use reader::buffer::ReadBuffer;
 pub use reader::{cut_fault, has_block, has_whole_block, interface_texts, next_block, open_reader};
 pub use record_blocks::{WholeBlocks, whole_blocks};
-pub use record_file::{CreateRecord, RecordEnd, RecordFault, RecordFile};

@@ -2,6 +2,7 @@
 use Rattle.std.specs.Prelude.{ℕ, List, Bool, true, false, Option, Some, None, codes, slice_index_or, slice_set}
 use Rattle.studio_io.specs.declared.output_kind.OutputKind.{OutputKind}
 use Rattle.studio_io.specs.declared.output_kind.OutputKind.TheVariants as Kind
+use Rattle.studio_io.specs.declared.output_state.OutputCounts.{OutputCounts}
 use Rattle.studio_io.specs.declared.output_state.OutputEnd.{OutputEnd}
 use Rattle.studio_io.specs.declared.output_state.OutputEnd.TheVariants as End
 use Rattle.studio_io.specs.declared.output_state.OutputState.{OutputState}
@@ -38,6 +39,13 @@ state_name Absent = codes "none"
 state_name (Waiting counts) = codes "waiting"
 state_name (Writing counts) = codes "writing"
 state_name (Ended counts end) = codes "ended"
+
+-- the counts, if there is the output
+abbrev pub counts_in : OutputState → Option OutputCounts
+counts_in Absent = None
+counts_in (Waiting counts) = Some counts
+counts_in (Writing counts) = Some counts
+counts_in (Ended counts end) = Some counts
 
 -- the number of units that were written, if there is the output
 abbrev pub written_units : OutputState → Option ℕ

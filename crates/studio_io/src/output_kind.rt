@@ -2,6 +2,9 @@
 ghost use Rattle.std.specs.Prelude.{◌≡◌, ◌<◌, ◌≤◌, length};
 ghost use Rattle.studio_io.specs.Outputs.{has_reader, output_index, output_key, output_unit};
 
+use std::fmt;
+use std::fmt::{Display, Formatter};
+
 /// A kind of output of a run. A run has at most one output of each kind.
 #[derive(Clone, Copy, Debug, PartialEq, Eq)]
 pub enum OutputKind {
@@ -61,5 +64,12 @@ impl OutputKind {
             OutputKind::Record | OutputKind::Wav => false,
             OutputKind::Pcm => true,
         }
+    }
+}
+
+impl Display for OutputKind {
+    /// Writes the output's name.
+    fn fmt<W: fmt::Write>(&self, f: &mut Formatter<W>) -> fmt::Result {
+        Display::fmt(self.key(), f)
     }
 }

@@ -1,6 +1,6 @@
 //! The state of an output of a run, with its counts and the reason of its end.
 ghost use Rattle.std.specs.Prelude.{◌≡◌, ◌≤◌, length};
-ghost use Rattle.studio_io.specs.Outputs.{left_out_units, state_name, written_units};
+ghost use Rattle.studio_io.specs.Outputs.{counts_in, left_out_units, state_name, written_units};
 
 use thiserror::Error;
 
@@ -56,6 +56,18 @@ impl OutputState {
             OutputState::Waiting(_) => "waiting",
             OutputState::Writing(_) => "writing",
             OutputState::Ended(..) => "ended",
+        }
+    }
+
+    /// Returns the counts, or `None` without the output.
+    pub fn counts(self) -> Option<OutputCounts>
+        ensures { result ≡ counts_in self }
+    {
+        match self {
+            OutputState::Absent => None,
+            OutputState::Waiting(counts)
+            | OutputState::Writing(counts)
+            | OutputState::Ended(counts, _) => Some(counts),
         }
     }
 

@@ -3,12 +3,11 @@ use crate::explanation::Explanation;
 use file_commands::{CommandFault, ConfigFault};
 use live_io::InheritedSocketFault;
 use live_run::LiveFault;
-use pcap_file::RecordEnd;
 use std::alloc::{AllocError, AllocFailed};
 use std::io::Write;
 use studio_config::{SpecError, SpecErrorKind};
+use studio_io::{OutputEnd, OutputKind};
 use thiserror::Error;
-use wav_file::{PcmEnd, WavEnd};
 
 /// The hint at a fault of a configuration.
 const CONFIG_HINT: &str = "`darbexum check CONFIG` says where this is and what is allowed.";
@@ -48,9 +47,9 @@ pub(crate) enum ProgramFault {
     /// Sockets that the program inherited are refused, or an allocation for them failed.
     #[error("{0}")]
     Inherited(#[from] InheritedSocketFault),
-    /// A live run's report was written, but its record ended before the run, for this reason.
-    #[error("device: record {0}")]
-    RecordEnded(RecordEnd),
+    /// A live run's report was written, but the output of this kind ended before the run, for this reason.
+    #[error("device: {0} {1}")]
+    OutputEnded(OutputKind, OutputEnd),
     /// The file of `--control` cannot be read, others than its owner may read or write it, or it has no token.
     #[error("device: control")]
     Control,
@@ -60,12 +59,6 @@ pub(crate) enum ProgramFault {
     /// Two of the files of a live run, named by their options, are one file.
     #[error("usage: {0} are one file")]
     SameFile(&'static str),
-    /// A live run's report was written, but its WAV file ended before the run, for this reason.
-    #[error("device: wav {0}")]
-    WavEnded(WavEnd),
-    /// A live run's report was written, but its raw PCM ended before the run, for this reason.
-    #[error("device: pcm {0}")]
-    PcmEnded(PcmEnd),
     /// A live run's report was written, but a path ended before the run did, since its socket failed again and again.
     #[error("live: path ended")]
     PathEnded,
@@ -84,8 +77,7 @@ impl ProgramFault {
             ProgramFault::Control | ProgramFault::ControlExplained(_) => 5,
             ProgramFault::Clock | ProgramFault::ClockExplained(_) => 5,
             ProgramFault::Inherited(_) | ProgramFault::PathEnded => 5,
-            ProgramFault::RecordEnded(_) | ProgramFault::WavEnded(_) | ProgramFault::PcmEnded(_) =>
-                5,
+            ProgramFault::OutputEnded(_, _) => 5,
         }
     }
 

@@ -6,10 +6,10 @@ use crate::run_files::{RunFiles, files_of};
 use crate::token_file::token_of;
 use command_line::LiveArgs;
 use file_commands::{CommandFault, output_result, parse_studio, table_in};
-use live_audio::{AudioParts, AudioResult, PcmResult};
+use live_audio::AudioParts;
 use live_io::{
-    InheritedSockets, LivePorts, RecordResult, RunHealth, SocketConfig, TaiOffset, TaiTime,
-    UnexpectedSources, tai_now, unopened_socket,
+    InheritedSockets, LivePorts, RunHealth, SocketConfig, TaiOffset, TaiTime, UnexpectedSources,
+    tai_now, unopened_socket,
 };
 use live_run::{LiveFault, LiveInputs, StreamName, Token, run_studio_live};
 use rtp_stream::Path;
@@ -22,8 +22,8 @@ use std::sync::Wait;
 use std::thread::Threads;
 use std::time::{Clock, Duration};
 use studio_config::StudioSpec;
+use studio_io::{OUTPUT_KINDS, OutputEnd, OutputKind, OutputState, RunProgress};
 use toml::Value;
-use wav_file::PcmEnd;
 
 /// The number of sampling instants in a minute.
 const MINUTE_INSTANTS: u64 = 2_880_000;
@@ -116,9 +116,7 @@ fn run_loaded<
     output: &mut W,
     faults: &mut H::Stderr,
 ) -> Result<(), ProgramFault> {
-    let recorded = RecordResult::new();
-    let audio = AudioResult::new();
-    let pcm = PcmResult::new();
+    let outputs = RunProgress::new();
     let inputs = LiveInputs {
         sockets: SocketConfig {
             ports: &loaded.ports,
@@ -128,10 +126,8 @@ fn run_loaded<
             shares_groups: args.share_groups,
         },
         names: loaded.names.as_slice(),
-        recorded: &recorded,
-        audio: &audio,
+        outputs: &outputs,
         parts,
-        pcm: &pcm,
         began: opened.began,
     };
     let studio = &opened.studio;
@@ -227,15 +223,8 @@ fn finish<W: Write>(
         write_after_report(studio, inputs, args, output)?;
     }
     ran?;
-    if let Some(end) = inputs.recorded.end() {
-        return Err(ProgramFault::RecordEnded(end));
-    }
-    if let Some(end) = inputs.audio.end() {
-        return Err(ProgramFault::WavEnded(end));
-    }
-    // A reader that went away is no fault of the run: its line on standard error said so.
-    if let Some(PcmEnd::Write) = inputs.pcm.end() {
-        return Err(ProgramFault::PcmEnded(PcmEnd::Write));
+    if let Some((kind, end)) = first_fault(inputs.outputs) {
+        return Err(ProgramFault::OutputEnded(kind, end));
     }
     if inputs.sockets.health.has_ended_path() {
         return Err(ProgramFault::PathEnded);
@@ -243,9 +232,20 @@ fn finish<W: Write>(
     Ok(())
 }
 
+/// Returns the first output that ended before its run by a fault, with the reason.
+fn first_fault(outputs: &RunProgress) -> Option<(OutputKind, OutputEnd)> {
+    for kind in OUTPUT_KINDS {
+        match outputs.of(kind).end() {
+            // A reader that went away is no fault of the run: its line on standard error said so.
+            None | Some(OutputEnd::Closed) => {}
+            Some(end) => return Some((kind, end)),
+        }
+    }
+    None
+}
+
 /// Writes the lines after the report: the opening time, if the run opened by International Atomic Time, the datagrams
-/// from unexpected sources, the datagrams of the record, the blocks of the WAV file and of the raw PCM, each if
-/// there is one.
+/// from unexpected sources, and the units of each output that the run had.
 fn write_after_report<W: Write>(
     studio: &StudioSpec,
     inputs: LiveInputs<'_>,
@@ -257,39 +257,24 @@ fn write_after_report<W: Write>(
         output_result(writeln!(output, "open_at {open_at}"))?;
     }
     write_unexpected(studio, inputs.sockets.unexpected, output)?;
-    if args.record.is_some() {
-        write_record_line(inputs.recorded, output)?;
-    }
-    if args.wav.is_some() {
-        write_wav_line(inputs.audio, output)?;
-    }
-    if args.pcm.is_some() {
-        write_pcm_line(inputs.pcm, output)?;
+    for kind in OUTPUT_KINDS {
+        write_output_line(kind, inputs.outputs.of(kind).state(), output)?;
     }
     Ok(())
 }
 
-/// Writes the number of datagrams in the record, and of those that were received.
-fn write_record_line<W: Write>(
-    recorded: &RecordResult,
+/// Writes the number of units of an output that were written, and of those that the run gave to it. Writes nothing if
+/// the run did not have the output.
+fn write_output_line<W: Write>(
+    kind: OutputKind,
+    state: OutputState,
     output: &mut W,
 ) -> Result<(), ProgramFault> {
-    let (written, received) = (recorded.written(), recorded.received());
-    output_result(writeln!(output, "record {written} of {received}"))?;
-    Ok(())
-}
-
-/// Writes the number of blocks in the WAV file, and of those that were sent.
-fn write_wav_line<W: Write>(audio: &AudioResult, output: &mut W) -> Result<(), ProgramFault> {
-    let (written, sent) = (audio.written(), audio.sent());
-    output_result(writeln!(output, "wav {written} of {sent}"))?;
-    Ok(())
-}
-
-/// Writes the number of blocks that were written as raw PCM, and of those that were sent.
-fn write_pcm_line<W: Write>(pcm: &PcmResult, output: &mut W) -> Result<(), ProgramFault> {
-    let (written, sent) = (pcm.written(), pcm.sent());
-    output_result(writeln!(output, "pcm {written} of {sent}"))?;
+    let Some(counts) = state.counts() else {
+        return Ok(());
+    };
+    let (written, given) = (counts.written, counts.given);
+    output_result(writeln!(output, "{kind} {written} of {given}"))?;
     Ok(())
 }
 

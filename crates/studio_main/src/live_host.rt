@@ -1,11 +1,11 @@
 //! The host of a live run: the host of the commands, and the files that a run creates.
 ghost use Rattle.std.specs.Prelude.{IfOk, []};
-ghost use Rattle.pcap_file.specs.RecordFile.{Holds};
+ghost use Rattle.live_io.specs.RecordFile.{Holds};
 
 use crate::explanation::SystemErrors;
 use crate::token_file::TokenFiles;
 use file_commands::Host;
-use pcap_file::{RecordFault, RecordFile};
+use live_io::{RecordFault, RecordFile};
 use std::alloc::{AllocError, Global};
 use wav_file::{PcmFault, PcmOutput, WavFiles};
 

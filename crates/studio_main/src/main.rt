@@ -6,6 +6,7 @@
 //! `LiveHost`. A `ProgramFault` has the line and the exit status of every fault, and `explanation` what
 //! `--verbose` adds to it. `SystemHost` opens files by path, `pcm_output` the output of raw PCM, and
 //! `token_file` reads the token for the control of gains. `wav_files` has the WAV files of a live run.
+//! `output_end` writes the line of an output that ends before its run.
 //! `std_fds` opens the standard descriptors that are closed, before anything else. `terminal_help` has
 //! the help for a start by hand: without words, and behind a fault.
 #![tactic(auto)]
@@ -14,6 +15,7 @@ mod explanation;
 mod fault;
 mod live_command;
 mod live_host;
+mod output_end;
 mod pcm_output;
 mod program;
 mod run_files;
@@ -25,13 +27,14 @@ mod wav_files;
 use crate::explanation::SystemErrors;
 use crate::fault::ProgramFault;
 use crate::live_host::LiveHost;
+use crate::output_end::report_output_end;
 use crate::pcm_output::SystemPcm;
 use crate::program::run;
 use crate::std_fds::open_missing_fds;
 use crate::token_file::{TokenFiles, open_private};
 use crate::wav_files::SystemWavFiles;
 use file_commands::{CommandFault, Host};
-use pcap_file::{RecordEnd, RecordFault, RecordFile};
+use live_io::{RecordFault, RecordFile};
 use std::alloc::{AllocError, Global};
 use std::env::Args;
 use std::io::{ErrorKind, Seek, SeekFrom, Stderr, Stdin, Stdout, Write};
@@ -40,6 +43,7 @@ use std::process::ExitCode;
 use std::rt::Env;
 use std::sync::atomic::{AtomicI32, Ordering};
 use std::{env, fs, io};
+use studio_io::{OutputEnd, OutputKind};
 use studio_run::{ReadFault, read_octets};
 use wav_file::{FileFault, PcmFault, SeekFile};
 
@@ -198,12 +202,8 @@ impl RecordFile for SystemRecord {
         Ok(())
     }
 
-    fn report(&mut self, end: RecordEnd, datagrams: u64) {
-        // A line that cannot be written is lost, as a fault's line is.
-        let _ = writeln!(
-            self.faults,
-            "device: record {end}, after {datagrams} datagrams"
-        );
+    fn report(&mut self, end: OutputEnd, datagrams: u64) {
+        report_output_end(&mut self.faults, OutputKind::Record, end, datagrams);
     }
 }
 

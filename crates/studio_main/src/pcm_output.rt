@@ -1,5 +1,6 @@
 //! The output of a live run's raw PCM: standard output, a FIFO or a file.
 
+use crate::output_end::report_output_end;
 use libc::net::{POLLERR, POLLOUT};
 use libc::types::pollfd;
 use std::fs::OpenOptions;
@@ -7,7 +8,8 @@ use std::io::{ErrorKind, Stderr, Write};
 use std::os::fd::AsRawFd;
 use std::os::unix::fs::FileTypeExt;
 use std::{fs, io};
-use wav_file::{PcmEnd, PcmOutput, PcmRoom};
+use studio_io::{OutputEnd, OutputKind};
+use wav_file::{PcmOutput, PcmRoom};
 
 /// The descriptor of standard output.
 const STDOUT: i32 = 1;
@@ -103,9 +105,8 @@ impl PcmOutput for SystemPcm {
         }
     }
 
-    fn report(&mut self, end: PcmEnd, blocks: u64) {
-        // A line that cannot be written is lost, as a fault's line is.
-        let _ = writeln!(self.faults, "device: pcm {end}, after {blocks} blocks");
+    fn report(&mut self, end: OutputEnd, blocks: u64) {
+        report_output_end(&mut self.faults, OutputKind::Pcm, end, blocks);
     }
 }
 

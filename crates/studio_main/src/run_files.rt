@@ -4,8 +4,8 @@ use crate::live_host::LiveHost;
 use crate::wav_files::part_path;
 use command_line::LiveArgs;
 use file_commands::{Host, is_one_file};
+use live_io::{CreateRecord, RecordFault};
 use live_run::LiveFault;
-use pcap_file::{CreateRecord, RecordFault};
 use std::alloc::{AllocError, Global};
 use wav_file::{CreateLiveWav, CreatePcm, PcmFault};
 

@@ -2,10 +2,12 @@
 ghost use Rattle.std.specs.Prelude.{None};
 
 use crate::SystemHost;
+use crate::output_end::report_output_end;
 use std::alloc::{AllocError, Global};
 use std::io::{ErrorKind, Seek, SeekFrom, Stderr, Write};
 use std::{fs, io, str};
-use wav_file::{LiveWavFault, LiveWavFile, WavEnd, WavFiles, time_stamp};
+use studio_io::{OutputEnd, OutputKind};
+use wav_file::{LiveWavFault, LiveWavFile, WavFiles, time_stamp};
 
 /// Returns the path of the file whose first sample is of this time, in sampling instants since 1970 in UTC: for
 /// `night.wav` or `night` as `night-20261128T174501Z.wav`. Returns `AllocError` if an allocation fails.
@@ -124,8 +126,7 @@ impl LiveWavFile for SystemAudio {
         Ok(())
     }
 
-    fn report(&mut self, end: WavEnd, blocks: u64) {
-        // A line that cannot be written is lost, as a fault's line is.
-        let _ = writeln!(self.faults, "device: wav {end}, after {blocks} blocks");
+    fn report(&mut self, end: OutputEnd, blocks: u64) {
+        report_output_end(&mut self.faults, OutputKind::Wav, end, blocks);
     }
 }

@@ -6,20 +6,9 @@ ghost use Rattle.wav_file.specs.LiveFile.{Closes, IsCut};
 use std::alloc::{AllocError, Global};
 use std::io;
 use std::io::Write;
-use thiserror::Error;
+use studio_io::OutputEnd;
 
-/// Why a live run's WAV file ends before the run.
-#[derive(Clone, Copy, Debug, PartialEq, Eq, Error)]
-pub enum WavEnd {
-    /// A write failed.
-    #[error("write")]
-    Write,
-    /// The file was so slow that what waits for it filled its room in memory.
-    #[error("too slow")]
-    Slow,
-}
-
-/// Why a live run has no WAV file.
+/// The error of a live run's WAV file that cannot be created.
 #[derive(Clone, Copy, PartialEq, Eq)]
 pub enum LiveWavFault {
     /// There is a file at its path, or something else.
@@ -52,7 +41,7 @@ pub trait LiveWavFile: Write {
 
     /// Reports that the file ends before its run, behind this many blocks. Called once at most, when the file is
     /// finished.
-    fn report(&mut self, end: WavEnd, blocks: u64)
+    fn report(&mut self, end: OutputEnd, blocks: u64)
         ensures { Self.contents self.new ≡ Self.contents self.old };
 }
 

@@ -2,20 +2,9 @@
 ghost use Rattle.std.specs.Prelude.{◌≡◌};
 
 use std::io::Write;
-use thiserror::Error;
+use studio_io::OutputEnd;
 
-/// Why a live run's raw PCM ends before the run.
-#[derive(Clone, Copy, Debug, PartialEq, Eq, Error)]
-pub enum PcmEnd {
-    /// Nobody reads the pipe any more.
-    #[error("closed")]
-    Closed,
-    /// A write failed.
-    #[error("write")]
-    Write,
-}
-
-/// Why a live run has no output of raw PCM.
+/// The error of a live run's raw PCM whose output cannot be opened.
 #[derive(Clone, Copy, PartialEq, Eq)]
 pub enum PcmFault {
     /// There is something at its path that is no FIFO.
@@ -45,7 +34,7 @@ pub trait PcmOutput: Write {
         ensures { Self.contents self.new ≡ Self.contents self.old };
 
     /// Reports that the output ends before its run, behind this many whole blocks. Called once at most.
-    fn report(&mut self, end: PcmEnd, blocks: u64)
+    fn report(&mut self, end: OutputEnd, blocks: u64)
         ensures { Self.contents self.new ≡ Self.contents self.old };
 }
 

@@ -24,17 +24,17 @@ ghost use Rattle.live_io.specs.RecordBlocks.{
   stream_blocks,
 };
 
-use crate::record::RecordResult;
 use crate::record::block_producer::BlockProducer;
 use pcap_file::{
-    MAX_DATAGRAM_LEN, MAX_RECORDED_GAINS, RecordEnd, RecordedChange, RecordedDatagram,
-    RecordedStream, nanoseconds_after,
+    MAX_DATAGRAM_LEN, MAX_RECORDED_GAINS, RecordedChange, RecordedDatagram, RecordedStream,
+    nanoseconds_after,
 };
 use rtp_stream::StreamSpec;
 use rtp_wire::Enc;
 use rtrb::Producer;
 use std::net::SocketAddrV4;
 use studio_config::StudioSpec;
+use studio_io::{OutputEnd, OutputProgress};
 
 /// The letter of a stream's first path.
 const FIRST_LETTER: u8 = b'a';
@@ -55,8 +55,8 @@ pub struct DatagramOrigin {
 #[derive(Drop)]
 pub struct RecordObserver<'a> {
     end: BlockProducer,
-    /// The result of the record, in which the reason of its end is set.
-    recorded: &'a RecordResult,
+    /// The progress of the record, in which the reason of its end is set.
+    recorded: &'a OutputProgress,
     /// The studio's opening time, in sampling instants.
     open_at: i64,
     /// The number of the interface for changes of gains, if the gains of the run can be changed.
@@ -79,7 +79,7 @@ impl<'r> RecordObserver<'r> {
         ring: Producer<u8>,
         studio: &StudioSpec,
         is_controlled: bool,
-        recorded: &'r RecordResult,
+        recorded: &'r OutputProgress,
     ) -> RecordObserver<'r>
         requires fresh { sent ring ≡ [] }
         ensures opens { Opens is_controlled studio.now result.end }
@@ -120,7 +120,7 @@ impl<'r> RecordObserver<'r> {
             }
             None => {
                 self.end.ended = true;
-                self.recorded.set_end(RecordEnd::Unfit);
+                self.recorded.set_end(OutputEnd::Unfit);
             }
         }
     }
@@ -144,7 +144,7 @@ impl<'r> RecordObserver<'r> {
             }
             None => {
                 self.end.ended = true;
-                self.recorded.set_end(RecordEnd::Unfit);
+                self.recorded.set_end(OutputEnd::Unfit);
             }
         }
     }
@@ -162,7 +162,7 @@ impl<'r> RecordObserver<'r> {
             }
             None => {
                 self.end.ended = true;
-                self.recorded.set_end(RecordEnd::Unfit);
+                self.recorded.set_end(OutputEnd::Unfit);
             }
         }
     }
@@ -170,7 +170,7 @@ impl<'r> RecordObserver<'r> {
     /// Sets the record's end if the ring had no room for a block.
     fn report_if_slow(&self) {
         if self.end.ended {
-            self.recorded.set_end(RecordEnd::Slow);
+            self.recorded.set_end(OutputEnd::Slow);
         }
     }
 

@@ -3,17 +3,18 @@ ghost use Rattle.std.specs.Prelude.{◌≡◌, ◌+◌, ◌^◌, ◌≤◌, ◌<
 ghost use Rattle.std.specs.Prelude.{true, IfSome, IfOk, IfErr, OnOk};
 ghost use Rattle.std.specs.Io.KnownBytes.{Appends};
 ghost use Rattle.rtrb.specs.Ring.{received};
-ghost use Rattle.pcap_file.specs.RecordFile.{IsCut};
+ghost use Rattle.live_io.specs.RecordFile.{IsCut};
 ghost use Rattle.live_io.specs.RecordWriter.{FailsBehind, HasWritten, IsRecorded, SeesNone};
 
-use crate::record::RecordResult;
-use pcap_file::{RecordEnd, RecordFile, WholeBlocks, whole_blocks};
+use crate::record::file::RecordFile;
+use pcap_file::{WholeBlocks, whole_blocks};
 use rtrb::Consumer;
 use std::alloc::{AllocError, Global};
 use std::io::{ErrorKind, Write};
 use std::sync::Wait;
 use std::thread::Parker;
 use std::time::Duration;
+use studio_io::{OutputEnd, OutputProgress};
 
 /// The number of octets that are taken from the ring at once, at most.
 // More than the longest block has, so a block always becomes whole.
@@ -57,8 +58,8 @@ pub struct RecordWriter<'a> {
     datagrams: u64,
     /// The number of paths, whose interfaces are the first. A packet on another one is a change of gains.
     paths: u32,
-    /// The result of the record, in which the number of datagrams so far is set.
-    recorded: &'a RecordResult,
+    /// The progress of the record, in which the number of datagrams so far is set.
+    recorded: &'a OutputProgress,
 }
 
 impl<'a> RecordWriter<'a> {
@@ -68,7 +69,7 @@ impl<'a> RecordWriter<'a> {
         alloc: Global,
         ring: Consumer<u8>,
         paths: u32,
-        recorded: &'a RecordResult,
+        recorded: &'a OutputProgress,
     ) -> Result<RecordWriter<'a>, AllocError>
         ensures fresh { IfOk result (λ writer. received ring ≡ [] → HasWritten (Some []) writer) }
         ensures paths { IfOk result (λ writer. writer.paths ≡ paths) }
@@ -228,7 +229,7 @@ pub fn write_record<R: Wait, D: RecordFile>(
             Ok(_) => recorded.set_written(writer.datagrams),
             Err(ended) => {
                 recorded.set_written(ended.datagrams);
-                recorded.set_end(RecordEnd::Write);
+                recorded.set_end(OutputEnd::Write);
                 report_end(recorded, reported, ended.datagrams, file);
                 return ended;
             }
@@ -239,7 +240,7 @@ pub fn write_record<R: Wait, D: RecordFile>(
 
 /// Reports the record's end to its file, if it ended and that was not reported. Returns true if it is reported now.
 fn report_end<D: RecordFile>(
-    recorded: &RecordResult,
+    recorded: &OutputProgress,
     reported: bool,
     datagrams: u64,
     file: &mut D,

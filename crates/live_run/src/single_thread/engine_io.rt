@@ -7,16 +7,14 @@ use crate::single_thread::observer::LiveObserver;
 use crate::single_thread::socket_wait::SocketWait;
 use engine_run::run_engine;
 use live_audio::{AudioTaps, TappedSink};
-use live_io::{
-    FeedFlags, RecordResult, RunPeriod, Sockets, SystemClock, UdpFeed, UdpSink, udp_feeds,
-};
+use live_io::{FeedFlags, RunPeriod, Sockets, SystemClock, UdpFeed, UdpSink, udp_feeds};
 use live_status::{Meter, RunGains};
 use std::alloc::Global;
 use std::io::Write;
 use std::sync::Wait;
 use std::time::Clock;
 use studio_config::StudioSpec;
-use studio_io::{GainSource, NoGains, SendAnswer, Sink, WorkReport};
+use studio_io::{GainSource, NoGains, OutputProgress, SendAnswer, Sink, WorkReport};
 
 /// The feeds, the clock, the sink and the wait of a run in one thread, and its source of gains.
 #[derive(Drop)]
@@ -99,7 +97,7 @@ impl<R: Wait + Clock> SingleThreadRun<'_, R> {
         alloc: Global,
         studio: &StudioSpec,
         observer: LiveObserver<'_, E>,
-        recorded: &RecordResult,
+        recorded: &OutputProgress,
     ) -> Result<WorkReport, LiveFault>
         ensures run { IfOk result (IsRunOf true (is_some self.entry.gains) studio.now) }
         ensures early { IfErr result IsEarly }
@@ -121,7 +119,7 @@ impl<R: Wait + Clock> EngineDevices<'_, R> {
         alloc: Global,
         studio: &StudioSpec,
         observer: LiveObserver<'_, E>,
-        recorded: &RecordResult,
+        recorded: &OutputProgress,
         gains: G,
     ) -> Result<WorkReport, LiveFault>
         ensures run { IfOk result (λ report. (after : G)
@@ -137,7 +135,7 @@ impl<R: Wait + Clock> EngineDevices<'_, R> {
         let (report, _sink, observer, _gains) = run_engine(
             rt, alloc, studio, feeds, clock, sink, observer, wait, gains,
         )?;
-        recorded.set_received(observer.received());
+        recorded.set_given(observer.received());
         Ok(report)
     }
 }

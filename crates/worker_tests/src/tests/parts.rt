@@ -3,13 +3,14 @@
 ghost use Rattle.std.specs.Prelude.{◌≤◌, length, None};
 
 use super::workers::one_stream;
-use live_audio::{AudioChannel, AudioFile, AudioParts, AudioResult, AudioTap, write_audio};
+use live_audio::{AudioChannel, AudioFile, AudioParts, AudioTap, write_audio};
 use std::alloc::Global;
 use std::io;
 use std::io::{ErrorKind, Write};
 use std::process::Abort;
 use std::sync::Wait;
-use wav_file::{LiveWavFault, LiveWavFile, WavEnd, WavFiles};
+use studio_io::{OutputEnd, OutputProgress};
+use wav_file::{LiveWavFault, LiveWavFile, WavFiles};
 
 /// The time 2026-11-28T01:01:01Z, in sampling instants since 1970: 20,785 days and 3,661 seconds.
 const AT: u64 = 20_785 * 4_147_200_000 + 3_661 * 48_000;
@@ -59,7 +60,7 @@ impl LiveWavFile for MemoryFile {
         Ok(())
     }
 
-    fn report(&mut self, _end: WavEnd, _blocks: u64) {}
+    fn report(&mut self, _end: OutputEnd, _blocks: u64) {}
 }
 
 /// Files in memory. No more are created than `most`.
@@ -164,7 +165,7 @@ fn written<R: Abort + Wait>(
     most: usize,
 ) -> (AudioFile, MemoryFiles, MemoryFile) {
     let studio = one_stream(alloc).expect(rt, "a studio");
-    let audio = AudioResult::new();
+    let audio = OutputProgress::new();
     let parts = AudioParts {
         at: AT,
         instants: 20,

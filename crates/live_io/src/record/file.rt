@@ -1,26 +1,12 @@
 //! The file of a record: its creation, and the cut of its end.
 ghost use Rattle.std.specs.Prelude.{◌≡◌, IfOk, [], OnOk};
-ghost use Rattle.pcap_file.specs.RecordFile.{Holds, IsCut};
+ghost use Rattle.live_io.specs.RecordFile.{Holds, IsCut};
 
 use std::io;
 use std::io::Write;
-use thiserror::Error;
+use studio_io::OutputEnd;
 
-/// Why a record ends before its run.
-#[derive(Clone, Copy, Debug, PartialEq, Eq, Error)]
-pub enum RecordEnd {
-    /// A write failed.
-    #[error("write")]
-    Write,
-    /// The file was so slow that what waits for it filled its room in memory.
-    #[error("too slow")]
-    Slow,
-    /// A datagram is too long, or a time does not fit the format.
-    #[error("does not fit")]
-    Unfit,
-}
-
-/// Why no record is made.
+/// The error of a record that cannot be created.
 #[derive(Clone, Copy, PartialEq, Eq)]
 pub enum RecordFault {
     /// There is a file at its path, or something else.
@@ -36,7 +22,7 @@ pub trait RecordFile: Write {
         ensures octets { OnOk result (IsCut (Self.contents self.old) (Self.contents self.new) len) };
 
     /// Reports that the record ends before its run, behind this many datagrams. Called once at most, at that moment.
-    fn report(&mut self, end: RecordEnd, datagrams: u64)
+    fn report(&mut self, end: OutputEnd, datagrams: u64)
         ensures { Self.contents self.new ≡ Self.contents self.old };
 }
 
