@@ -1,0 +1,28 @@
+//! The outputs of a run: what it passes to them, their creation, and the threads that write them.
+//!
+//! An output is what a run writes in addition to the datagrams of its mix, such as a record or a WAV
+//! file. It has at most three parts:
+//!
+//! 1. An `EventOutput` takes the events of a run in one thread: each datagram that arrived, each
+//!    change of gains, and the close.
+//! 2. A `MixOutput` takes each datagram of the mix after it was sent, in a run of either form.
+//! 3. A `SideTask` writes what these two took, in a thread of its own.
+//!
+//! `CreateOutput` makes the three. `Option<O>` and pairs of outputs are outputs too, and `NoOutput`
+//! takes nothing. So a run has one type parameter for all of its outputs, and names none of them.
+//!
+//! The first two are called in the threads of the run, and must not wait. `OutputSink` is the run's
+//! `Sink` with a `MixOutput` behind it, and `run_beside` starts the tasks and calls the run.
+#![tactic(auto)]
+
+mod create;
+mod events;
+mod fault;
+mod mix;
+mod side_task;
+
+pub use create::{CreateOutput, CreatedOutput, TaskOutput};
+pub use events::{ArrivedDatagram, DatagramOrigin, EventOutput, TakenChange};
+pub use fault::OutputFault;
+pub use mix::{MixOutput, NoOutput, OutputSink};
+pub use side_task::{EitherTask, OneTask, SideTask, SideTasks, ThreadFault, run_beside};

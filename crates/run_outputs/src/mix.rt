@@ -1,0 +1,98 @@
+//! The outputs that take the mix of a run, and the sink that passes it to them.
+ghost use Rattle.std.specs.Prelude.{◌≡◌, ◌∷◌, [], ℕ, ℤ, List};
+ghost use Rattle.studio_io.specs.Sinks.{Hands};
+ghost use Rattle.run_outputs.specs.Events.{Arrived, Changed, TakesIf};
+
+use crate::events::{ArrivedDatagram, EventOutput, TakenChange};
+use studio_io::{SendAnswer, Sink};
+
+/// An output that takes the datagrams of the mix, in their order.
+///
+/// Its call runs in the thread that mixes, so it must not wait.
+pub trait MixOutput: Drop {
+    /// Holds between the states before and after a datagram of the mix with these octets.
+    ghost mixes: { Self → List ℕ → Self → Type 0 };
+
+    /// Takes a datagram of the mix, after it was sent.
+    fn mixed(&mut self, datagram: &[u8])
+        ensures { mixes self.old datagram.now self.new };
+}
+
+impl<O: MixOutput> MixOutput for Option<O> {
+    ghost mixes = { λ old datagram new. TakesIf (λ one other. O.mixes one datagram other) old new };
+
+    fn mixed(&mut self, datagram: &[u8]) {
+        if let Some(output) = self {
+            output.mixed(datagram);
+        }
+    }
+}
+
+impl<A: MixOutput, B: MixOutput> MixOutput for (A, B) {
+    ghost mixes = { λ old datagram new. A.mixes old.0 datagram new.0 × B.mixes old.1 datagram new.1 };
+
+    fn mixed(&mut self, datagram: &[u8]) {
+        self.0.mixed(datagram);
+        self.1.mixed(datagram);
+    }
+}
+
+/// A part of an output that takes nothing.
+#[derive(Clone, Copy)]
+pub struct NoOutput;
+
+impl MixOutput for NoOutput {
+    ghost mixes = { λ old datagram new. new ≡ old };
+
+    fn mixed(&mut self, _datagram: &[u8]) {}
+}
+
+impl EventOutput for NoOutput {
+    ghost arrives = { λ old datagram new. new ≡ old };
+
+    ghost changes = { λ old change new. new ≡ old };
+
+    ghost closes = { λ old time new. new ≡ old };
+
+    fn needs_addresses(&self) -> bool {
+        false
+    }
+
+    fn arrived(&mut self, _datagram: &ArrivedDatagram<'_>) {}
+
+    fn changed(&mut self, _change: &TakenChange<'_>) {}
+
+    fn closed(&mut self, _time: i64) {}
+}
+
+/// A sink, and an output that takes what was sent.
+#[derive(Drop)]
+pub struct OutputSink<K, M> {
+    /// The sink that sends.
+    sink: K,
+    output: M,
+}
+
+impl<K: Sink, M: MixOutput> OutputSink<K, M> {
+    /// Returns a sink that passes each datagram to `sink`, and then to `output`.
+    pub fn new(sink: K, output: M) -> OutputSink<K, M>
+        ensures sink { result.sink ≡ sink }
+        ensures output { result.output ≡ output }
+    {
+        OutputSink { sink, output }
+    }
+}
+
+impl<K: Sink, M: MixOutput> Sink for OutputSink<K, M> {
+    ghost handed = { λ sink. K.handed sink.sink };
+
+    fn send(&mut self, datagram: &[u8]) -> SendAnswer
+        ensures handed { Hands (K.handed self.old.sink) (datagram.now ∷ []) (K.handed self.new.sink) }
+        ensures mixed { M.mixes self.old.output datagram.now self.new.output }
+    {
+        // After it was sent, so that the outputs do not delay the datagram.
+        let answer = self.sink.send(datagram);
+        self.output.mixed(datagram);
+        answer
+    }
+}
