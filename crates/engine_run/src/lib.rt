@@ -1,7 +1,7 @@
 //! Runs an engine in one thread: datagrams of feeds go in, and the mix goes to a sink, by a clock.
 //!
-//! Begin with `run_engine`. It takes the `Feed`s, one per path, a `Clock`, a `Sink`, a `RunObserver`,
-//! an `IdleWait` and a `GainSource`. Each round
+//! Begin with `run_engine`. It takes `RunDevices`: the `Feed`s, one per path, a `Clock`, a `Sink`, a
+//! `RunObserver`, an `IdleWait` and a `GainSource`. Each round
 //!
 //! 1. answers at most 64 requests of the `GainSource`, and calls `changed` of the observer for each change;
 //! 2. reads the clock and sends what is due by then;
@@ -35,4 +35,4 @@ mod state;
 pub use gain_requests::answer_request;
 pub use laws::a_run_without_changes_is_one_of_its_studio;
 pub use observer::{NoObserver, RunObserver};
-pub use run::{IdleWait, run_engine};
+pub use run::{IdleWait, RunDevices, run_engine};

@@ -30,16 +30,33 @@ pub trait IdleWait: Drop {
     fn wait_for_input(&mut self, engine: &Engine, most: i64) -> bool;
 }
 
-/// Runs a studio in this thread until all feeds have ended and all datagrams were sent.
+/// The devices of a run in one thread.
+#[derive(Drop)]
+pub struct RunDevices<F, C, K, T, P, G> {
+    /// A feed for each path, ordered by stream and then by path.
+    pub feeds: Vec<F>,
+    /// The clock of the run.
+    pub clock: C,
+    /// The sink that takes the datagrams of the mix.
+    pub sink: K,
+    /// The observer that is notified of what the engine takes. `NoObserver` ignores it.
+    pub observer: T,
+    /// The wait between two rounds.
+    pub wait: P,
+    /// The source of changes of gains. `NoGains` has none.
+    pub gains: G,
+}
+
+/// Runs a studio in this thread until all feeds have ended and all datagrams were sent. Returns the report, the sink,
+/// the observer and the source of gains.
 ///
-/// The caller passes a feed for each path, ordered by stream and then by path. All memory is allocated before the clock
-/// is first read, and `AllocError` is returned if that fails. A run is settled unless there was not one feed for each
-/// path, or it took 2^62 events. If there are too few feeds the last paths have none, and feeds beyond the last path
-/// are not called.
+/// All memory is allocated before the clock is first read, and `AllocError` is returned if that fails. A run is settled
+/// unless there was not one feed for each path, or it took 2^62 events. If there are too few feeds the last paths have
+/// none, and feeds beyond the last path are not called.
 ///
-/// In each round `gains` is asked for changes of gains, until it has no request or 64 were answered. A settled run is
-/// one of the studio with exactly the changes that were taken. `tap` is notified of exactly these, in a run that is not
-/// settled too. Pass `NoGains` for a run whose gains change only as the studio says.
+/// In each round the source of gains is asked for changes, until it has no request or 64 were answered. A settled run
+/// is one of the studio with exactly the changes that were taken. The observer is notified of exactly these, in a run
+/// that is not settled too.
 pub fn run_engine<
     R: Wait,
     F: Feed,
@@ -52,21 +69,26 @@ pub fn run_engine<
     rt: &R,
     alloc: Global,
     studio: &StudioSpec,
-    feeds: Vec<F>,
-    clock: C,
-    sink: K,
-    tap: T,
-    rest: P,
-    gains: G,
+    devices: RunDevices<F, C, K, T, P, G>,
 ) -> Result<(WorkReport, K, T, G), AllocError>
     ensures balance { IfOk result (λ r. Balances r.0.blocks r.0.sent_a r.0.fault_a r.0.sent_b r.0.fault_b) }
     ensures settled { IfOk result (λ r. r.0.settled ≡ true
-        → IsSettledRunWith studio.now (map F.told feeds.items) (C.told clock) r.0 (K.handed sink) (K.handed r.1)
-        (T.heard tap) (T.heard r.2) (G.taken gains) (G.taken r.3)) }
-    ensures feeds { IfOk result (λ r. r.0.settled ≡ true → length feeds.items ≡ path_total studio.now.streams) }
+        → IsSettledRunWith studio.now (map F.told devices.feeds.items) (C.told devices.clock) r.0
+        (K.handed devices.sink) (K.handed r.1) (T.heard devices.observer) (T.heard r.2)
+        (G.taken devices.gains) (G.taken r.3)) }
+    ensures feeds { IfOk result
+        (λ r. r.0.settled ≡ true → length devices.feeds.items ≡ path_total studio.now.streams) }
     ensures noted { IfOk result
-        (λ r. HasNotedTaken (G.taken gains) (G.taken r.3) (T.noted tap) (T.noted r.2)) }
+        (λ r. HasNotedTaken (G.taken devices.gains) (G.taken r.3) (T.noted devices.observer) (T.noted r.2)) }
 {
+    let RunDevices {
+        feeds,
+        clock,
+        sink,
+        observer,
+        wait,
+        gains,
+    } = devices;
     let specs = studio.streams();
     let room = ReportBuffers::new(alloc, specs)?;
     let engine = Engine::new(alloc, studio)?;
@@ -76,17 +98,16 @@ pub fn run_engine<
         readers,
         clock,
         sink,
-        tap,
+        tap: observer,
         counts: SendCounts::new(),
     };
-    let mut rest = rest;
-    let mut gains = gains;
-    let ended = run_rounds(rt, &mut state, &mut rest, &mut gains);
+    let (mut wait, mut gains) = (wait, gains);
+    let ended = run_rounds(rt, &mut state, &mut wait, &mut gains);
     // The engine is closed also after rounds that stopped early, so that the sink gets the datagrams that are left.
     let settled = settle(&mut state) && ended;
     let whole = settled && fits;
-    let (report, sink, tap) = work_report(alloc, state, specs, room, whole)?;
-    Ok((report, sink, tap, gains))
+    let (report, sink, observer) = work_report(alloc, state, specs, room, whole)?;
+    Ok((report, sink, observer, gains))
 }
 
 /// Makes rounds until all feeds have ended. Returns false if the engine stopped taking events before that.

@@ -5,7 +5,7 @@ use super::timed::{TimedClock, TimedFeed, TimedSink, WholeRest};
 use super::workers::{
     FAILURES, Failure, gave_both, has_failed, list_of, one_stream, only, sends, two_packets,
 };
-use engine_run::{IdleWait, NoObserver, run_engine};
+use engine_run::{IdleWait, NoObserver, RunDevices, run_engine};
 use std::alloc::Global;
 use std::process::Abort;
 use std::sync::Wait;
@@ -24,9 +24,15 @@ fn run_one<R: Wait + Abort, F: Feed, C: Clock, K: Sink, P: IdleWait>(
 ) -> (WorkReport, K) {
     let studio = one_stream(alloc).expect(rt, "a studio");
     let feeds = list_of(rt, alloc, feeds);
-    let done = run_engine(
-        rt, alloc, &studio, feeds, clock, sink, NoObserver, rest, NoGains,
-    );
+    let devices = RunDevices {
+        feeds,
+        clock,
+        sink,
+        observer: NoObserver,
+        wait: rest,
+        gains: NoGains,
+    };
+    let done = run_engine(rt, alloc, &studio, devices);
     let Ok((report, sink, _, _)) = done else {
         panic!(rt; "there is memory")
     };

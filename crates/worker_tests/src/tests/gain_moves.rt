@@ -4,7 +4,7 @@ ghost use Rattle.std.specs.Prelude.{◌≡◌, ◌++◌, ◌∷◌, [], List, �
 use super::fakes::{FaultyFeed, NoRest};
 use super::order_of_calls::OrderOfCalls;
 use super::workers::{gave_both, list_of, one_stream, try_open, two_packets};
-use engine_run::{NoObserver, RunObserver, run_engine};
+use engine_run::{NoObserver, RunDevices, RunObserver, run_engine};
 use gain_mix::ChangeFault;
 use std::alloc::Global;
 use std::process::Abort;
@@ -343,9 +343,15 @@ fn run_observed<R: Wait + Abort, F: Feed, C: Clock, T: RunObserver<F>, G: GainSo
 ) -> (WorkReport, MemorySink, T, G) {
     let studio = one_stream(alloc).expect(rt, "a studio");
     let feeds = list_of(rt, alloc, feeds);
-    let sink = MemorySink::new(alloc);
-    let done = run_engine(rt, alloc, &studio, feeds, clock, sink, tap, NoRest, gains);
-    let Ok(done) = done else {
+    let devices = RunDevices {
+        feeds,
+        clock,
+        sink: MemorySink::new(alloc),
+        observer: tap,
+        wait: NoRest,
+        gains,
+    };
+    let Ok(done) = run_engine(rt, alloc, &studio, devices) else {
         panic!(rt; "there is memory")
     };
     done

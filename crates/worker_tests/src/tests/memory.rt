@@ -4,7 +4,7 @@
 
 use super::fakes::NoRest;
 use super::workers::{one_stream, try_run};
-use engine_run::{NoObserver, run_engine};
+use engine_run::{NoObserver, RunDevices, run_engine};
 use engine_tests::small_packets::both_packets;
 use std::alloc::{AllocError, Global};
 use std::process::Abort;
@@ -78,10 +78,15 @@ fn is_run_alone<R: Wait + Abort>(
     let Ok(feeds) = two_feeds(alloc, packets) else {
         return false;
     };
-    let (clock, sink) = (MemoryClock::new(&[0]), MemorySink::new(alloc));
-    match run_engine(
-        rt, alloc, studio, feeds, clock, sink, NoObserver, NoRest, NoGains,
-    ) {
+    let devices = RunDevices {
+        feeds,
+        clock: MemoryClock::new(&[0]),
+        sink: MemorySink::new(alloc),
+        observer: NoObserver,
+        wait: NoRest,
+        gains: NoGains,
+    };
+    match run_engine(rt, alloc, studio, devices) {
         Ok((report, sink, _, _)) => {
             kept_or_reported(rt, &report, &sink);
             true

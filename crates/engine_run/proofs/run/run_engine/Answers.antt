@@ -16,12 +16,12 @@ returns-clause-settled g c whole =
     let handed = g.K.Sink.handed in
     let heard = g.T.RunObserver.heard in
     let studio = c.args.studio.now in
-    let feeds = c.args.feeds.items in
+    let feeds = c.args.devices.feeds.items in
     let flat = map told feeds in
     let all = grouped studio.streams flat in
-    let clock = times c.args.clock in
-    let before = handed c.args.sink in
-    let earlier = heard c.args.tap in
+    let clock = times c.args.devices.clock in
+    let before = handed c.args.devices.sink in
+    let earlier = heard c.args.devices.observer in
     let made = c.in_ok-report.ensures in
     let one : c.if-settle.settled ≡ true = elim c.if-settled.branch [
       | then-settled w ↦ w.if-settled.true
@@ -38,14 +38,14 @@ returns-clause-settled g c whole =
     record {
       changes = rounds.changes;
       taken = rounds.taken;
-      run = run-settled told times handed heard changed all clock before earlier flat c.settle.new.state c.in_ok-report.report (handed c.in_ok-report.sink) (heard c.in_ok-report.tap) done refl
+      run = run-settled told times handed heard changed all clock before earlier flat c.settle.new.state c.in_ok-report.report (handed c.in_ok-report.sink) (heard c.in_ok-report.observer) done refl
           (made.counts changed (events_of changed done.rounds) done.datagrams done.stands done.whole c.streams-specs.ensures.value) made.blocks (ap handed made.sink) (ap heard made.tap);
     }
 
 pub returns-clause-feeds : goal.returns-clause-feeds
 returns-clause-feeds g c whole =
     elim c.if-settled.branch [
-      | then-settled w ↦ subst (λ (l : List Stream). length c.args.feeds.items ≡ path_total l) c.streams-specs.ensures.value (c.in_ok-readers.ensures.fits (sym w.whole-is ∙ (sym c.in_ok-report.ensures.settled ∙ whole)))
+      | then-settled w ↦ subst (λ (l : List Stream). length c.args.devices.feeds.items ≡ path_total l) c.streams-specs.ensures.value (c.in_ok-readers.ensures.fits (sym w.whole-is ∙ (sym c.in_ok-report.ensures.settled ∙ whole)))
       | else-settled w ↦ absurd (false≢true (sym w.if-settled.false ∙ (sym w.whole-is ∙ (sym c.in_ok-report.ensures.settled ∙ whole))))
     ]
 
