@@ -1,6 +1,10 @@
 -- The blocks that were sent to the ring of a run's raw PCM, and those that were left out.
-use Rattle.std.specs.Prelude.{◌≡◌, ◌⊎◌, ◌<◌, ℕ, ◌+◌, ◌-◌, ◌^◌, min, Bool, true, false, List, [], ◌∷◌, ◌++◌, length, Option, Some, None, ⊤}
+use Rattle.std.specs.Prelude.{◌≡◌, ◌⊎◌, ◌<◌, ◌≤◌, ℕ, ◌+◌, ◌-◌, ◌^◌, min, Bool, true, false, List, [], ◌∷◌, ◌++◌, length, slice_get, Some}
 use Rattle.rtrb.specs.Ring.{known_free, sent}
+use Rattle.rtp_stream.specs.declared.stream_spec.Stream.{Stream}
+use Rattle.studio_config.specs.Studio.{Studio}
+use Rattle.wav_file.specs.MixSamples.{output_format}
+use Rattle.live_audio.specs.Room.{room_for}
 use Rattle.live_audio.specs.declared.pcm_tap.PcmTap.{PcmTap}
 
 -- the octets of the chosen blocks, in order, with a choice for each block
@@ -36,9 +40,8 @@ Takes old block new =
     ((sent new.ring ≡ sent old.ring ++ block) × (new.left_out ≡ old.left_out))
     ⊎ (LeavesOut old new × ((new.is_open ≡ false) ⊎ (known_free new.ring < length block)))
 
--- the samples of a block were sent to a tap, or left out, if there is a tap
-abbrev pub TakesIf : Option PcmTap → List ℕ → Option PcmTap → Type 0
-TakesIf None block None = ⊤
-TakesIf None block (Some new) = ⊥
-TakesIf (Some old) block None = ⊥
-TakesIf (Some old) block (Some new) = Takes old block new
+-- the tap has just begun: nothing was sent or left out, and the ring is known to have room for what each stream of the
+-- studio holds back at its latency, and for two seconds more
+pub record BeginsPcm (studio : Studio) (tap : PcmTap) : Type 0 where
+  pub none : HasTapped [] tap
+  pub room : (place : ℕ) (stream : Stream) → slice_get studio.streams place ≡ Some stream → room_for (output_format studio.output) stream.latency ≤ known_free tap.ring

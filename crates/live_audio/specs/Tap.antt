@@ -1,6 +1,10 @@
 -- The octets that were sent to the ring of a run's audio.
-use Rattle.std.specs.Prelude.{◌≡◌, ◌⊎◌, ◌<◌, ℕ, List, ◌++◌, length, Option, Some, None, ⊤, true, false}
+use Rattle.std.specs.Prelude.{◌≡◌, ◌⊎◌, ◌<◌, ◌≤◌, ℕ, List, [], ◌++◌, length, slice_get, Some, true, false}
 use Rattle.rtrb.specs.Ring.{known_free, sent}
+use Rattle.rtp_stream.specs.declared.stream_spec.Stream.{Stream}
+use Rattle.studio_config.specs.Studio.{Studio}
+use Rattle.wav_file.specs.MixSamples.{output_format}
+use Rattle.live_audio.specs.Room.{room_for}
 use Rattle.live_audio.specs.declared.tap.AudioTap.{AudioTap}
 
 -- the tap has ended: nothing was sent, and nothing will be sent any more
@@ -17,9 +21,9 @@ Puts old block new =
 abbrev pub StaysEnded : AudioTap → AudioTap → Type 0
 StaysEnded old new = old.ended ≡ true → (new.ended ≡ true) × (new.ring ≡ old.ring)
 
--- the samples of a block were sent to a tap, or ended it, if there is a tap
-abbrev pub PutsIf : Option AudioTap → List ℕ → Option AudioTap → Type 0
-PutsIf None block None = ⊤
-PutsIf None block (Some new) = ⊥
-PutsIf (Some old) block None = ⊥
-PutsIf (Some old) block (Some new) = Puts old block new × StaysEnded old new
+-- the tap has just begun: nothing was sent, and the ring is known to have room for what each stream of the studio holds
+-- back at its latency, and for two seconds more
+pub record BeginsTap (studio : Studio) (tap : AudioTap) : Type 0 where
+  pub goes_on : tap.ended ≡ false
+  pub none : sent tap.ring ≡ []
+  pub room : (place : ℕ) (stream : Stream) → slice_get studio.streams place ≡ Some stream → room_for (output_format studio.output) stream.latency ≤ known_free tap.ring

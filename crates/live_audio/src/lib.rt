@@ -1,10 +1,10 @@
 //! The audio of a live run: a WAV file and raw PCM of the mix, which threads of their own write while the run goes on.
 //!
-//! 1. `AudioChannel::new` makes the two ends of a ring, whose room follows from the studio: what its
-//!    streams hold back at their latency, and two seconds more.
-//! 2. `TappedSink` is the run's `Sink`. It passes each datagram to the sink below, and then the
-//!    datagram's samples to the `AudioTap`, which never waits: a block that does not fit in the ring
-//!    ends the file there.
+//! 1. `WavOutput` is the WAV file as an output of a run. It makes an `AudioChannel`, the two ends of a
+//!    ring, whose room follows from the studio: what its streams hold back at their latency, and two
+//!    seconds more.
+//! 2. The run passes each datagram of the mix to the `AudioTap`, which puts its samples into the ring
+//!    and never waits: a block for which the ring has no room ends the file there.
 //! 3. `write_audio`, in another thread, writes the samples to the file as they come, in order, from the
 //!    first block on. Each second of audio it renews the sizes in the header, so that a file that a
 //!    power failure cuts plays to its last second.
@@ -13,8 +13,8 @@
 //!    written twice between two of them.
 //! 5. The last file ends with a whole block, whatever ended it.
 //!
-//! Raw PCM goes the same way to a `PcmOutput`, by the ends of a `PcmChannel` and `write_pcm`. Its
-//! reader may be slow: a block for which the ring has no room is left out as a whole and counted, and
+//! Raw PCM, a `RawPcmOutput`, goes the same way to a `PcmOutput`, by the ends of a `PcmChannel` and
+//! `write_pcm`. Its reader may be slow: a block for which the ring has no room is left out as a whole and counted, and
 //! the blocks behind it go on.
 //!
 //! The ends set the `OutputProgress` of their output, which other threads read.
@@ -25,21 +25,23 @@
 mod channel;
 mod parts;
 mod pcm_channel;
+mod pcm_output;
 mod pcm_tap;
 mod pcm_writer;
 mod renewal;
 mod room;
-mod sink;
 mod tap;
+mod wav_output;
 mod writer;
 
 pub use channel::AudioChannel;
 pub use parts::AudioParts;
 pub use pcm_channel::PcmChannel;
+pub use pcm_output::{PcmTask, RawPcmOutput};
 pub use pcm_tap::PcmTap;
 pub use pcm_writer::{PcmStop, PcmWriter, PcmWritten, write_pcm};
 pub use renewal::is_renewal_due;
 pub use room::ring_octets;
-pub use sink::{AudioTaps, TappedSink};
 pub use tap::AudioTap;
+pub use wav_output::{WavOutput, WavTask};
 pub use writer::{AudioFile, AudioWriter, write_audio};

@@ -5,6 +5,7 @@ ghost use Rattle.live_audio.specs.PcmTap.{HasTapped, LeavesOut, Takes};
 
 use crate::tap::samples_of;
 use rtrb::Producer;
+use run_outputs::MixOutput;
 use studio_io::OutputProgress;
 
 /// The end of a ring in the run's thread, into which the samples of each datagram are put. It never waits.
@@ -15,7 +16,9 @@ pub struct PcmTap<'a> {
     is_open: bool,
     /// The number of blocks that were left out.
     left_out: u64,
-    /// The progress of the output, in which that number is set.
+    /// The number of blocks that were passed to it.
+    given: u64,
+    /// The progress of the output, in which these numbers are set.
     pcm: &'a OutputProgress,
 }
 
@@ -29,6 +32,7 @@ impl<'r> PcmTap<'r> {
             ring,
             is_open: false,
             left_out: 0,
+            given: 0,
             pcm,
         }
     }
@@ -42,6 +46,8 @@ impl<'r> PcmTap<'r> {
             → HasTapped (blocks ++ drop 12 datagram.now ∷ []) self.new }
         ensures open { self.old.is_open ≡ true → self.new.is_open ≡ true }
     {
+        self.given = self.given.saturating_add(1);
+        self.pcm.set_given(self.given);
         if !self.opens() {
             self.leave_out();
             return;
@@ -73,5 +79,13 @@ impl<'r> PcmTap<'r> {
     {
         self.left_out = self.left_out.saturating_add(1);
         self.pcm.set_left_out(self.left_out);
+    }
+}
+
+impl MixOutput for PcmTap<'_> {
+    ghost mixes = { λ old datagram new. Takes old (drop 12 datagram) new };
+
+    fn mixed(&mut self, datagram: &[u8]) {
+        self.put(datagram);
     }
 }

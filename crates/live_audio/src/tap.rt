@@ -3,6 +3,7 @@ ghost use Rattle.std.specs.Prelude.{◌≡◌, ◌≤◌, drop, length, false};
 ghost use Rattle.live_audio.specs.Tap.{Puts, StaysEnded};
 
 use rtrb::Producer;
+use run_outputs::MixOutput;
 use studio_io::{OutputEnd, OutputProgress};
 
 /// The end of a ring in the run's thread, into which the samples of each datagram are put. It never waits.
@@ -11,7 +12,9 @@ pub struct AudioTap<'a> {
     ring: Producer<u8>,
     /// True once a block was not put. Nothing is put any more.
     ended: bool,
-    /// The progress of the file, in which the reason of its end is set.
+    /// The number of blocks that were passed to it, also after the end.
+    given: u64,
+    /// The progress of the file, in which that number and the reason of the file's end are set.
     audio: &'a OutputProgress,
 }
 
@@ -24,6 +27,7 @@ impl<'r> AudioTap<'r> {
         AudioTap {
             ring,
             ended: false,
+            given: 0,
             audio,
         }
     }
@@ -34,6 +38,8 @@ impl<'r> AudioTap<'r> {
         ensures puts { Puts self.old (drop 12 datagram.now) self.new }
         ensures ended { StaysEnded self.old self.new }
     {
+        self.given = self.given.saturating_add(1);
+        self.audio.set_given(self.given);
         // Nothing is put after a block that is missing: the file would have a hole in the middle.
         if self.ended {
             return;
@@ -42,6 +48,14 @@ impl<'r> AudioTap<'r> {
             self.ended = true;
             self.audio.set_end(OutputEnd::Slow);
         }
+    }
+}
+
+impl MixOutput for AudioTap<'_> {
+    ghost mixes = { λ old datagram new. Puts old (drop 12 datagram) new × StaysEnded old new };
+
+    fn mixed(&mut self, datagram: &[u8]) {
+        self.put(datagram);
     }
 }
 

@@ -14,7 +14,8 @@ use Rattle.rtp_wire.specs.declared.encoding.Enc.TheVariants.{L16, L24}
 use Rattle.rtp_stream.specs.declared.stream_spec.Stream.{Stream}
 use Rattle.studio_config.specs.Studio.{Studio}
 use Rattle.live_io.specs.declared.record.block_producer.BlockProducer.{BlockProducer}
-use Rattle.live_io.specs.declared.record.observer.DatagramOrigin.{DatagramOrigin}
+use Rattle.live_io.specs.declared.record.observer.RecordObserver.{RecordObserver}
+use Rattle.run_outputs.specs.declared.events.DatagramOrigin.{DatagramOrigin}
 
 -- the record has ended: nothing was sent, and nothing will be sent any more
 abbrev pub Ends : BlockProducer → BlockProducer → Type 0
@@ -140,3 +141,10 @@ abbrev pub Opens : Bool → Studio → BlockProducer → Type 0
 Opens is_controlled studio end = (at : ℕ) → studio.open_at ≡ pos at
     → ((end.ended ≡ false) × (sent end.ring ≡ front_blocks is_controlled studio at))
     ⊎ ((end.ended ≡ true) × (known_free end.ring < length (front_blocks is_controlled studio at)))
+
+-- the observer of a run's record has just begun: the start of the record was sent, it counts times from the studio's
+-- opening, and it has the interface for changes of gains only if these can be changed
+pub record BeginsRecord (is_controlled : Bool) (studio : Studio) (observer : RecordObserver) : Type 0 where
+  pub opens : Opens is_controlled studio observer.end
+  pub open_at : observer.open_at ≡ studio.open_at
+  pub gains_interface : observer.gains_interface ≡ gains_interface_of is_controlled studio.streams

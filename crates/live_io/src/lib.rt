@@ -11,12 +11,12 @@
 //!    its socket has, and waits by a `ReceivePace`, unless flags say which sockets are to be read. It reads its
 //!    socket as a `RetryingSocket`, which tries a socket that fails less and less often.
 //!    `UdpSink` is the `Sink` of the two sending sockets.
-//! 4. A `RecordChannel` has two ends of a ring. The thread of the run passes each datagram and each
-//!    change of gains to its `RecordObserver`, which pushes whole blocks and never waits.
-//!    `write_record`, in another thread, writes them to the file. If the file is too slow and the ring is
-//!    full, or a write fails, the record ends there, with a whole block. A `RecordFile` is where the
-//!    blocks go, and can be cut behind the last of them; `CreateRecord` creates one. Both ends set the
-//!    record's `OutputProgress`.
+//! 4. `RecordOutput` is the record as an output of a run. It creates a `RecordChannel`, which has two
+//!    ends of a ring. The thread of the run passes each datagram and each change of gains to its
+//!    `RecordObserver`, which pushes whole blocks and never waits. `write_record`, in another thread,
+//!    writes them to the file. If the file is too slow and the ring is full, or a write fails, the record
+//!    ends there, with a whole block. A `RecordFile` is where the blocks go, and can be cut behind the
+//!    last of them; `CreateRecord` creates one. Both ends set the record's `OutputProgress`.
 #![tactic(auto)]
 
 mod clock;
@@ -29,7 +29,8 @@ pub use clock::{RestClock, RunPeriod, SystemClock};
 pub use options::LiveOptions;
 pub use record::RecordChannel;
 pub use record::file::{CreateRecord, RecordFault, RecordFile};
-pub use record::observer::{DatagramOrigin, RecordObserver};
+pub use record::observer::RecordObserver;
+pub use record::output::{RecordOutput, RecordTask};
 pub use record::writer::{FileResult, RecordWriter, write_record};
 pub use sockets::addresses::{PathAddress, addresses_of};
 pub use sockets::backoff::FaultBackoff;

@@ -1,5 +1,6 @@
 //! The record of a run, with its two ends. `observer` is the end in the run's thread, and `writer` that in a thread of
-//! its own, which writes to a `file`. `block_producer` puts the observer's blocks into the ring between them.
+//! its own, which writes to a `file`. `block_producer` puts the observer's blocks into the ring between them. `output`
+//! makes the record an output of a run.
 ghost use Rattle.std.specs.Prelude.{◌≡◌, [], Some, IfOk};
 ghost use Rattle.live_io.specs.RecordBlocks.{Opens, gains_interface_of, path_total};
 ghost use Rattle.live_io.specs.RecordWriter.{HasWritten};
@@ -14,6 +15,7 @@ use studio_io::OutputProgress;
 pub(crate) mod block_producer;
 pub(crate) mod file;
 pub(crate) mod observer;
+pub(crate) mod output;
 pub(crate) mod writer;
 
 /// The number of octets that the ring of a record holds.
@@ -43,6 +45,7 @@ impl<'a> RecordChannel<'a> {
         ensures opens { IfOk result (λ channel. Opens is_controlled studio.now channel.observer.end) }
         ensures interface { IfOk result (λ channel.
             channel.observer.gains_interface ≡ gains_interface_of is_controlled studio.now.streams) }
+        ensures open_at { IfOk result (λ channel. channel.observer.open_at ≡ studio.now.open_at) }
         ensures paths { IfOk result (λ channel. channel.writer.paths ≡ path_total studio.now.streams) }
     {
         let (producer, consumer) = RingBuffer::new(alloc, RING_OCTETS)?;

@@ -48,7 +48,7 @@ pub trait LiveWavFile: Write {
 /// The files of a live run's audio, one after another. Each but the first is created when the one before it is whole.
 pub trait WavFiles {
     /// The type of a file.
-    type File: LiveWavFile + Send + Drop;
+    type File: LiveWavFile + Drop;
 
     /// The octets of the files that were closed, in order, if they are known.
     ghost closed: { Self → Option (List (List ℕ)) };
@@ -71,8 +71,13 @@ pub trait WavFiles {
 
 /// A creator of a live run's WAV files. A run creates the first of them once all that can fail before it did not.
 pub trait CreateLiveWav {
+    /// The type of a file.
+    // Here, where a file goes to the thread that writes it, and not in `WavFiles`: in a method of a trait the toolchain
+    // does not follow that an associated type may go to another thread.
+    type WavFile: LiveWavFile + Send + Drop;
+
     /// The type of the files.
-    type Audio: WavFiles + Send + Drop;
+    type Audio: WavFiles<File = Self::WavFile> + Send + Drop;
 
     /// Returns the files. None is created yet. Returns `AllocError` if an allocation fails.
     fn wav_files(&self, alloc: Global) -> Result<Self::Audio, AllocError>;

@@ -32,23 +32,12 @@ use pcap_file::{
 use rtp_stream::StreamSpec;
 use rtp_wire::Enc;
 use rtrb::Producer;
-use std::net::SocketAddrV4;
+use run_outputs::DatagramOrigin;
 use studio_config::StudioSpec;
 use studio_io::{OutputEnd, OutputProgress};
 
 /// The letter of a stream's first path.
 const FIRST_LETTER: u8 = b'a';
-
-/// The path on which a datagram arrived, and its two addresses.
-#[derive(Clone, Copy, PartialEq, Eq)]
-pub struct DatagramOrigin {
-    /// The path's index among the paths of all streams, ordered by stream and then by path.
-    pub path_index: u32,
-    /// The address from which it was sent.
-    pub source: SocketAddrV4,
-    /// The address to which it was sent.
-    pub destination: SocketAddrV4,
-}
 
 /// The observer that makes the blocks of a record, and counts the datagrams. The record ends before the first block
 /// that cannot be written: if the ring is full, the datagram is too long, or a time does not fit 64 bits.
@@ -66,13 +55,6 @@ pub struct RecordObserver<'a> {
 }
 
 impl<'r> RecordObserver<'r> {
-    /// Returns the number of datagrams that arrived, including those after the record's end.
-    pub fn received(&self) -> u64
-        ensures { result ≡ self.now.received }
-    {
-        self.received
-    }
-
     /// Returns the observer of a run of this studio, and puts the start of the record into the ring: the studio's
     /// opening time, its paths, and an interface for changes of gains if these can be changed.
     pub(crate) fn new(
@@ -104,12 +86,13 @@ impl<'r> RecordObserver<'r> {
 
     /// Puts the packet block of a datagram that arrived at `time`, in sampling instants, and counts the datagram. It
     /// does not wait: if the block cannot be put, the record ends.
-    pub fn arrived(&mut self, time: i64, octets: &[u8], origin: &DatagramOrigin)
+    pub fn record_datagram(&mut self, time: i64, octets: &[u8], origin: &DatagramOrigin)
         ensures puts { PutsPacket self.old.open_at time origin.now octets.now self.old.end self.new.end }
         ensures ended { self.old.end.ended ≡ true → self.new.end.ended ≡ true }
         ensures received { self.old.received + 1 < 2 ^ 64 → self.new.received ≡ self.old.received + 1 }
     {
         self.received = self.received.saturating_add(1);
+        self.recorded.set_given(self.received);
         if self.end.ended {
             return;
         }
@@ -128,7 +111,7 @@ impl<'r> RecordObserver<'r> {
     /// Puts the packet block of a change of gains that was taken at `time`, when the block of number `next_block` was
     /// next: from `at` on these gains are in force, row by row. Both times are in sampling instants. A change is not
     /// counted. It does not wait: if the block cannot be put, the record ends.
-    pub fn changed(&mut self, time: i64, at: i64, next_block: u64, gains: &[i32])
+    pub fn record_change(&mut self, time: i64, at: i64, next_block: u64, gains: &[i32])
         ensures puts { PutsChange self.old.open_at self.old.gains_interface time at next_block gains.now
             self.old.end self.new.end }
         ensures ended { self.old.end.ended ≡ true → self.new.end.ended ≡ true }
@@ -150,7 +133,7 @@ impl<'r> RecordObserver<'r> {
     }
 
     /// Puts the block of the close, which was at `time`, in sampling instants.
-    pub fn closed(&mut self, time: i64)
+    pub fn record_close(&mut self, time: i64)
         ensures puts { PutsClose self.old.open_at time self.old.end self.new.end }
         ensures ended { self.old.end.ended ≡ true → self.new.end.ended ≡ true }
         ensures received { self.new.received ≡ self.old.received }

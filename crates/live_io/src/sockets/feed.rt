@@ -2,11 +2,11 @@
 ghost use Rattle.std.specs.Prelude.{◌≡◌, [], length, IfOk};
 
 use crate::clock::{RunPeriod, SystemClock};
-use crate::record::observer::DatagramOrigin;
 use crate::sockets::health::SocketHealth;
 use crate::sockets::pace::ReceivePace;
 use crate::sockets::receiver::Receiver;
 use crate::sockets::retrying::RetryingSocket;
+use run_outputs::DatagramOrigin;
 use std::alloc::{AllocError, Global};
 use std::sync::atomic::{AtomicBool, Ordering};
 use std::time::Clock;

@@ -1,7 +1,7 @@
 use Rattle.std.proofs.Common.{inr, of_z, refl, subst, to_z, w64}
 use Rattle.std.proofs.lemmas.Int.{to_z-of_z}
 use Rattle.live_io.specs.RecordBlocks.{IsUnfit}
-use Rattle.live_io.proofs.record.observer.RecordObserver.changed.Goals as goal
+use Rattle.live_io.proofs.record.observer.RecordObserver.record_change.Goals as goal
 
 pub returns-in-None-clause-puts : goal.returns-in-None-clause-puts
 returns-in-None-clause-puts c =
