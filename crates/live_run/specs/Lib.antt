@@ -1,6 +1,5 @@
 pub mod Report
 pub mod RunResult
-pub mod Observed
 pub mod LatestStats
 pub mod StreamStatus
 pub mod RunText

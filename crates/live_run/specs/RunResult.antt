@@ -8,7 +8,7 @@ use Rattle.engine_run.specs.Grouping.{path_total}
 use Rattle.engine_run.specs.Runs.{IsSettledRun as IsSettledAlone, IsSettledRunWith as IsSettledAloneWith}
 use Rattle.studio_io.specs.declared.report.WorkReport.{WorkReport}
 use Rattle.live_run.specs.declared.fault.LiveFault.{LiveFault}
-use Rattle.live_run.specs.declared.fault.LiveFault.TheVariants.{Memory, Socket, Page, Thread, RecordExists, Record, WavExists, Wav, PcmExists, Pcm, Unsettled, Write}
+use Rattle.live_run.specs.declared.fault.LiveFault.TheVariants.{Memory, Socket, Page, Thread, OutputExists, Output, Unsettled, Write}
 
 -- there is a feed for each path, which returns these answers
 abbrev pub HasFeeds : Studio → List (List Answer) → Type 0
@@ -47,11 +47,7 @@ IsEarly Memory = Unit {0}
 IsEarly Socket = Unit {0}
 IsEarly Page = Unit {0}
 IsEarly Thread = Unit {0}
-IsEarly RecordExists = Unit {0}
-IsEarly Record = Unit {0}
-IsEarly WavExists = Unit {0}
-IsEarly Wav = Unit {0}
-IsEarly PcmExists = Unit {0}
-IsEarly Pcm = Unit {0}
+IsEarly (OutputExists kind) = Unit {0}
+IsEarly (Output kind) = Unit {0}
 IsEarly Unsettled = ⊥
 IsEarly Write = ⊥

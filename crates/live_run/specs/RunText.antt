@@ -7,7 +7,7 @@ use Rattle.studio_io.specs.declared.report.WorkReport.{WorkReport}
 use Rattle.live_run.specs.Report.{report_text}
 use Rattle.live_run.specs.RunResult.{IsRunOf}
 use Rattle.live_run.specs.declared.fault.LiveFault.{LiveFault}
-use Rattle.live_run.specs.declared.fault.LiveFault.TheVariants.{Memory, Socket, Page, Thread, RecordExists, Record, WavExists, Wav, PcmExists, Pcm, Unsettled, Write}
+use Rattle.live_run.specs.declared.fault.LiveFault.TheVariants.{Memory, Socket, Page, Thread, OutputExists, Output, Unsettled, Write}
 
 -- the report of a run was written, settled or not
 pub record WritesRun (one_thread controlled : Bool) (studio : Studio) (settled : Bool) (written written_then : Option (List ℕ)) : Type 0 where
@@ -27,12 +27,8 @@ abbrev pub FailsRun : Bool → Bool → Studio → Option (List ℕ) → Option 
 FailsRun one_thread controlled studio written written_then Memory = written_then ≡ written
 FailsRun one_thread controlled studio written written_then Socket = written_then ≡ written
 FailsRun one_thread controlled studio written written_then Page = written_then ≡ written
-FailsRun one_thread controlled studio written written_then RecordExists = written_then ≡ written
-FailsRun one_thread controlled studio written written_then Record = written_then ≡ written
-FailsRun one_thread controlled studio written written_then WavExists = written_then ≡ written
-FailsRun one_thread controlled studio written written_then Wav = written_then ≡ written
-FailsRun one_thread controlled studio written written_then PcmExists = written_then ≡ written
-FailsRun one_thread controlled studio written written_then Pcm = written_then ≡ written
+FailsRun one_thread controlled studio written written_then (OutputExists kind) = written_then ≡ written
+FailsRun one_thread controlled studio written written_then (Output kind) = written_then ≡ written
 FailsRun one_thread controlled studio written written_then Thread = written_then ≡ written
 FailsRun one_thread controlled studio written written_then Unsettled = WritesRun one_thread controlled studio false written written_then
 FailsRun one_thread controlled studio written written_then Write = BreaksOffRun one_thread controlled studio written written_then

@@ -1,19 +1,19 @@
 //! The line with the addresses of a run: of its paths, of the mix and of the page.
 
-use crate::status::ServedPage;
 use live_io::Sockets;
 use live_status::{STDERR, is_ready};
 use rtp_stream::Path;
 use std::io;
 use std::io::Write;
+use std::net::SocketAddr;
 use studio_config::StudioSpec;
 
-/// Writes one line with the addresses of the paths, of the mix and of the page, if there is one. The line is left out
-/// if standard error would block. Errors of the write are ignored.
-pub(crate) fn write_address_line<S: ServedPage, W: Write>(
+/// Writes one line with the addresses of the paths, of the mix and of the page, if it has one. The line is left out if
+/// standard error would block. Errors of the write are ignored.
+pub(crate) fn write_address_line<W: Write>(
     studio: &StudioSpec,
     sockets: &Sockets<'_>,
-    page: &Option<S>,
+    page: Option<SocketAddr>,
     writer: &mut W,
 ) {
     if is_ready(STDERR, libc::net::POLLOUT) {
@@ -22,16 +22,16 @@ pub(crate) fn write_address_line<S: ServedPage, W: Write>(
 }
 
 /// Writes the line. Returns the error of the first write that fails.
-fn write_line<S: ServedPage, W: Write>(
+fn write_line<W: Write>(
     studio: &StudioSpec,
     sockets: &Sockets<'_>,
-    page: &Option<S>,
+    page: Option<SocketAddr>,
     writer: &mut W,
 ) -> io::Result<()> {
     write!(writer, "live")?;
     write_addresses(studio, sockets, writer)?;
-    if let Some(page) = page {
-        write_page(page, writer)?;
+    if let Some(address) = page {
+        write!(writer, " page=http://{address}/")?;
     }
     writeln!(writer)
 }
@@ -67,10 +67,4 @@ fn write_paths<W: Write>(
         }
     }
     Ok(())
-}
-
-/// Writes the address of the page.
-fn write_page<S: ServedPage, W: Write>(page: &S, writer: &mut W) -> io::Result<()> {
-    let address = page.address()?;
-    write!(writer, " page=http://{address}/")
 }

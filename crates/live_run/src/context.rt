@@ -2,11 +2,10 @@
 
 use crate::shown_health::ShownHealth;
 use crate::supervisor::stop_flags::StopFlags;
-use live_audio::AudioTaps;
 use live_io::{RunHealth, RunPeriod};
 use live_status::{RunGains, StatusOutputs};
 
-/// The context of a run, in addition to its studio and its sockets.
+/// The context of a run, in addition to its studio, its sockets and its outputs.
 #[derive(Drop)]
 pub(crate) struct RunContext<'a, R, E> {
     /// The start of the run, and its end by the clock.
@@ -19,8 +18,6 @@ pub(crate) struct RunContext<'a, R, E> {
     pub(crate) flags: &'a StopFlags,
     /// The health of the run's sockets.
     pub(crate) health: &'a RunHealth,
-    /// The taps of the mix: of the WAV file and of the raw PCM, each if the run has one.
-    pub(crate) taps: AudioTaps<'a>,
     /// The health of the run as its status shows it.
     pub(crate) shown: ShownHealth<'a>,
     /// The source of changes of gains. `None` if the gains change only as the studio says.

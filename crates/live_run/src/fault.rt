@@ -3,16 +3,15 @@ ghost use Rattle.std.specs.Prelude.{◌≡◌};
 ghost use Rattle.live_run.specs.RunResult.{IsEarly};
 ghost use Rattle.live_run.specs.declared.fault.LiveFault.TheVariants.{Write};
 
-use live_io::RecordFault;
 use live_status::PageFault;
+use run_outputs::{OutputFault, ThreadFault};
 use std::alloc::{AllocError, AllocFailed};
 use std::io;
 use std::io::ErrorKind;
 use studio_ends::OpenFault;
-use studio_io::WorkFault;
+use studio_io::{OutputKind, WorkFault};
 use studio_run::WriteFault;
 use thiserror::Error;
-use wav_file::{LiveWavFault, PcmFault};
 
 /// The error of a live run: it has no report, or the report is not settled or was not written completely.
 #[derive(Clone, Copy, Debug, PartialEq, Eq, Error)]
@@ -26,28 +25,15 @@ pub enum LiveFault {
     /// The port of the page could not be bound.
     #[error("device: socket page")]
     Page,
-    /// A thread could not be started: a worker, the supervisor, the page's, the record's, the WAV file's or the raw
-    /// PCM's.
+    /// A thread could not be started: a worker, the supervisor, or that of the page or of an output.
     #[error("device: thread")]
     Thread,
-    /// There is a file at the record's path, or something else. It was not touched.
-    #[error("device: record exists")]
-    RecordExists,
-    /// The record's file could not be created.
-    #[error("device: record")]
-    Record,
-    /// There is a file at the WAV file's path, or something else. It was not touched.
-    #[error("device: wav exists")]
-    WavExists,
-    /// The WAV file could not be created.
-    #[error("device: wav")]
-    Wav,
-    /// There is something at the path of the raw PCM that is no FIFO. It was not touched.
-    #[error("device: pcm exists")]
-    PcmExists,
-    /// The FIFO of the raw PCM could not be opened, or its file could not be created.
-    #[error("device: pcm")]
-    Pcm,
+    /// There is something at the path of the output of this kind, and it is no FIFO for raw PCM. It was not touched.
+    #[error("device: {0} exists")]
+    OutputExists(OutputKind),
+    /// The output of this kind could not be created or opened.
+    #[error("device: {0}")]
+    Output(OutputKind),
     /// The report was written, but it is not settled: something was left over.
     #[error("live: not settled")]
     Unsettled,
@@ -94,36 +80,23 @@ impl From<PageFault> for LiveFault {
     }
 }
 
-impl From<RecordFault> for LiveFault {
+impl From<OutputFault> for LiveFault {
     ghost from_gives = { λ _ to. IsEarly to };
 
-    fn from(fault: RecordFault) -> LiveFault {
+    fn from(fault: OutputFault) -> LiveFault {
         match fault {
-            RecordFault::Exists => LiveFault::RecordExists,
-            RecordFault::NotCreated => LiveFault::Record,
+            OutputFault::Memory => LiveFault::Memory,
+            OutputFault::Exists(kind) => LiveFault::OutputExists(kind),
+            OutputFault::NotCreated(kind) => LiveFault::Output(kind),
         }
     }
 }
 
-impl From<LiveWavFault> for LiveFault {
+impl From<ThreadFault> for LiveFault {
     ghost from_gives = { λ _ to. IsEarly to };
 
-    fn from(fault: LiveWavFault) -> LiveFault {
-        match fault {
-            LiveWavFault::Exists => LiveFault::WavExists,
-            LiveWavFault::NotCreated => LiveFault::Wav,
-        }
-    }
-}
-
-impl From<PcmFault> for LiveFault {
-    ghost from_gives = { λ _ to. IsEarly to };
-
-    fn from(fault: PcmFault) -> LiveFault {
-        match fault {
-            PcmFault::Exists => LiveFault::PcmExists,
-            PcmFault::NotCreated => LiveFault::Pcm,
-        }
+    fn from(_fault: ThreadFault) -> LiveFault {
+        LiveFault::Thread
     }
 }
 

@@ -1,10 +1,21 @@
 //! The inputs of a live run.
 
-use live_audio::AudioParts;
-use live_io::SocketConfig;
+use live_io::{LiveOptions, SocketConfig};
 use status_page::StreamName;
 use std::time::Duration;
+use studio_config::StudioSpec;
 use studio_io::RunProgress;
+
+/// A live run: its studio, its options and its inputs.
+#[derive(Clone, Copy)]
+pub struct LiveRun<'a> {
+    /// The studio that runs.
+    pub studio: &'a StudioSpec,
+    /// The form of the run, its end, and what is shown of it.
+    pub options: &'a LiveOptions,
+    /// The sockets, the names and the progress.
+    pub inputs: LiveInputs<'a>,
+}
 
 /// The inputs of a live run, in addition to its studio and its options.
 #[derive(Clone, Copy)]
@@ -13,10 +24,8 @@ pub struct LiveInputs<'a> {
     pub sockets: SocketConfig<'a>,
     /// The name of each stream, if it has one.
     pub names: &'a [Option<StreamName>],
-    /// The progress of the run's outputs. The run sets that of each output that it has.
+    /// The progress of the run's outputs, which its status shows. Each output sets its own.
     pub outputs: &'a RunProgress,
-    /// The division of the mix into WAV files, if it is divided.
-    pub parts: Option<AudioParts>,
     /// The reading of the system's monotonic clock at the studio's opening time, if it could be read.
     pub began: Option<Duration>,
 }

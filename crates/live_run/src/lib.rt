@@ -2,24 +2,24 @@
 //!
 //! Begin with `run_studio_live`. It opens the sockets, runs the studio in the form that `LiveOptions`
 //! selects until all feeds have ended, and writes the report. The caller passes the runtime, the
-//! memory, both writers and, for a record or a WAV file, its file.
+//! memory, both writers and the outputs, of which no module here knows the kinds: they are one type
+//! parameter with the bound `CreateOutput`.
 //!
 //! The modules, in the order of a run:
 //!
-//! - `launch` opens sockets, page and status, creates the files, and calls one of the two forms with
-//!   a `RunContext`. The page is served by a thread of its own, and a WAV file and raw PCM are each
-//!   written by one.
+//! - `launch` opens sockets, page and status, creates the outputs, and calls one of the two forms with
+//!   a `RunContext`. `page_task` is the task of the thread that serves the page.
 //! - `status` opens the outputs of the status, and writes the line of addresses and, at a terminal,
 //!   how to end the run with its report. `shown_health` reads what the status shows of sockets, sends
-//!   and the record. `gain_control` opens the control of gains that a page has.
+//!   and outputs. `gain_control` opens the control of gains that a page has.
 //! - `workers` is the form with a thread for each path and stream and one for the mix,
-//!   `run_in_workers`.
+//!   `run_in_workers`. It passes its mix to the outputs.
 //! - `single_thread` is the form with an engine in one thread, `run_in_one_thread`. It waits by
-//!   poll(2) until a socket has a datagram. If the run has a record, another thread writes it.
+//!   poll(2) until a socket has a datagram. It passes its mix and its events to the outputs.
 //! - `report` writes the text of the final report.
-//! - `supervisor` is the thread that ends the feeds, as the options say or on a pending signal that
-//!   was blocked at the start, and runs the status task (`run_supervised`).
-//! - `path_watch` is the supervisor's task that writes a line for each path that fails or ends, and
+//! - `supervisor` is the task of the thread that ends the feeds, as the options say or on a pending
+//!   signal that was blocked at the start, and runs the status task.
+//! - `socket_watch` is the supervisor's task that writes a line for each path that fails or ends, and
 //!   reads what the kernel dropped.
 //!
 //! If a form returns an early `LiveFault`, no run has begun.
@@ -32,18 +32,18 @@ mod fault;
 mod gain_control;
 mod inputs;
 mod launch;
-mod path_watch;
+mod page_task;
 mod report;
 mod run;
-mod scoped_thread;
 mod shown_health;
 mod single_thread;
+mod socket_watch;
 mod status;
 mod supervisor;
 mod workers;
 
 pub use fault::LiveFault;
-pub use inputs::LiveInputs;
+pub use inputs::{LiveInputs, LiveRun};
 pub use live_io::LiveOptions;
 pub use run::run_studio_live;
 pub use status_page::{StreamName, Token};

@@ -2,45 +2,49 @@
 
 use crate::address_line::write_address_line;
 use crate::end_hint::write_end_hint;
-use live_io::{LiveOptions, Sockets};
-use live_status::{PageThread, StatusInputs, StatusOutputs, open_outputs};
+use crate::inputs::LiveRun;
+use live_io::Sockets;
+use live_status::{Meter, StatusInputs, StatusOutputs, open_outputs};
 use rtrb::Producer;
-use status_page::{GainDesk, Snapshot};
+use status_page::Snapshot;
 use std::alloc::{AllocError, Global};
-use std::io;
 use std::io::Write;
 use std::net::SocketAddr;
-use studio_config::StudioSpec;
 
-/// A page that is served at an address.
-pub(crate) trait ServedPage {
-    /// Returns the address at which the page is served, or the system's error if it cannot be read.
-    fn address(&self) -> io::Result<SocketAddr>;
-}
-
-impl<D: GainDesk> ServedPage for PageThread<D> {
-    fn address(&self) -> io::Result<SocketAddr> {
-        self.address()
-    }
+/// The link from a run to its page. Both fields are `None` without a page.
+#[derive(Drop)]
+pub(crate) struct PageLink {
+    /// The address at which the page is served. `None` also if the system does not say it.
+    pub(crate) address: Option<SocketAddr>,
+    /// The end of the ring into which the run puts snapshots.
+    pub(crate) snapshots: Option<Producer<Snapshot>>,
 }
 
 /// Opens the status of a run whose sockets and page are open: writes the line with the run's addresses, if there is a
 /// page or lines are wanted. At a terminal it also writes how to end the run with its report, if Ctrl-C would not.
 /// Lines go to `faults`. Allocates all memory of the status, and returns `AllocError` if that fails.
-pub(crate) fn open_status<'a, S: ServedPage, E: Write + Drop>(
+pub(crate) fn open_status<'a, E: Write + Drop>(
     alloc: Global,
-    studio: &StudioSpec,
+    run: LiveRun<'a>,
     sockets: &Sockets<'_>,
-    page: &Option<S>,
-    options: &LiveOptions,
-    inputs: StatusInputs<'a>,
-    snapshots: Option<Producer<Snapshot>>,
+    page: PageLink,
+    meter: &'a Meter,
     faults: E,
 ) -> Result<StatusOutputs<'a, E>, AllocError> {
+    let LiveRun {
+        studio,
+        options,
+        inputs,
+    } = run;
+    let PageLink { address, snapshots } = page;
     let mut faults = faults;
-    if options.stats.is_some() || page.is_some() {
-        write_address_line(studio, sockets, page, &mut faults);
+    if options.stats.is_some() || snapshots.is_some() {
+        write_address_line(studio, sockets, address, &mut faults);
     }
     write_end_hint(options.until_eof, &mut faults);
-    open_outputs(alloc, studio, options.stats, inputs, snapshots, faults)
+    let shown = StatusInputs {
+        names: inputs.names,
+        meter,
+    };
+    open_outputs(alloc, studio, options.stats, shown, snapshots, faults)
 }

@@ -1,16 +1,12 @@
 //! The supervisor of a run, which ends it on a signal or at the end of standard input, and publishes the status of a
 //! run by workers. `stop_conditions` finds signals, and `stop_flags` has the flags between the run and its supervisor.
-ghost use Rattle.std.specs.Prelude.{IfOk, IfErr};
-ghost use Rattle.live_run.specs.RunResult.{IsEarly};
 
-use crate::fault::LiveFault;
-use crate::scoped_thread::with_scoped_thread;
 use crate::supervisor::stop_conditions::{has_input_ended, is_stop_signal_pending};
 use crate::supervisor::stop_flags::StopFlags;
+use run_outputs::SideTask;
 use std::sync::Wait;
 use std::sync::atomic::Ordering;
-use std::thread::Threads;
-use std::time::Duration;
+use std::time::{Clock, Duration};
 
 pub(crate) mod stop_conditions;
 pub(crate) mod stop_flags;
@@ -43,63 +39,40 @@ impl<T: StatusTask> StatusTask for Option<T> {
     }
 }
 
-/// The supervisor of a run.
+/// The supervisor of a run, which works until the run sets the flag `finished`.
 #[derive(Drop)]
-pub(crate) struct Supervisor<T> {
+pub(crate) struct Supervisor<'a, T> {
     /// True if the run ends at the end of standard input.
     pub(crate) until_eof: bool,
+    /// The flags between it and the run.
+    pub(crate) flags: &'a StopFlags,
     /// The task that publishes the run's status.
     pub(crate) task: T,
 }
 
-impl<T: StatusTask> Supervisor<T> {
+impl<T: StatusTask> Supervisor<'_, T> {
     /// Sets the flag `stop` if the feeds are to end, and publishes the status if it is due.
-    fn poll(&mut self, flags: &StopFlags) {
+    fn poll(&mut self) {
         if is_stop_signal_pending() || self.until_eof && has_input_ended() {
-            flags.stop.store(true, Ordering::SeqCst);
+            self.flags.stop.store(true, Ordering::SeqCst);
         }
         self.task.poll();
     }
 }
 
-/// Polls again and again until the run has ended, and then publishes its status for the last time.
-fn supervise<R: Wait, T: StatusTask>(rt: &R, supervisor: Supervisor<T>, flags: &StopFlags) {
-    let mut supervisor = supervisor;
-    for _ in rt.forever() {
-        flags
-            .parker
-            .park_timeout(rt, Duration::from_millis(POLL_INTERVAL_MS));
-        if flags.finished.load(Ordering::SeqCst) {
-            supervisor.task.publish_last();
-            return;
+impl<T: StatusTask> SideTask for Supervisor<'_, T> {
+    fn complete<R: Wait + Clock>(self, rt: &R) {
+        let mut supervisor = self;
+        for _ in rt.forever() {
+            supervisor
+                .flags
+                .parker
+                .park_timeout(rt, Duration::from_millis(POLL_INTERVAL_MS));
+            if supervisor.flags.finished.load(Ordering::SeqCst) {
+                supervisor.task.publish_last();
+                return;
+            }
+            supervisor.poll();
         }
-        supervisor.poll(flags);
     }
-}
-
-/// Calls `run` in this thread, with the supervisor in another, and returns the result of `run` once both have ended.
-/// Returns `LiveFault::Thread` if no thread can be started; then `run` is not called.
-pub(crate) fn run_supervised<
-    R: Threads + Wait + Sync,
-    T: StatusTask + Send,
-    F: FnOnce() -> O + Drop,
-    O: Drop,
->(rt: &R, supervisor: Supervisor<T>, flags: &StopFlags, run: F) -> Result<O, LiveFault>
-    requires { F.pre run }
-    ensures ran { IfOk result (λ r. F.post run r) }
-    ensures early { IfErr result IsEarly }
-{
-    let (_, ran) = with_scoped_thread(
-        rt,
-        move || supervise(rt, supervisor, flags),
-        move || -> O
-            requires { F.pre run }
-            ensures { F.post run result }
-        {
-            let ran = run();
-            flags.set_finished();
-            ran
-        },
-    )?;
-    Ok(ran)
 }

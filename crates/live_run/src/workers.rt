@@ -8,15 +8,16 @@ ghost use Rattle.live_run.specs.RunResult.{IsEarly, IsRunOf};
 
 use crate::context::RunContext;
 use crate::fault::LiveFault;
-use crate::path_watch::{PathWatch, WatchedTask};
 use crate::shown_health::ShownHealth;
-use crate::supervisor::{Supervisor, run_supervised};
+use crate::socket_watch::{SocketWatch, WatchedTask};
+use crate::supervisor::Supervisor;
 use crate::workers::latest_stats::LatestStats;
 use crate::workers::rings::{Rings, open_rings};
 use crate::workers::status_task::WorkerStatusTask;
-use crate::workers::worker_run::prepare_workers;
+use crate::workers::worker_run::{prepare_workers, run_controlled};
 use live_io::{FeedFlags, RunPeriod, Sockets};
 use live_status::StatusPublisher;
+use run_outputs::{CreateOutput, OneTask, run_beside};
 use std::alloc::{AllocError, Global};
 use std::io::Write;
 use std::sync::Wait;
@@ -32,57 +33,68 @@ mod status_task;
 mod stream_status;
 mod worker_run;
 
-/// Runs a studio's workers, and the supervisor in another thread. Returns once all have ended. All memory but the
-/// workers' is allocated before the first thread starts. After an error there is no report.
-pub(crate) fn run_in_workers<'a, R: Threads + Wait + Sync + Clock, E: Write + Send + Drop>(
+/// Runs a studio's workers, and in other threads the supervisor and the tasks of its outputs, of which `outputs` has
+/// the part that takes the mix and the tasks. Returns once all have ended. All memory but the workers' is allocated
+/// before the first thread starts. After an error there is no report.
+pub(crate) fn run_in_workers<
+    'a,
+    R: Threads + Wait + Sync + Clock,
+    E: Write + Send + Drop,
+    O: CreateOutput,
+>(
     rt: &'a R,
     alloc: Global,
     studio: &'a StudioSpec,
     sockets: Sockets<'a>,
     context: RunContext<'a, R, E>,
+    outputs: (O::Mix, O::Tasks),
 ) -> Result<WorkReport, LiveFault>
     ensures run { IfOk result (IsRunOf false (is_some context.entry.gains) studio.now) }
     ensures early { IfErr result IsEarly }
 {
     // Without a status there are no rings for statistics, and the workers send none.
     let is_shown = context.status.publisher.is_some();
-    let rings = open_rings(alloc, studio, sockets.receiving.len(), is_shown)?;
-    let Rings { ends, receivers } = rings;
+    let Rings { ends, receivers } = open_rings(alloc, studio, sockets.receiving.len(), is_shown)?;
     let RunContext {
         period,
         until_eof,
         status,
         flags,
         health,
-        taps,
         shown,
         gains,
     } = context;
+    let (mix, tasks) = outputs;
     // No flags of sockets: each path has a thread of its own, whose feed may wait.
     let feed_flags = FeedFlags {
         stop: &flags.stop,
         ready: &[],
         health: health.paths(),
     };
-    let workers = prepare_workers(rt, alloc, ends, sockets, taps, period, feed_flags, gains)?;
+    let workers = prepare_workers(rt, alloc, ends, sockets, mix, period, feed_flags)?;
     let task = worker_status_task(rt, alloc, receivers, period, status.publisher, shown)?;
-    let watch = PathWatch::new(studio, health, is_shown);
+    let watch = SocketWatch::new(studio, health, is_shown);
     let supervisor = Supervisor {
         until_eof,
+        flags,
         task: WatchedTask { watch, task },
     };
-    run_supervised(
+    // The supervisor comes last: if it cannot be started, nothing waits for it.
+    run_beside(
         rt,
-        supervisor,
-        flags,
+        (tasks, OneTask::new(supervisor)),
         move || -> Result<WorkReport, LiveFault>
             requires sync { IsSync R.row }
             requires opened { AreOpenedTogether studio.now 256 workers.ends }
             requires feeds { length workers.feeds.items ≡ length workers.ends.paths.items }
             requires clocks { length workers.clocks.items ≡ length workers.ends.streams.items }
-            ensures run { IfOk result (IsRunOf false (is_some workers.entry.gains) studio.entry.now) }
+            ensures run { IfOk result (IsRunOf false (is_some gains.entry) studio.entry.now) }
             ensures early { IfErr result IsEarly }
-        { workers.run(rt, alloc, studio) },
+        {
+            let ran = run_controlled(rt, alloc, studio, workers, gains);
+            flags.set_finished();
+            ran
+        },
     )?
 }
 

@@ -55,7 +55,8 @@ impl<C: CreateOutput> CreateOutput for Option<C> {
 
     type Tasks = Option<C::Tasks>;
 
-    ghost begins = { λ is_controlled studio events mix. BeginsIf (λ one other. C.begins is_controlled studio one other) events mix };
+    ghost begins = { λ is_controlled studio events mix.
+        BeginsIf (λ one other. C.begins is_controlled studio one other) events mix };
 
     fn create(
         self,

@@ -1,6 +1,7 @@
 //! The explanations that `live --verbose` writes below the fault of a device: what could not be opened or read, and the
 //! system's error.
 use crate::fault::ProgramFault;
+use crate::run_files::path_of;
 use crate::wav_files::part_path;
 use command_line::LiveArgs;
 use live_io::UnopenedSocket;
@@ -9,6 +10,7 @@ use std::alloc::{AllocError, Global};
 use std::fmt::{Display, Formatter};
 use std::net::{Ipv4Addr, Net, SocketAddrV4, TcpListener};
 use std::{fmt, io};
+use studio_io::OutputKind;
 use thiserror::Error;
 
 /// The explanation of a fault of a clock.
@@ -103,15 +105,27 @@ fn explanation_of<R: Net, H: SystemErrors>(
     fault: LiveFault,
 ) -> Result<Option<Explanation>, AllocError> {
     match fault {
-        LiveFault::RecordExists => at_path(alloc, args.record, Reason::Exists),
-        LiveFault::Record => at_path(alloc, args.record, Reason::System(host.last_error())),
-        LiveFault::WavExists => at_wav(alloc, args.wav, begins, Reason::Exists),
-        LiveFault::Wav => { at_wav(alloc, args.wav, begins, Reason::System(host.last_error())) }
-        LiveFault::PcmExists => at_path(alloc, args.pcm, Reason::Exists),
-        LiveFault::Pcm => at_path(alloc, args.pcm, Reason::System(host.last_error())),
+        LiveFault::OutputExists(kind) => at_output(alloc, kind, args, begins, Reason::Exists),
+        LiveFault::Output(kind) => {
+            at_output(alloc, kind, args, begins, Reason::System(host.last_error()))
+        }
         LiveFault::Page => Ok(args.options.page.map(|port| page_explanation(rt, port))),
         LiveFault::Thread => Ok(Some(Explanation::Text(THREAD))),
         LiveFault::Memory | LiveFault::Socket | LiveFault::Unsettled | LiveFault::Write => Ok(None),
+    }
+}
+
+/// Returns the explanation of an output, if it has a path.
+fn at_output(
+    alloc: Global,
+    kind: OutputKind,
+    args: LiveArgs<'_>,
+    begins: Option<u64>,
+    reason: Reason,
+) -> Result<Option<Explanation>, AllocError> {
+    match kind {
+        OutputKind::Wav => at_wav(alloc, args.wav, begins, reason),
+        _ => at_path(alloc, path_of(kind, args), reason),
     }
 }
 

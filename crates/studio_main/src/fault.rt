@@ -85,13 +85,9 @@ impl ProgramFault {
     pub(crate) fn hint(&self) -> Option<&'static str> {
         match self {
             ProgramFault::Command(CommandFault::Config(fault)) => config_hint(*fault),
-            ProgramFault::Live(
-                LiveFault::Socket
-                | LiveFault::Page
-                | LiveFault::Record
-                | LiveFault::Wav
-                | LiveFault::Pcm,
-            ) => Some(DEVICE_HINT),
+            ProgramFault::Live(LiveFault::Socket | LiveFault::Page | LiveFault::Output(_)) => Some(
+                DEVICE_HINT,
+            ),
             ProgramFault::Control => Some(CONTROL_HINT),
             _ => None,
         }

@@ -11,7 +11,7 @@ use live_io::{
     InheritedSockets, LivePorts, RunHealth, SocketConfig, TaiOffset, TaiTime, UnexpectedSources,
     tai_now, unopened_socket,
 };
-use live_run::{LiveFault, LiveInputs, StreamName, Token, run_studio_live};
+use live_run::{LiveFault, LiveInputs, LiveRun, StreamName, Token, run_studio_live};
 use rtp_stream::Path;
 use std::alloc::{AllocError, Global};
 use std::io::Write;
@@ -51,12 +51,31 @@ pub(crate) fn run_live<
     faults: &mut H::Stderr,
     host: &H,
 ) -> Result<(), ProgramFault> {
-    let parts = wav_parts(rt, args)?;
-    let begins = parts.map(|parts| parts.at);
-    match load_and_run(rt, alloc, config, args, parts, output, faults, host) {
-        Err(fault) if args.verbose => Err(explained(rt, alloc, host, args, begins, fault)?),
+    let request = LiveRequest {
+        config,
+        args,
+        parts: wav_parts(rt, args)?,
+        host,
+    };
+    match load_and_run(rt, alloc, &request, output, faults) {
+        Err(fault) if args.verbose => {
+            let begins = request.parts.map(|parts| parts.at);
+            Err(explained(rt, alloc, host, args, begins, fault)?)
+        }
         ran => ran,
     }
+}
+
+/// The request of the command `live`.
+#[derive(Drop)]
+struct LiveRequest<'a, H> {
+    /// The octets of the configuration.
+    config: &'a [u8],
+    args: LiveArgs<'a>,
+    /// The division of the mix into WAV files, if it is divided.
+    parts: Option<AudioParts>,
+    /// The host of the files.
+    host: &'a H,
 }
 
 /// Runs the studio of a configuration's octets as `run_live` does. Only the fault of a socket is explained.
@@ -66,37 +85,34 @@ fn load_and_run<
 >(
     rt: &R,
     alloc: Global,
-    config: &[u8],
-    args: LiveArgs<'_>,
-    parts: Option<AudioParts>,
+    request: &LiveRequest<'_, H>,
     output: &mut H::Stdout,
     faults: &mut H::Stderr,
-    host: &H,
 ) -> Result<(), ProgramFault> {
+    let (config, args, host) = (request.config, request.args, request.host);
     let opened = open_studio(rt, alloc, parse_studio(alloc, config)?, args.tai_offset)?;
     let token = token_of(alloc, host, args.control)?;
-    let loaded = load_inputs(rt, alloc, &opened.studio, config, args.listen_fds)?;
+    let inputs = load_inputs(rt, alloc, &opened.studio, config, args.listen_fds)?;
     // The run creates its files once its sockets are bound. A file that is there already is refused before that.
-    let files = files_of(alloc, host, args, parts.map(|parts| parts.at))?;
+    let files = files_of(alloc, host, args, request.parts)?;
+    let loaded = LoadedRun {
+        opened,
+        inputs,
+        args,
+    };
     // Two calls, since the report goes to standard error if the samples go to standard output.
     if args.is_pcm_stdout() {
-        let mut report = host.stderr();
-        return run_loaded(
-            rt,
-            alloc,
-            &opened,
-            &loaded,
-            files,
-            parts,
-            token,
-            args,
-            &mut report,
-            faults,
-        );
+        return run_loaded(rt, alloc, &loaded, files, token, &mut host.stderr(), faults);
     }
-    run_loaded(
-        rt, alloc, &opened, &loaded, files, parts, token, args, output, faults,
-    )
+    run_loaded(rt, alloc, &loaded, files, token, output, faults)
+}
+
+/// A studio with the inputs of its run.
+#[derive(Drop)]
+struct LoadedRun<'a> {
+    opened: OpenedStudio,
+    inputs: LoadedInputs,
+    args: LiveArgs<'a>,
 }
 
 /// Runs a studio with its inputs, and with the files that its options name. Writes the report and the lines after it.
@@ -107,47 +123,42 @@ fn run_loaded<
 >(
     rt: &R,
     alloc: Global,
-    opened: &OpenedStudio,
-    loaded: &LoadedInputs,
+    loaded: &LoadedRun<'_>,
     files: RunFiles<'_, '_, H>,
-    parts: Option<AudioParts>,
     token: Option<Token>,
-    args: LiveArgs<'_>,
     output: &mut W,
     faults: &mut H::Stderr,
 ) -> Result<(), ProgramFault> {
-    let outputs = RunProgress::new();
-    let inputs = LiveInputs {
-        sockets: SocketConfig {
-            ports: &loaded.ports,
-            inherited: &loaded.inherited,
-            unexpected: &loaded.unexpected,
-            health: &loaded.health,
-            shares_groups: args.share_groups,
-        },
-        names: loaded.names.as_slice(),
-        outputs: &outputs,
-        parts,
-        began: opened.began,
-    };
-    let studio = &opened.studio;
-    let ran = run_studio_live(
-        rt,
-        alloc,
+    let (studio, args) = (&loaded.opened.studio, &loaded.args);
+    let progress = RunProgress::new();
+    let run = LiveRun {
         studio,
-        inputs,
-        &args.options,
-        output,
-        faults,
-        files.record.as_ref(),
-        files.wav.as_ref(),
-        files.pcm.as_ref(),
-        token,
-    );
+        options: &args.options,
+        inputs: live_inputs(loaded, &progress),
+    };
+    let outputs = files.outputs(&progress);
+    let ran = run_studio_live(rt, alloc, run, outputs, token, output, faults);
     if args.verbose && matches!(ran, Err(LiveFault::Socket)) {
-        return Err(socket_fault(alloc, studio, inputs.sockets)?);
+        return Err(socket_fault(alloc, studio, run.inputs.sockets)?);
     }
-    finish(ran, studio, inputs, args, output)
+    finish(ran, studio, run.inputs, loaded.args, output)
+}
+
+/// Returns the inputs of a run, whose outputs set this progress.
+fn live_inputs<'a>(loaded: &'a LoadedRun<'_>, progress: &'a RunProgress) -> LiveInputs<'a> {
+    let inputs = &loaded.inputs;
+    LiveInputs {
+        sockets: SocketConfig {
+            ports: &inputs.ports,
+            inherited: &inputs.inherited,
+            unexpected: &inputs.unexpected,
+            health: &inputs.health,
+            shares_groups: loaded.args.share_groups,
+        },
+        names: inputs.names.as_slice(),
+        outputs: progress,
+        began: loaded.opened.began,
+    }
 }
 
 /// Returns the fault of a run whose sockets could not all be opened, explained if the socket is known. Returns

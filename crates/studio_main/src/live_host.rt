@@ -7,15 +7,18 @@ use crate::token_file::TokenFiles;
 use file_commands::Host;
 use live_io::{RecordFault, RecordFile};
 use std::alloc::{AllocError, Global};
-use wav_file::{PcmFault, PcmOutput, WavFiles};
+use wav_file::{LiveWavFile, PcmFault, PcmOutput, WavFiles};
 
 /// The host of a live run: the types of the files that it creates, by their paths.
 pub(crate) trait LiveHost: Host + TokenFiles + SystemErrors {
     /// The file of the record.
     type Record: RecordFile + Send + Drop;
 
+    /// A WAV file of the mix.
+    type WavFile: LiveWavFile + Send + Drop;
+
     /// The WAV files of the mix.
-    type Audio: WavFiles + Send + Drop;
+    type Audio: WavFiles<File = Self::WavFile> + Send + Drop;
 
     /// The output of the raw PCM.
     type Pcm: PcmOutput + Send + Drop;

@@ -32,7 +32,7 @@ use crate::pcm_output::SystemPcm;
 use crate::program::run;
 use crate::std_fds::open_missing_fds;
 use crate::token_file::{TokenFiles, open_private};
-use crate::wav_files::SystemWavFiles;
+use crate::wav_files::{SystemAudio, SystemWavFiles};
 use file_commands::{CommandFault, Host};
 use live_io::{RecordFault, RecordFile};
 use std::alloc::{AllocError, Global};
@@ -114,6 +114,8 @@ impl Host for SystemHost<'_> {
 
 impl<'a> LiveHost for SystemHost<'a> {
     type Record = SystemRecord;
+
+    type WavFile = SystemAudio;
 
     type Audio = SystemWavFiles<'a>;
 

@@ -4,13 +4,15 @@ use crate::live_host::LiveHost;
 use crate::wav_files::part_path;
 use command_line::LiveArgs;
 use file_commands::{Host, is_one_file};
-use live_io::{CreateRecord, RecordFault};
+use live_audio::{AudioParts, RawPcmOutput, WavOutput};
+use live_io::{CreateRecord, RecordFault, RecordOutput};
 use live_run::LiveFault;
 use std::alloc::{AllocError, Global};
+use studio_io::{OutputKind, RunProgress};
 use wav_file::{CreateLiveWav, CreatePcm, PcmFault};
 
 /// A path of the host's files, at which a run creates a file.
-#[derive(Clone, Copy)]
+#[derive(Drop)]
 pub(crate) struct RunPath<'h, 'p, H> {
     host: &'h H,
     path: &'p str,
@@ -19,11 +21,57 @@ pub(crate) struct RunPath<'h, 'p, H> {
 }
 
 /// The paths at which a run creates its files, each if it is wanted.
-#[derive(Clone, Copy)]
+#[derive(Drop)]
 pub(crate) struct RunFiles<'h, 'p, H> {
-    pub(crate) record: Option<RunPath<'h, 'p, H>>,
-    pub(crate) wav: Option<RunPath<'h, 'p, H>>,
-    pub(crate) pcm: Option<RunPath<'h, 'p, H>>,
+    record: Option<RunPath<'h, 'p, H>>,
+    wav: Option<RunPath<'h, 'p, H>>,
+    pcm: Option<RunPath<'h, 'p, H>>,
+    /// The division of the mix into WAV files, if it is divided.
+    parts: Option<AudioParts>,
+}
+
+/// The outputs of a run, each if it is wanted.
+type RunOutputs<'a, P> = (
+    Option<RecordOutput<'a, P>>,
+    (Option<WavOutput<'a, P>>, Option<RawPcmOutput<'a, P>>),
+);
+
+impl<'h, 'p, H> RunFiles<'h, 'p, H> {
+    /// Returns the outputs that are written to these files, and set this progress.
+    pub(crate) fn outputs<'a>(
+        self,
+        progress: &'a RunProgress,
+    ) -> RunOutputs<'a, RunPath<'h, 'p, H>> {
+        let RunFiles {
+            record,
+            wav,
+            pcm,
+            parts,
+        } = self;
+        let record = record.map(|creator| RecordOutput {
+            creator,
+            progress: progress.of(OutputKind::Record),
+        });
+        let wav = wav.map(|creator| WavOutput {
+            creator,
+            parts,
+            progress: progress.of(OutputKind::Wav),
+        });
+        let pcm = pcm.map(|creator| RawPcmOutput {
+            creator,
+            progress: progress.of(OutputKind::Pcm),
+        });
+        (record, (wav, pcm))
+    }
+}
+
+/// Returns the path that the options name for the output of a kind, if they name one.
+pub(crate) fn path_of<'p>(kind: OutputKind, args: LiveArgs<'p>) -> Option<&'p str> {
+    match kind {
+        OutputKind::Record => args.record,
+        OutputKind::Wav => args.wav,
+        OutputKind::Pcm => args.pcm,
+    }
 }
 
 impl<H: LiveHost> CreateRecord for RunPath<'_, '_, H> {
@@ -35,6 +83,8 @@ impl<H: LiveHost> CreateRecord for RunPath<'_, '_, H> {
 }
 
 impl<H: LiveHost> CreateLiveWav for RunPath<'_, '_, H> {
+    type WavFile = H::WavFile;
+
     type Audio = H::Audio;
 
     fn wav_files(&self, alloc: Global) -> Result<H::Audio, AllocError> {
@@ -55,15 +105,16 @@ fn file_of(path: &str) -> Option<&str> {
     if path == "-" { None } else { Some(path) }
 }
 
-/// Returns the paths of the files that are wanted. `begins` is the time of the first sample, if each WAV file has
-/// its time in its name. Returns a fault if something is at one of them, other than a FIFO for raw PCM, if two of them
-/// are one file, or if an allocation fails.
+/// Returns the paths of the files that are wanted, for a mix that is divided into these parts. Each of their WAV files
+/// has the time of its first sample in its name. Returns a fault if something is at one of them, other than a FIFO for
+/// raw PCM, if two of them are one file, or if an allocation fails.
 pub(crate) fn files_of<'h, 'p, H: LiveHost>(
     alloc: Global,
     host: &'h H,
     args: LiveArgs<'p>,
-    begins: Option<u64>,
+    parts: Option<AudioParts>,
 ) -> Result<RunFiles<'h, 'p, H>, ProgramFault> {
+    let begins = parts.map(|parts| parts.at);
     match (args.wav, begins) {
         (Some(path), Some(at)) => {
             let first = part_path(alloc, path, at)?;
@@ -76,6 +127,7 @@ pub(crate) fn files_of<'h, 'p, H: LiveHost>(
         record: args.record.map(place),
         wav: args.wav.map(place),
         pcm: args.pcm.map(place),
+        parts,
     })
 }
 
@@ -91,8 +143,8 @@ fn refuse_files<H: LiveHost>(
     refuse_one_place(host, args.record, pcm, "--record and --pcm")?;
     refuse_one_place(host, wav, pcm, "--wav and --pcm")?;
     refuse_pcm(host, pcm)?;
-    refuse_taken(host, args.record, LiveFault::RecordExists)?;
-    refuse_taken(host, wav, LiveFault::WavExists)
+    refuse_taken(host, args.record, OutputKind::Record)?;
+    refuse_taken(host, wav, OutputKind::Wav)
 }
 
 /// Refuses two files that are one, which `words` names by their options.
@@ -115,20 +167,20 @@ fn refuse_one_place<H: Host>(
 fn refuse_pcm<H: LiveHost>(host: &H, path: Option<&str>) -> Result<(), ProgramFault> {
     match path {
         Some(path) if host.has(path) && !host.is_fifo(path) => {
-            Err(ProgramFault::Live(LiveFault::PcmExists))
+            Err(ProgramFault::Live(LiveFault::OutputExists(OutputKind::Pcm)))
         }
         _ => Ok(()),
     }
 }
 
-/// Refuses a path with this fault if something is there.
+/// Refuses the path of the output of a kind if something is there.
 fn refuse_taken<H: LiveHost>(
     host: &H,
     path: Option<&str>,
-    exists: LiveFault,
+    kind: OutputKind,
 ) -> Result<(), ProgramFault> {
     match path {
-        Some(path) if host.has(path) => Err(ProgramFault::Live(exists)),
+        Some(path) if host.has(path) => Err(ProgramFault::Live(LiveFault::OutputExists(kind))),
         _ => Ok(()),
     }
 }

@@ -42,9 +42,12 @@ impl<D: RecordFile + Drop> SideTask for RecordTask<'_, D> {
 }
 
 impl EventOutput for RecordObserver<'_> {
-    ghost arrives = { λ old datagram new. PutsPacket old.open_at datagram.time datagram.origin datagram.octets old.end new.end };
+    ghost arrives = { λ old datagram new.
+        PutsPacket old.open_at datagram.time datagram.origin datagram.octets old.end new.end };
 
-    ghost changes = { λ old change new. PutsChange old.open_at old.gains_interface change.time change.at change.next_block change.gains old.end new.end };
+    ghost changes = { λ old change new.
+        PutsChange old.open_at old.gains_interface change.time change.at change.next_block change.gains old.end
+        new.end };
 
     ghost closes = { λ old time new. PutsClose old.open_at time old.end new.end };
 

@@ -1,36 +1,41 @@
 //! The feeds, the clock, the sink and the wait of a run in one thread.
-ghost use Rattle.std.specs.Prelude.{◌≡◌, is_some, None, true, IfOk, IfErr};
-ghost use Rattle.live_run.specs.RunResult.{IsEarly, IsRunOf, IsRunWith};
+ghost use Rattle.std.specs.Prelude.{◌≡◌, None, true, IfOk, IfErr};
+ghost use Rattle.live_run.specs.RunResult.{IsEarly, IsRunWith};
 
 use crate::fault::LiveFault;
 use crate::single_thread::observer::LiveObserver;
 use crate::single_thread::socket_wait::SocketWait;
-use engine_run::run_engine;
-use live_audio::{AudioTaps, TappedSink};
+use engine_run::{RunDevices, run_engine};
 use live_io::{FeedFlags, RunPeriod, Sockets, SystemClock, UdpFeed, UdpSink, udp_feeds};
-use live_status::{Meter, RunGains};
-use std::alloc::Global;
+use live_status::Meter;
+use run_outputs::{EventOutput, MixOutput, OutputSink};
+use std::alloc::{AllocError, Global};
 use std::io::Write;
 use std::sync::Wait;
 use std::time::Clock;
 use studio_config::StudioSpec;
-use studio_io::{GainSource, NoGains, OutputProgress, SendAnswer, Sink, WorkReport};
-
-/// The feeds, the clock, the sink and the wait of a run in one thread, and its source of gains.
-#[derive(Drop)]
-pub(crate) struct SingleThreadRun<'a, R: Wait + Clock> {
-    devices: EngineDevices<'a, R>,
-    /// The source of changes of gains, if they can be changed.
-    pub(crate) gains: Option<RunGains<'a, R>>,
-}
+use studio_io::{GainSource, SendAnswer, Sink, WorkReport};
 
 /// The feeds, the clock, the sink and the wait of a run in one thread.
 #[derive(Drop)]
-struct EngineDevices<'a, R: Wait + Clock> {
+pub(crate) struct EngineDevices<'a, R: Wait + Clock, M> {
     feeds: Vec<UdpFeed<'a, R>>,
     clock: SystemClock<'a, R>,
-    sink: MeteredSink<'a, TappedSink<'a, UdpSink<'a>>>,
+    sink: MeteredSink<'a, OutputSink<UdpSink<'a>, M>>,
     wait: SocketWait<'a, R>,
+}
+
+/// The settings of these devices.
+#[derive(Clone, Copy)]
+pub(crate) struct IoSettings<'a> {
+    /// The start of the run, and its end by the clock.
+    pub(crate) period: RunPeriod,
+    /// The flags that the feeds share with the wait and with the supervisor.
+    pub(crate) flags: FeedFlags<'a>,
+    /// The meter of the mix. `None` if there is no page.
+    pub(crate) meter: Option<&'a Meter>,
+    /// True if the gains can be changed while the run goes on.
+    pub(crate) is_controlled: bool,
 }
 
 /// A sink with a meter, if there is one.
@@ -55,71 +60,47 @@ impl<K: Sink> Sink for MeteredSink<'_, K> {
     }
 }
 
-/// Returns the feeds of these sockets, and the clock, the sink and the wait of a studio's run, with its source of
-/// gains.
-pub(crate) fn prepare_engine_io<'a, R: Wait + Clock>(
+/// Returns the feeds of these sockets, and the clock, the sink and the wait of a studio's run. The sink passes the mix
+/// to `mix` too. Returns `AllocError` if an allocation fails.
+pub(crate) fn prepare_engine_io<'a, R: Wait + Clock, M: MixOutput>(
     rt: &'a R,
     alloc: Global,
     studio: &StudioSpec,
     sockets: Sockets<'a>,
-    taps: AudioTaps<'a>,
-    period: RunPeriod,
-    flags: FeedFlags<'a>,
-    meter: Option<&'a Meter>,
-    gains: Option<RunGains<'a, R>>,
-) -> Result<SingleThreadRun<'a, R>, LiveFault>
-    ensures gains { IfOk result (λ run. run.gains ≡ gains.entry) }
-    ensures early { IfErr result IsEarly }
-{
+    mix: M,
+    settings: IoSettings<'a>,
+) -> Result<EngineDevices<'a, R, M>, AllocError> {
+    let IoSettings {
+        period,
+        flags,
+        meter,
+        is_controlled,
+    } = settings;
     let Sockets { receiving, sink } = sockets;
     let clock = period.clock(rt);
     // The wait takes the descriptors before the feeds take the sockets.
     let receivers = receiving.as_slice();
-    let wait = SocketWait::new(rt, alloc, studio, receivers, flags, clock, gains.is_some())?;
+    let wait = SocketWait::new(rt, alloc, studio, receivers, flags, clock, is_controlled)?;
     let feeds = udp_feeds(rt, alloc, receiving, period, flags)?;
-    let devices = EngineDevices {
+    Ok(EngineDevices {
         feeds,
         clock: period.clock(rt),
         sink: MeteredSink {
-            sink: TappedSink::new(sink, taps),
+            sink: OutputSink::new(sink, mix),
             meter,
         },
         wait,
-    };
-    Ok(SingleThreadRun { devices, gains })
+    })
 }
 
-impl<R: Wait + Clock> SingleThreadRun<'_, R> {
-    /// Runs an engine in this thread, and sets the number of datagrams that its record was passed.
-    pub(crate) fn run<E: Write + Drop>(
+impl<R: Wait + Clock, M: MixOutput> EngineDevices<'_, R, M> {
+    /// Runs an engine with this observer and this source of gains.
+    pub(crate) fn run<E: Write + Drop, V: EventOutput, G: GainSource>(
         self,
         rt: &R,
         alloc: Global,
         studio: &StudioSpec,
-        observer: LiveObserver<'_, E>,
-        recorded: &OutputProgress,
-    ) -> Result<WorkReport, LiveFault>
-        ensures run { IfOk result (IsRunOf true (is_some self.entry.gains) studio.now) }
-        ensures early { IfErr result IsEarly }
-    {
-        let SingleThreadRun { devices, gains } = self;
-        // Two calls, so that a run without control is proved to take no change.
-        match gains {
-            Some(gains) => devices.run(rt, alloc, studio, observer, recorded, gains),
-            None => devices.run(rt, alloc, studio, observer, recorded, NoGains),
-        }
-    }
-}
-
-impl<R: Wait + Clock> EngineDevices<'_, R> {
-    /// Runs an engine with this source of gains, and sets the number of datagrams that its record was passed.
-    fn run<E: Write + Drop, G: GainSource>(
-        self,
-        rt: &R,
-        alloc: Global,
-        studio: &StudioSpec,
-        observer: LiveObserver<'_, E>,
-        recorded: &OutputProgress,
+        observer: LiveObserver<'_, E, V>,
         gains: G,
     ) -> Result<WorkReport, LiveFault>
         ensures run { IfOk result (λ report. (after : G)
@@ -132,10 +113,15 @@ impl<R: Wait + Clock> EngineDevices<'_, R> {
             sink,
             wait,
         } = self;
-        let (report, _sink, observer, _gains) = run_engine(
-            rt, alloc, studio, feeds, clock, sink, observer, wait, gains,
-        )?;
-        recorded.set_given(observer.received());
+        let devices = RunDevices {
+            feeds,
+            clock,
+            sink,
+            observer,
+            wait,
+            gains,
+        };
+        let (report, _sink, _observer, _gains) = run_engine(rt, alloc, studio, devices)?;
         Ok(report)
     }
 }

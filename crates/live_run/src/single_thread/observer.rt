@@ -1,15 +1,16 @@
-//! The observer of a run in one thread: its record and its status, if these are wanted.
+//! The observer of a run in one thread: the outputs that take its events, and its status.
 ghost use Rattle.std.specs.Prelude.{◌≡◌, ℕ, [], ◌∷◌, None, IfOk};
 ghost use Rattle.mix_packets.specs.Block.{block_start};
 ghost use Rattle.engine_run.specs.Observers.{Came, Closed, Hears};
-ghost use Rattle.live_run.specs.Observed.{RecordsChange, RecordsClose, RecordsPacket};
+ghost use Rattle.run_outputs.specs.Events.{arrival, taken_change};
 
 use crate::shown_health::ShownHealth;
 use engine_run::RunObserver;
-use live_io::{DatagramOrigin, RecordObserver, UdpFeed};
+use live_io::UdpFeed;
 use live_status::{EngineStatus, StatusOutputs};
 use mix_packets::OutSpec;
 use rtp_stream::Path;
+use run_outputs::{ArrivedDatagram, DatagramOrigin, EventOutput, TakenChange};
 use std::alloc::{AllocError, Global};
 use std::io::Write;
 use std::time::Clock;
@@ -17,26 +18,26 @@ use studio_config::StudioSpec;
 use studio_engine::Engine;
 use studio_session::ArriveOutcome;
 
-/// The observer of a run in one thread, with its record and its status, each if it is wanted.
+/// The observer of a run in one thread, with the outputs that take its events, and its status if it is wanted.
 #[derive(Drop)]
-pub(crate) struct LiveObserver<'v, E> {
-    record: Option<RecordObserver<'v>>,
+pub(crate) struct LiveObserver<'v, E, V> {
+    outputs: V,
     status: Option<EngineStatus<'v, E, ShownHealth<'v>>>,
 }
 
-impl<'v, E: Write + Drop> LiveObserver<'v, E> {
+impl<'v, E: Write + Drop, V: EventOutput> LiveObserver<'v, E, V> {
     /// Returns the observer of a run of this studio, which was notified of nothing yet. Allocates all its memory, and
     /// returns `AllocError` if that fails.
     pub(crate) fn new(
         alloc: Global,
         studio: &StudioSpec,
-        record: Option<RecordObserver<'v>>,
-        outputs: StatusOutputs<'v, E>,
+        outputs: V,
+        status: StatusOutputs<'v, E>,
         health: ShownHealth<'v>,
-    ) -> Result<LiveObserver<'v, E>, AllocError>
-        ensures kept { IfOk result (λ observer. observer.«record» ≡ «record».entry) }
+    ) -> Result<LiveObserver<'v, E, V>, AllocError>
+        ensures kept { IfOk result (λ observer. observer.outputs ≡ outputs) }
     {
-        let StatusOutputs { publisher, meter } = outputs;
+        let StatusOutputs { publisher, meter } = status;
         let status = match publisher {
             Some(publisher) => Some(EngineStatus::new(
                 alloc,
@@ -47,22 +48,15 @@ impl<'v, E: Write + Drop> LiveObserver<'v, E> {
             )?),
             None => None,
         };
-        Ok(LiveObserver { record, status })
-    }
-
-    /// Returns the number of datagrams that the record was passed.
-    pub(crate) fn received(&self) -> u64 {
-        match &self.record {
-            Some(record) => record.received(),
-            None => 0,
-        }
+        Ok(LiveObserver { outputs, status })
     }
 }
 
-impl<'a, R: Clock, E: Write + Drop> RunObserver<UdpFeed<'a, R>> for LiveObserver<'_, E> {
-    ghost heard = { λ tap. None };
+impl<'a, R: Clock, E: Write + Drop, V: EventOutput> RunObserver<UdpFeed<'a, R>>
+    for LiveObserver<'_, E, V> {
+    ghost heard = { λ observer. None };
 
-    ghost noted = { λ tap. None };
+    ghost noted = { λ observer. None };
 
     fn arrived(
         &mut self,
@@ -73,25 +67,37 @@ impl<'a, R: Clock, E: Write + Drop> RunObserver<UdpFeed<'a, R>> for LiveObserver
         receipt: ArriveOutcome,
         feed: &UdpFeed<'a, R>,
     )
-        ensures recorded { (origin : DatagramOrigin)
-            × RecordsPacket engine.now.time origin octets.now self.old.«record» self.new.«record» }
+        ensures arrived { (origin : DatagramOrigin)
+            × V.arrives self.old.outputs (arrival stream path origin engine.now.time octets.now) self.new.outputs }
     {
-        record_datagram(&mut self.record, engine.time(), octets, &feed.origin());
+        self.outputs.arrived(&ArrivedDatagram {
+            stream,
+            path,
+            origin: feed.origin(),
+            time: engine.time(),
+            octets,
+        });
         if let Some(status) = &mut self.status {
             status.note(engine, stream, path, octets, receipt);
         }
     }
 
     fn changed(&mut self, engine: &Engine, at: i64, gains: &[i32])
-        ensures recorded { RecordsChange engine.now.time at engine.now.mixer.packer.number gains.now
-            self.old.«record» self.new.«record» }
+        ensures changed { V.changes self.old.outputs
+            (taken_change engine.now.time at engine.now.mixer.packer.number gains.now) self.new.outputs }
     {
-        let number = block_number(engine.output(), engine.next_block_start());
-        record_change(&mut self.record, engine.time(), at, number, gains);
+        let time = engine.time();
+        let next_block = block_number(engine.output(), engine.next_block_start());
+        self.outputs.changed(&TakenChange {
+            time,
+            at,
+            next_block,
+            gains,
+        });
     }
 
     fn before_wait(&mut self, engine: &Engine)
-        ensures recorded { self.new.«record» ≡ self.old.«record» }
+        ensures same { self.new.outputs ≡ self.old.outputs }
     {
         if let Some(status) = &mut self.status {
             status.publish_if_due(engine);
@@ -99,41 +105,12 @@ impl<'a, R: Clock, E: Write + Drop> RunObserver<UdpFeed<'a, R>> for LiveObserver
     }
 
     fn closed(&mut self, engine: &Engine)
-        ensures recorded { RecordsClose engine.now.time self.old.«record» self.new.«record» }
+        ensures closed { V.closes self.old.outputs engine.now.time self.new.outputs }
     {
-        record_close(&mut self.record, engine.time());
+        self.outputs.closed(engine.time());
         if let Some(status) = &mut self.status {
             status.publish_last(engine);
         }
-    }
-}
-
-/// Puts the datagram that arrived into the record, if there is one.
-fn record_datagram(
-    record: &mut Option<RecordObserver<'_>>,
-    time: i64,
-    octets: &[u8],
-    origin: &DatagramOrigin,
-)
-    ensures { RecordsPacket time origin.now octets.now «record».old «record».new }
-{
-    if let Some(record) = record {
-        record.arrived(time, octets, origin);
-    }
-}
-
-/// Puts a change of gains into the record, if there is one.
-fn record_change(
-    record: &mut Option<RecordObserver<'_>>,
-    time: i64,
-    at: i64,
-    next_block: u64,
-    gains: &[i32],
-)
-    ensures { RecordsChange time at next_block gains.now «record».old «record».new }
-{
-    if let Some(record) = record {
-        record.changed(time, at, next_block, gains);
     }
 }
 
@@ -144,13 +121,4 @@ fn block_number(output: &OutSpec, start: i64) -> u64
     // Nothing is limited here: a block begins at the output's start or after it.
     let instants = start.saturating_sub(output.start());
     u64::try_from(instants).unwrap_or(0) / u64::from(output.frames())
-}
-
-/// Puts the close into the record, if there is one.
-fn record_close(record: &mut Option<RecordObserver<'_>>, time: i64)
-    ensures { RecordsClose time «record».old «record».new }
-{
-    if let Some(record) = record {
-        record.closed(time);
-    }
 }

@@ -4,9 +4,9 @@ ghost use Rattle.studio_rings.specs.StreamResults.{AreOpenedTogether};
 ghost use Rattle.live_run.specs.RunResult.{IsEarly, IsRunOf, IsRunWith};
 
 use crate::fault::LiveFault;
-use live_audio::{AudioTaps, TappedSink};
 use live_io::{FeedFlags, RunPeriod, Sockets, SystemClock, UdpFeed, UdpSink, udp_feeds};
 use live_status::RunGains;
+use run_outputs::{MixOutput, OutputSink};
 use std::alloc::{AllocError, Global};
 use std::sync::Wait;
 use std::thread::Threads;
@@ -18,42 +18,36 @@ use studio_rings::{WorkReport, run_workers_with_gains};
 
 /// The ends of the rings, the feeds, the clocks and the sink of a run's workers.
 #[derive(Drop)]
-pub(crate) struct WorkerRun<'a, R: Wait + Clock> {
+pub(crate) struct WorkerDevices<'a, R: Clock, M> {
     pub(crate) ends: Ends,
     pub(crate) feeds: Vec<UdpFeed<'a, R>>,
     pub(crate) clocks: Vec<SystemClock<'a, R>>,
-    sink: TappedSink<'a, UdpSink<'a>>,
-    /// The source of changes of gains, if they can be changed.
-    pub(crate) gains: Option<RunGains<'a, R>>,
+    sink: OutputSink<UdpSink<'a>, M>,
 }
 
-/// Returns the parts of the workers on these rings and sockets: a feed for each path, a clock for each stream, and the
-/// sink with its taps.
-/// Returns `AllocError` if an allocation fails.
-pub(crate) fn prepare_workers<'a, R: Wait + Clock>(
+/// Returns the devices of the workers on these rings and sockets: a feed for each path, a clock for each stream, and
+/// the sink, which passes the mix to `mix` too. Returns `AllocError` if an allocation fails.
+pub(crate) fn prepare_workers<'a, R: Wait + Clock, M: MixOutput>(
     rt: &'a R,
     alloc: Global,
     ends: Ends,
     sockets: Sockets<'a>,
-    taps: AudioTaps<'a>,
+    mix: M,
     period: RunPeriod,
     flags: FeedFlags<'a>,
-    gains: Option<RunGains<'a, R>>,
-) -> Result<WorkerRun<'a, R>, AllocError>
+) -> Result<WorkerDevices<'a, R, M>, AllocError>
     ensures ends { IfOk result (λ workers. workers.ends ≡ ends) }
     ensures feeds { IfOk result (λ workers. length workers.feeds.items ≡ length sockets.entry.receiving.items) }
     ensures clocks { IfOk result (λ workers. length workers.clocks.items ≡ length ends.streams.items) }
-    ensures gains { IfOk result (λ workers. workers.gains ≡ gains.entry) }
 {
     let Sockets { receiving, sink } = sockets;
     let clocks = clocks_of(rt, alloc, ends.streams.len(), period)?;
     let feeds = udp_feeds(rt, alloc, receiving, period, flags)?;
-    Ok(WorkerRun {
+    Ok(WorkerDevices {
         ends,
         feeds,
         clocks,
-        sink: TappedSink::new(sink, taps),
-        gains,
+        sink: OutputSink::new(sink, mix),
     })
 }
 
@@ -73,57 +67,55 @@ fn clocks_of<R: Clock>(
     Ok(clocks)
 }
 
-impl<R: Threads + Wait + Sync + Clock> WorkerRun<'_, R> {
-    /// Runs the workers of a studio. Returns the report once all have ended.
-    pub(crate) fn run(
+/// Runs the workers of a studio, whose gains can be changed if there is a source. Returns the report once all have
+/// ended.
+pub(crate) fn run_controlled<'a, R: Threads + Wait + Sync + Clock, M: MixOutput>(
+    rt: &R,
+    alloc: Global,
+    studio: &StudioSpec,
+    workers: WorkerDevices<'a, R, M>,
+    gains: Option<RunGains<'a, R>>,
+) -> Result<WorkReport, LiveFault>
+    requires opened { AreOpenedTogether studio.now 256 workers.ends }
+    requires feeds { length workers.feeds.items ≡ length workers.ends.paths.items }
+    requires clocks { length workers.clocks.items ≡ length workers.ends.streams.items }
+    ensures run { IfOk result (IsRunOf false (is_some gains.entry) studio.now) }
+    ensures early { IfErr result IsEarly }
+{
+    // Two calls, so that a run without control is proved to take no change.
+    match gains {
+        Some(gains) => workers.run(rt, alloc, studio, gains),
+        None => workers.run(rt, alloc, studio, NoGains),
+    }
+}
+
+impl<R: Threads + Wait + Sync + Clock, M: MixOutput> WorkerDevices<'_, R, M> {
+    /// Runs the workers of a studio with this source of gains. Returns the report once all have ended.
+    fn run<G: GainSource>(
         self,
         rt: &R,
         alloc: Global,
         studio: &StudioSpec,
+        gains: G,
     ) -> Result<WorkReport, LiveFault>
         requires opened { AreOpenedTogether studio.now 256 self.ends }
         requires feeds { length self.feeds.items ≡ length self.ends.paths.items }
         requires clocks { length self.clocks.items ≡ length self.ends.streams.items }
-        ensures run { IfOk result (IsRunOf false (is_some self.entry.gains) studio.now) }
+        ensures run { IfOk result (λ report. (after : G)
+            × IsRunWith false studio.now report (G.taken gains) (G.taken after)) }
         ensures early { IfErr result IsEarly }
     {
-        let WorkerRun {
+        // Called for its contract alone, which says that the studio is sound: the proof of this function needs that.
+        let _open_at = studio.open_at();
+        let WorkerDevices {
             ends,
             feeds,
             clocks,
             sink,
-            gains,
         } = self;
-        // Two calls, so that a run without control is proved to take no change.
-        match gains {
-            Some(gains) => run_with_gains(rt, alloc, studio, ends, feeds, clocks, sink, gains),
-            None => run_with_gains(rt, alloc, studio, ends, feeds, clocks, sink, NoGains),
-        }
+        let (report, _sink, _gains) = run_workers_with_gains(
+            rt, alloc, ends, feeds, clocks, sink, gains,
+        )?;
+        Ok(report)
     }
-}
-
-/// Runs the workers of a studio with this source of gains. Returns the report once all have ended.
-fn run_with_gains<'a, R: Threads + Wait + Sync + Clock, G: GainSource>(
-    rt: &R,
-    alloc: Global,
-    studio: &StudioSpec,
-    ends: Ends,
-    feeds: Vec<UdpFeed<'a, R>>,
-    clocks: Vec<SystemClock<'a, R>>,
-    sink: TappedSink<'a, UdpSink<'a>>,
-    gains: G,
-) -> Result<WorkReport, LiveFault>
-    requires opened { AreOpenedTogether studio.now 256 ends }
-    requires feeds { length feeds.items ≡ length ends.paths.items }
-    requires clocks { length clocks.items ≡ length ends.streams.items }
-    ensures run { IfOk result (λ report. (after : G)
-        × IsRunWith false studio.now report (G.taken gains) (G.taken after)) }
-    ensures early { IfErr result IsEarly }
-{
-    // Called for its contract alone, which says that the studio is sound: the proof of this function needs that.
-    let _open_at = studio.open_at();
-    let (report, _sink, _gains) = run_workers_with_gains(
-        rt, alloc, ends, feeds, clocks, sink, gains,
-    )?;
-    Ok(report)
 }

@@ -1,7 +1,7 @@
 use Rattle.std.proofs.Common.{◌≡◌, [], None, true, refl}
 use Rattle.studio_io.specs.declared.gain_source.NoGains.{NoGains}
 use Rattle.live_run.proofs.RunLemmas.{uncontrolled}
-use Rattle.live_run.proofs.single_thread.engine_io.SingleThreadRun.run.Goals as goal
+use Rattle.live_run.proofs.single_thread.SingleThreadRun.run.Goals as goal
 
 pub returns-in-None-clause-run : goal.returns-in-None-clause-run
 returns-in-None-clause-run g c =

@@ -20,7 +20,7 @@ const END_TEXT: &[u8] = b": ended after 1000 socket errors\n";
 
 /// The watch of a run's sockets, which the supervisor's thread polls.
 #[derive(Drop)]
-pub(crate) struct PathWatch<'a> {
+pub(crate) struct SocketWatch<'a> {
     streams: &'a [StreamSpec],
     health: &'a RunHealth,
     /// True if the status of the run is shown, which has the kernel's drops.
@@ -38,14 +38,14 @@ struct WrittenLines {
     end: bool,
 }
 
-impl<'a> PathWatch<'a> {
+impl<'a> SocketWatch<'a> {
     /// Returns the watch of a run of this studio. The kernel's drops are read if the status of the run is shown.
     pub(crate) fn new(
         studio: &'a StudioSpec,
         health: &'a RunHealth,
         is_shown: bool,
-    ) -> PathWatch<'a> {
-        PathWatch {
+    ) -> SocketWatch<'a> {
+        SocketWatch {
             streams: studio.streams(),
             health,
             is_shown,
@@ -84,7 +84,7 @@ impl<'a> PathWatch<'a> {
     }
 }
 
-impl StatusTask for PathWatch<'_> {
+impl StatusTask for SocketWatch<'_> {
     fn poll(&mut self) {
         self.read_drops_if_due();
         self.write_lines();
@@ -98,7 +98,7 @@ impl StatusTask for PathWatch<'_> {
 /// A task of the supervisor, and the watch of the sockets before it.
 #[derive(Drop)]
 pub(crate) struct WatchedTask<'a, T> {
-    pub(crate) watch: PathWatch<'a>,
+    pub(crate) watch: SocketWatch<'a>,
     pub(crate) task: T,
 }
 

@@ -1,4 +1,4 @@
-use Rattle.live_run.proofs.workers.worker_run.run_with_gains.Goals as goal
+use Rattle.live_run.proofs.workers.worker_run.WorkerDevices.run.Goals as goal
 
 pub run_workers_with_gains-requires-clause-opened : goal.run_workers_with_gains-requires-clause-opened
 run_workers_with_gains-requires-clause-opened g c κs within = (c.args.studio.now, 256, c.open_at-open_at.ensures.sound, c.requires.opened)
