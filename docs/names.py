@@ -10,6 +10,7 @@ SOURCES = ROOT / "crates"
 FIELDS = SOURCES / "status_page/src/fields"
 METRICS = SOURCES / "status_page/src/page/metrics.rt"
 COUNTS = SOURCES / "rtp_stream/src/count_field.rt"
+KINDS = SOURCES / "studio_io/src/output_kind.rt"
 # The files that write the lines of the report, and of --stats.
 REPORT = "studio_run/src/lines/counts.rt", "live_status/src/lines/report.rt", "studio_main/src/live_command.rt"
 STATS = "live_status/src/lines/running.rt", "live_status/src/lines/drift.rt"
@@ -28,9 +29,6 @@ IN_REPORT = {
     "path_unexpected": "unexpected",
     "path_socket_faults": "feed faults",
     "sends_failed": "sink fault_a",
-    "record_datagrams": "record",
-    "wav_blocks": "wav",
-    "pcm_blocks": "pcm",
 }
 IN_STATS = {
     "stream_seconds_left": "left seconds",
@@ -43,25 +41,11 @@ IN_STATS = {
     "path_socket_ended": "socket ended",
     "path_socket_dropped": "socket dropped",
     "sends_failed": "run failed_a",
-    "record_state": "run record",
-    "record_datagrams": "run recorded",
-    "wav_state": "run wav",
-    "wav_blocks": "run wav_blocks",
-    "pcm_state": "run pcm",
-    "pcm_blocks": "run pcm_blocks",
-    "pcm_left_out": "run pcm_left_out",
 }
 # The numbers that no list of fields has, with their names in /state and the constant that describes them.
 FURTHER = {
     "stream_state": ("state", "STATE_HELP", True),
     "sends_failed": ("failed_sends", "FAILED_HELP", False),
-    "record_state": ("record.state", "RECORD_HELP", True),
-    "record_datagrams": ("record.datagrams", "RECORDED_HELP", False),
-    "wav_state": ("wav.state", "WAV_HELP", True),
-    "wav_blocks": ("wav.blocks", "WAV_BLOCKS_HELP", False),
-    "pcm_state": ("pcm.state", "PCM_HELP", True),
-    "pcm_blocks": ("pcm.blocks", "PCM_BLOCKS_HELP", False),
-    "pcm_left_out": ("pcm.left_out", "LEFT_OUT_HELP", False),
 }
 # Words of the report that are in nothing else.
 REPORT_ALONE = {
@@ -79,7 +63,8 @@ def read(path):
 def texts(source, after, before="\n    }\n"):
     """The texts of a function's arms, by variant."""
     body = source.partition(after)[2].partition(before)[0]
-    return dict(re.findall(r'Field::(\w+) =>\s+"([^"]+)"', body))
+    arms = re.findall(r'((?:\w+(?:Field|Kind)::\w+[\s|]*)+)=>\s+"([^"]*)"', body)
+    return {name: text for names, text in arms for name in re.findall(r"::(\w+)", names)}
 
 
 def gauges(source):
@@ -119,10 +104,26 @@ def rows_of_fields():
         )
 
 
+def rows_of_outputs() -> Iterator[str]:
+    """The state and the counts of each output of a run."""
+    kinds, helps = KINDS.read_text(), (FIELDS / "run_output.rt").read_text()
+    unit_of = texts(kinds, "fn unit(")
+    state_help, written_help, left_out_help = (
+        texts(helps, f"fn {name}_help(", "\n}\n") for name in ("state", "written", "left_out")
+    )
+    word_of = texts(read(STATS[0]), "fn written_word(", "\n}\n")
+    for name, key in texts(kinds, "fn key(").items():
+        unit, metric = unit_of[name], f"darbexum_{key}"
+        yield row(None, f"run {key}", f"{key}.state", f"{metric}_state", state_help[name])
+        yield row(key, f"run {word_of[name].strip(' =')}", f"{key}.{unit}", f"{metric}_{unit}_total", written_help[name])
+        if left_out_help[name]:
+            yield row(None, f"run {key}_left_out", f"{key}.left_out", f"{metric}_left_out_total", left_out_help[name])
+
+
 def table() -> list[str]:
     """The lines of the table."""
     alone = (row(words, None, None, None, meaning) for words, meaning in REPORT_ALONE.items())
-    return [HEAD, *rows_of_counts(), *rows_of_fields(), *alone]
+    return [HEAD, *rows_of_counts(), *rows_of_fields(), *rows_of_outputs(), *alone]
 
 
 def words_of(files, pattern):

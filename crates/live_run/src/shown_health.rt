@@ -1,11 +1,11 @@
-//! The health of a run as its status shows it: of its sockets, its sends, its record, its WAV file and its raw PCM.
+//! The health of a run as its status shows it: of its sockets, its sends and its outputs.
 
 use live_io::{RunHealth, UnexpectedSources};
 use live_status::HealthSource;
 use rtp_stream::Path;
-use status_page::{PcmBlocks, PcmState, RecordState, SocketState, WavState};
+use status_page::SocketState;
 use studio_config::StudioSpec;
-use studio_io::{OutputCounts, OutputKind, OutputState, RunProgress};
+use studio_io::{OutputStates, RunProgress};
 
 /// The health of a run as its status shows it. The threads of the run set the numbers, and any thread may read them.
 #[derive(Clone, Copy)]
@@ -65,40 +65,7 @@ impl HealthSource for ShownHealth<'_> {
         self.health.sends().failed()
     }
 
-    fn record(&self) -> RecordState {
-        match self.outputs.of(OutputKind::Record).state() {
-            OutputState::Absent => RecordState::Absent,
-            OutputState::Waiting(counts) | OutputState::Writing(counts) => RecordState::Writing(
-                counts.written,
-            ),
-            OutputState::Ended(counts, _) => RecordState::Closed(counts.written),
-        }
-    }
-
-    fn wav(&self) -> WavState {
-        match self.outputs.of(OutputKind::Wav).state() {
-            OutputState::Absent => WavState::Absent,
-            OutputState::Waiting(counts) | OutputState::Writing(counts) => WavState::Writing(
-                counts.written,
-            ),
-            OutputState::Ended(counts, _) => WavState::Closed(counts.written),
-        }
-    }
-
-    fn pcm(&self) -> PcmState {
-        match self.outputs.of(OutputKind::Pcm).state() {
-            OutputState::Absent => PcmState::Absent,
-            OutputState::Waiting(counts) => PcmState::Waiting(blocks_of(counts)),
-            OutputState::Writing(counts) => PcmState::Writing(blocks_of(counts)),
-            OutputState::Ended(counts, _) => PcmState::Closed(blocks_of(counts)),
-        }
-    }
-}
-
-/// Returns the numbers of blocks in the counts of the raw PCM.
-fn blocks_of(counts: OutputCounts) -> PcmBlocks {
-    PcmBlocks {
-        written: counts.written,
-        left_out: counts.left_out,
+    fn outputs(&self) -> OutputStates {
+        self.outputs.states()
     }
 }

@@ -3,7 +3,7 @@ use Rattle.std.specs.Prelude.{◌≡◌, ◌≤◌, ◌<◌, ℕ, Bool, List, Op
 use Rattle.rtp_stats.specs.declared.copy_tracker.CopyTracker.{CopyTracker}
 use Rattle.studio_engine.specs.Engine.{EngineState}
 use Rattle.status_page.specs.Blank.{blank_path}
-use Rattle.status_page.specs.declared.snapshot.OutputState.{OutputState}
+use Rattle.status_page.specs.declared.snapshot.ChannelState.{ChannelState}
 use Rattle.status_page.specs.declared.snapshot.Snapshot.{Snapshot}
 use Rattle.status_page.specs.declared.snapshot.StreamState.{StreamState}
 use Rattle.live_status.specs.Each.{AreEach}
@@ -33,7 +33,7 @@ abbrev pub FillsStreamAt : EngineState → List CopyTracker → ℕ → StreamSt
 FillsStreamAt engine trackers number old new = FillsStream engine (slice_get trackers number) number old new
 
 -- the channel has the engine's count of its saturated samples, if there is one
-abbrev pub IsEngineOutput : EngineState → ℕ → OutputState → OutputState → Type 0
+abbrev pub IsEngineOutput : EngineState → ℕ → ChannelState → ChannelState → Type 0
 IsEngineOutput engine channel blank output = IfSome (slice_get engine.mixer.saturated channel) (λ count. output.saturated ≡ count)
 
 -- the streams and the output channels of an engine

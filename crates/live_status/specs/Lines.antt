@@ -4,12 +4,13 @@ use Rattle.std.specs.Fmt.{decimal, signed_decimal}
 use Rattle.rtp_stream.specs.CountsFacts.{Tally}
 use Rattle.rtp_stream.specs.Path.{path_letter}
 use Rattle.studio_run.specs.Report.{count_text, tally_text}
-use Rattle.status_page.specs.Audio.{pcm_blocks, pcm_left_out, pcm_text, wav_blocks, wav_text}
-use Rattle.status_page.specs.Record.{record_datagrams, record_text}
-use Rattle.status_page.specs.declared.snapshot.PcmState.{PcmState}
-use Rattle.status_page.specs.declared.snapshot.RecordState.{RecordState}
 use Rattle.status_page.specs.declared.snapshot.SocketState.{SocketState}
-use Rattle.status_page.specs.declared.snapshot.WavState.{WavState}
+use Rattle.studio_io.specs.declared.output_kind.OutputKind.{OutputKind}
+use Rattle.studio_io.specs.declared.output_kind.OutputKind.TheVariants.{Record, Wav, Pcm}
+use Rattle.studio_io.specs.declared.output_kind.TheConstants.{OUTPUT_KINDS}
+use Rattle.studio_io.specs.declared.output_state.OutputState.{OutputState}
+use Rattle.studio_io.specs.declared.output_states.OutputStates.{OutputStates}
+use Rattle.studio_io.specs.Outputs.{has_reader, left_out_units, output_key, state_name, state_of, written_units}
 use Rattle.live_status.specs.declared.lines.report.SinkCounts.{SinkCounts}
 
 -- the line of a path's feed: the number of its faults
@@ -54,8 +55,7 @@ socket_losses socket = codes " dropped=" ++ known_text socket.dropped ++ codes "
 abbrev pub socket_line : ℕ → ℕ → ℤ → SocketState → List ℕ
 socket_line stream path time socket = socket_place stream path time ++ socket_faults socket ++ socket_losses socket
 
--- the line of a run, at this clock reading, in four parts: the failed sends of each copy of the mix, its record, its
--- WAV file, and its raw PCM
+-- the line of a run, at this clock reading: the failed sends of each copy of the mix, and then its outputs
 unfoldable pub run_time : ℤ → List ℕ
 run_time time = codes "run time=" ++ signed_decimal time
 
@@ -65,32 +65,41 @@ run_failed failed_a failed_b = codes " failed_a=" ++ decimal failed_a ++ codes "
 abbrev pub run_sends : ℤ → ℕ → ℕ → List ℕ
 run_sends time failed_a failed_b = run_time time ++ run_failed failed_a failed_b
 
-unfoldable pub run_record : RecordState → List ℕ
-run_record state = codes " record=" ++ record_text state ++ codes " recorded=" ++ known_text (record_datagrams state)
+-- the name of an output's state, behind the output's name
+unfoldable pub output_state : OutputKind → List ℕ → List ℕ
+output_state kind state = codes " " ++ output_key kind ++ codes "=" ++ state
 
-unfoldable pub run_wav_state : WavState → List ℕ
-run_wav_state state = codes " wav=" ++ wav_text state
+-- the word before the number of units of an output that were written
+abbrev pub written_word : OutputKind → List ℕ
+written_word Record = codes " recorded="
+written_word Wav = codes " wav_blocks="
+written_word Pcm = codes " pcm_blocks="
 
-unfoldable pub run_wav_blocks : Option ℕ → List ℕ
-run_wav_blocks blocks = codes " wav_blocks=" ++ known_text blocks
+-- the number of units of an output that were written
+unfoldable pub output_written : OutputKind → Option ℕ → List ℕ
+output_written kind written = written_word kind ++ known_text written
 
-unfoldable pub run_wav : WavState → List ℕ
-run_wav state = run_wav_state state ++ run_wav_blocks (wav_blocks state)
+-- the number of units of an output that were left out
+unfoldable pub output_left_out : OutputKind → Option ℕ → List ℕ
+output_left_out kind left_out = codes " " ++ output_key kind ++ codes "_left_out=" ++ known_text left_out
 
-unfoldable pub run_pcm_state : PcmState → List ℕ
-run_pcm_state state = codes " pcm=" ++ pcm_text state
+-- that number, if the output has a reader
+abbrev pub output_left_out_if : Bool → OutputKind → Option ℕ → List ℕ
+output_left_out_if true kind left_out = output_left_out kind left_out
+output_left_out_if false kind left_out = []
 
-unfoldable pub run_pcm_blocks : Option ℕ → List ℕ
-run_pcm_blocks blocks = codes " pcm_blocks=" ++ known_text blocks
+-- both numbers of an output
+unfoldable pub run_output_counts : OutputKind → Option ℕ → Option ℕ → List ℕ
+run_output_counts kind written left_out = output_written kind written ++ output_left_out_if (has_reader kind) kind left_out
 
-unfoldable pub run_left_out : Option ℕ → List ℕ
-run_left_out left_out = codes " pcm_left_out=" ++ known_text left_out
+-- an output
+unfoldable pub run_output : OutputKind → OutputState → List ℕ
+run_output kind state = output_state kind (state_name state) ++ run_output_counts kind (written_units state) (left_out_units state)
 
-unfoldable pub run_pcm_counts : Option ℕ → Option ℕ → List ℕ
-run_pcm_counts blocks left_out = run_pcm_blocks blocks ++ run_left_out left_out
+-- the outputs of these kinds
+unfoldable pub run_outputs : List OutputKind → OutputStates → List ℕ
+run_outputs [] states = []
+run_outputs (kind ∷ kinds) states = run_output kind (state_of kind states) ++ run_outputs kinds states
 
-unfoldable pub run_pcm : PcmState → List ℕ
-run_pcm state = run_pcm_state state ++ run_pcm_counts (pcm_blocks state) (pcm_left_out state)
-
-abbrev pub run_line : ℤ → ℕ → ℕ → RecordState → WavState → PcmState → List ℕ
-run_line time failed_a failed_b state wav pcm = run_sends time failed_a failed_b ++ run_record state ++ run_wav wav ++ run_pcm pcm ++ codes "\n"
+abbrev pub run_line : ℤ → ℕ → ℕ → OutputStates → List ℕ
+run_line time failed_a failed_b states = run_sends time failed_a failed_b ++ run_outputs OUTPUT_KINDS states ++ codes "\n"

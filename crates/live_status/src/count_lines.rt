@@ -207,9 +207,7 @@ impl CountLines {
                 now,
                 failed_a,
                 failed_b,
-                snapshot.record,
-                snapshot.wav,
-                snapshot.pcm,
+                &snapshot.run_outputs,
             )?;
             self.text.finish(writer)?;
         }

@@ -30,7 +30,7 @@ use crate::snapshot_fill::{fill_copies, fill_datagrams, fill_saturated, first_at
 use path_merge::Path;
 use rtp_stats::CopyTracker;
 use rtp_stream::{Counts, StreamSpec};
-use status_page::{OutputState, PathState, StreamState};
+use status_page::{ChannelState, PathState, StreamState};
 use std::alloc::{AllocError, Global};
 use std::io::Write;
 use studio_engine::Engine;
@@ -140,7 +140,7 @@ fn fill_streams(engine: &Engine, trackers: &[CopyTracker], streams: &mut [Stream
 }
 
 /// Fills in the output channels of an engine: their saturated samples and, if there is a meter, their peaks.
-fn fill_engine_outputs(engine: &Engine, meter: Option<&Meter>, outputs: &mut [OutputState])
+fn fill_engine_outputs(engine: &Engine, meter: Option<&Meter>, outputs: &mut [ChannelState])
     ensures { AreEach (IsEngineOutput engine.now) outputs.old outputs.new }
 {
     fill_saturated(engine.saturated(), outputs);

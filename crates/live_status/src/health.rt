@@ -1,10 +1,10 @@
-//! The health of a run in a snapshot: of the sockets of its paths, of its sends, and of its record, its WAV file and
-//! its raw PCM.
+//! The health of a run in a snapshot: of the sockets of its paths, of its sends, and of its outputs.
 ghost use Rattle.std.specs.Prelude.{◌≡◌};
 ghost use Rattle.live_status.specs.Each.{AreEach};
 ghost use Rattle.live_status.specs.Health.{KeepsPath, KeepsStream};
 
-use status_page::{PathState, PcmState, RecordState, Snapshot, SocketState, StreamState, WavState};
+use status_page::{PathState, Snapshot, SocketState, StreamState};
+use studio_io::OutputStates;
 
 /// A source of the health of a run: the numbers that its threads last reported. No call waits.
 pub trait HealthSource: Drop {
@@ -15,25 +15,17 @@ pub trait HealthSource: Drop {
     /// Returns for each of the two copies of the mix the number of datagrams that were not sent.
     fn failed_sends(&self) -> [u64; 2];
 
-    /// Returns the state of the record.
-    fn record(&self) -> RecordState;
-
-    /// Returns the state of the WAV file.
-    fn wav(&self) -> WavState;
-
-    /// Returns the state of the raw PCM.
-    fn pcm(&self) -> PcmState;
+    /// Returns the states of the run's outputs.
+    fn outputs(&self) -> OutputStates;
 }
 
-/// Fills in the health of a run: the socket of each path, the failed sends, the record, the WAV file and the raw PCM.
+/// Fills in the health of a run: the socket of each path, the failed sends, and the states of the run's outputs.
 pub fn fill_health<H: HealthSource>(health: &H, snapshot: &mut Snapshot)
     ensures streams { AreEach KeepsStream snapshot.old.streams.items snapshot.new.streams.items }
     ensures outputs { snapshot.new.outputs ≡ snapshot.old.outputs }
 {
     snapshot.failed_sends = health.failed_sends();
-    snapshot.record = health.record();
-    snapshot.wav = health.wav();
-    snapshot.pcm = health.pcm();
+    snapshot.run_outputs = health.outputs();
     fill_sockets(health, snapshot.streams.as_mut_slice());
 }
 

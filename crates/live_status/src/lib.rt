@@ -8,8 +8,8 @@
 //!    to the page and writes the count lines that are due.
 //! 3. For a run in one thread, `EngineStatus` does step 2 from an engine, and tallies the copies of
 //!    each path. For workers, `fill_stream`, `fill_datagrams` and `fill_outputs` fill a snapshot from
-//!    the statistics that were received. `fill_health` fills in the state of sockets, of sends, of
-//!    the record, of the WAV file and of raw PCM, from a `HealthSource`.
+//!    the statistics that were received. `fill_health` fills in the state of sockets, of sends
+//!    and of the run's outputs, from a `HealthSource`.
 //!
 //! `publish` also watches the streams: from the arrival margins of the last minute it shows the drift
 //! of each path, and paths without a packet in time.

@@ -5,7 +5,7 @@ ghost use Rattle.live_status.specs.Outputs.{KeepsCount};
 
 use rtp_stats::{MAX_CHANNELS, raise_peaks};
 use rtp_wire::{Enc, HEADER_OCTETS};
-use status_page::OutputState;
+use status_page::ChannelState;
 use std::sync::atomic::{AtomicU32, Ordering};
 
 /// A meter that measures the datagrams of the mix as they are sent, and that another thread may read.
@@ -60,7 +60,7 @@ impl Meter {
     }
 
     /// Fills in each channel's peak since it was last read, and sets the peaks to 0.
-    pub(crate) fn fill_peaks(&self, outputs: &mut [OutputState])
+    pub(crate) fn fill_peaks(&self, outputs: &mut [ChannelState])
         ensures { AreEach KeepsCount outputs.old outputs.new }
     {
         for (channel, output) in outputs.iter_mut().enumerate() {

@@ -26,7 +26,7 @@ use crate::stream_status::StreamStatus;
 use rtp_stats::MAX_CHANNELS;
 use rtp_stream::StreamSpec;
 use rtrb::Producer;
-use status_page::{OutputState, Snapshot, StreamName, StreamState};
+use status_page::{ChannelState, Snapshot, StreamName, StreamState};
 use std::alloc::{AllocError, Global};
 use std::io::Write;
 
@@ -180,7 +180,7 @@ fn add_outputs(snapshot: &mut Snapshot, channels: usize)
 {
     for _ in 0..channels {
         // A snapshot has room for eight channels.
-        let _ = snapshot.outputs.try_push(OutputState::default());
+        let _ = snapshot.outputs.try_push(ChannelState::default());
     }
 }
 

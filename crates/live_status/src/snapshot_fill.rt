@@ -6,7 +6,7 @@ ghost use Rattle.live_status.specs.Outputs.{HasCount, HasNumbers};
 
 use rtp_stats::{MixStats, PathStats, StreamStats};
 use rtp_stream::{Counts, PathCounts};
-use status_page::{CopyCounts, OutputState, PathState, StreamState};
+use status_page::{ChannelState, CopyCounts, PathState, StreamState};
 
 /// Fills in the counts of a stream, and the copies and arrival margins of its paths.
 pub fn fill_stream(stats: &StreamStats, stream: &mut StreamState)
@@ -82,7 +82,7 @@ pub fn fill_datagrams(counts: PathCounts, state: &mut PathState)
 }
 
 /// Fills in the mix: each channel's peak and its number of saturated samples.
-pub fn fill_outputs(stats: &MixStats, outputs: &mut [OutputState])
+pub fn fill_outputs(stats: &MixStats, outputs: &mut [ChannelState])
     ensures { AreEach (HasNumbers stats.now) outputs.old outputs.new }
 {
     for (channel, output) in outputs.iter_mut().enumerate() {
@@ -91,7 +91,7 @@ pub fn fill_outputs(stats: &MixStats, outputs: &mut [OutputState])
 }
 
 /// Fills in the output channel at a place, if there are statistics for it.
-fn fill_channel(stats: &MixStats, channel: usize, output: &mut OutputState)
+fn fill_channel(stats: &MixStats, channel: usize, output: &mut ChannelState)
     ensures { HasNumbers stats.now channel output.old output.new }
 {
     if let Some(peak) = stats.peaks.get(channel) {
@@ -103,7 +103,7 @@ fn fill_channel(stats: &MixStats, channel: usize, output: &mut OutputState)
 }
 
 /// Fills in the number of saturated samples of each output channel, as far as it is known.
-pub(crate) fn fill_saturated(saturated: &[u64], outputs: &mut [OutputState])
+pub(crate) fn fill_saturated(saturated: &[u64], outputs: &mut [ChannelState])
     ensures { AreEach (HasCount saturated.now) outputs.old outputs.new }
 {
     for (channel, output) in outputs.iter_mut().enumerate() {

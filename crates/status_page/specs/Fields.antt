@@ -4,7 +4,7 @@ use Rattle.rtp_stream.specs.CountField.{count_help, count_key, count_value}
 use Rattle.rtp_stream.specs.Counts.{tally_of}
 use Rattle.status_page.specs.declared.snapshot.PathState.{PathState}
 use Rattle.status_page.specs.declared.snapshot.StreamState.{StreamState}
-use Rattle.status_page.specs.declared.snapshot.OutputState.{OutputState}
+use Rattle.status_page.specs.declared.snapshot.ChannelState.{ChannelState}
 use Rattle.status_page.specs.declared.fields.path.PathField.{PathField}
 use Rattle.status_page.specs.declared.fields.path.PathField.TheVariants as Path
 use Rattle.status_page.specs.declared.fields.stream.StreamField.{StreamField}
@@ -178,6 +178,6 @@ stream_value Stream.Latency stream = Some stream.latency
 stream_value Stream.SecondsLeft stream = stream.seconds_left
 
 -- a number of an output channel
-abbrev pub output_value : OutputField → OutputState → ℕ
+abbrev pub output_value : OutputField → ChannelState → ℕ
 output_value Output.Peak output = output.peak
 output_value Output.Saturated output = output.saturated

@@ -1,4 +1,3 @@
-pub mod Audio
 pub mod Blank
 pub mod ChangeRate
 pub mod Connections
@@ -6,12 +5,12 @@ pub mod ControlFaults
 pub mod ControlPages
 pub mod Controls
 pub mod Fields
+pub mod RunOutputs
 pub mod GainBodies
 pub mod GainReplies
 pub mod Host
 pub mod Integers
 pub mod Metrics
-pub mod Record
 pub mod Responses
 pub mod State
 pub mod Times

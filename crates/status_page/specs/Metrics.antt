@@ -1,5 +1,5 @@
 -- A snapshot in the text form of Prometheus, 0.0.4.
-use Rattle.std.specs.Prelude.{ℕ, ℤ, suc, List, [], ◌∷◌, ◌++◌, Option, Some, None, codes, slice_index, if◌then◌else◌, ◌==◌}
+use Rattle.std.specs.Prelude.{ℕ, ℤ, suc, Bool, true, false, List, [], ◌∷◌, ◌++◌, Option, Some, None, codes, slice_index, if◌then◌else◌, ◌==◌}
 use Rattle.std.specs.Str.{bytes_eq}
 use Rattle.std.specs.Fmt.{decimal, signed_decimal}
 use Rattle.arrayvec.specs.ArrayString.{ArrayString}
@@ -7,13 +7,14 @@ use Rattle.status_page.specs.declared.snapshot.Condition.{Condition}
 use Rattle.status_page.specs.declared.snapshot.Condition.TheVariants.{NoPacket, Running, SignalLost, Ended}
 use Rattle.status_page.specs.declared.snapshot.PathState.{PathState}
 use Rattle.status_page.specs.declared.snapshot.StreamState.{StreamState}
-use Rattle.status_page.specs.declared.snapshot.OutputState.{OutputState}
-use Rattle.status_page.specs.declared.snapshot.RecordState.{RecordState}
-use Rattle.status_page.specs.declared.snapshot.WavState.{WavState}
-use Rattle.status_page.specs.declared.snapshot.PcmState.{PcmState}
+use Rattle.status_page.specs.declared.snapshot.ChannelState.{ChannelState}
 use Rattle.status_page.specs.declared.snapshot.Snapshot.{Snapshot}
-use Rattle.status_page.specs.Audio.{pcm_blocks, pcm_left_out, pcm_text, wav_blocks, wav_text}
-use Rattle.status_page.specs.Record.{record_datagrams, record_text}
+use Rattle.status_page.specs.RunOutputs.{left_out_help, output_group, state_help, written_help}
+use Rattle.studio_io.specs.declared.output_kind.OutputKind.{OutputKind}
+use Rattle.studio_io.specs.declared.output_kind.TheConstants.{OUTPUT_KINDS}
+use Rattle.studio_io.specs.declared.output_state.OutputState.{OutputState}
+use Rattle.studio_io.specs.declared.output_states.OutputStates.{OutputStates}
+use Rattle.studio_io.specs.Outputs.{has_reader, left_out_units, output_unit, state_name, state_of, written_units}
 use Rattle.status_page.specs.declared.fields.Number.{Number}
 use Rattle.status_page.specs.declared.fields.Number.TheVariants as Shown
 use Rattle.status_page.specs.declared.fields.MetricKind.{MetricKind}
@@ -142,7 +143,7 @@ condition_sample number stream condition =
     ++ value_text (has_condition condition stream.condition)
 
 -- the sample of an output channel's number
-unfoldable pub output_sample : OutputField → ℕ → OutputState → List ℕ
+unfoldable pub output_sample : OutputField → ℕ → ChannelState → List ℕ
 output_sample field number output = output_metric field ++ codes "{output=\"" ++ decimal number ++ codes "\"" ++ value_text (output_value field output)
 
 -- the samples of one number of the streams, numbered from this stream on
@@ -172,7 +173,7 @@ all_condition_samples conditions number [] = []
 all_condition_samples conditions number (stream ∷ streams) = condition_samples number stream conditions ++ all_condition_samples conditions (suc number) streams
 
 -- the samples of one number of the output channels, numbered from this channel on
-unfoldable pub output_samples : OutputField → ℕ → List OutputState → List ℕ
+unfoldable pub output_samples : OutputField → ℕ → List ChannelState → List ℕ
 output_samples field number [] = []
 output_samples field number (output ∷ outputs) = output_sample field number output ++ output_samples field (suc number) outputs
 
@@ -195,7 +196,7 @@ path_families [] streams = []
 path_families (field ∷ fields) streams = path_header field ++ all_path_samples field 0 streams ++ path_families fields streams
 
 -- the metrics of the output channels
-unfoldable pub output_families : List OutputField → List OutputState → List ℕ
+unfoldable pub output_families : List OutputField → List ChannelState → List ℕ
 output_families [] outputs = []
 output_families (field ∷ fields) outputs = output_header field ++ output_samples field 0 outputs ++ output_families fields outputs
 
@@ -221,15 +222,20 @@ unfoldable pub state_sample : List ℕ → List ℕ → List ℕ → List ℕ
 state_sample group state name =
     metric_text group (codes "state") Gauge ++ codes "{state=\"" ++ name ++ codes "\"" ++ value_text (flag (bytes_eq state name))
 
--- the states of a file by their names, each with 1 for the one that it is in
+-- the states of an output that has no reader, each with 1 for the one that it is in
 unfoldable pub file_states : List ℕ → List ℕ → List ℕ
 file_states group state = state_sample group state (codes "none") ++ state_sample group state (codes "writing") ++ state_sample group state (codes "ended")
 
--- the states of raw PCM
-unfoldable pub pcm_states : List ℕ → List ℕ
-pcm_states state =
-    state_sample (codes "pcm_") state (codes "none") ++ state_sample (codes "pcm_") state (codes "waiting")
-    ++ state_sample (codes "pcm_") state (codes "writing") ++ state_sample (codes "pcm_") state (codes "ended")
+-- the states of an output that has a reader
+unfoldable pub reader_states : List ℕ → List ℕ → List ℕ
+reader_states group state =
+    state_sample group state (codes "none") ++ state_sample group state (codes "waiting")
+    ++ state_sample group state (codes "writing") ++ state_sample group state (codes "ended")
+
+-- the states of an output, which has a reader or not
+abbrev pub output_state_samples : Bool → List ℕ → List ℕ → List ℕ
+output_state_samples true group state = reader_states group state
+output_state_samples false group state = file_states group state
 
 -- a count without labels, if it is known
 unfoldable pub count_sample : List ℕ → List ℕ → Option ℕ → List ℕ
@@ -240,66 +246,37 @@ count_sample group key (Some count) = metric_text group key Counter ++ codes " "
 abbrev pub count_family : List ℕ → List ℕ → List ℕ → Option ℕ → List ℕ
 count_family group key help count = header_text group key Counter help ++ count_sample group key count
 
--- the lines before a record's states
-abbrev pub record_header : List ℕ
-record_header = header_text (codes "record_") (codes "state") Gauge (codes "The state of the record: 1 for the state that it is in, and 0 for the others.")
+-- the metric of an output's state
+unfoldable pub output_state_family : OutputKind → List ℕ → List ℕ
+output_state_family kind state =
+    header_text (output_group kind) (codes "state") Gauge (state_help kind)
+    ++ output_state_samples (has_reader kind) (output_group kind) state
 
--- the metric of a record's state
-unfoldable pub record_states : RecordState → List ℕ
-record_states state = record_header ++ file_states (codes "record_") (record_text state)
+-- the metric of the units that were written
+unfoldable pub written_family : OutputKind → Option ℕ → List ℕ
+written_family kind written = count_family (output_group kind) (output_unit kind) (written_help kind) written
 
--- the metric of the datagrams that a record holds
-unfoldable pub recorded_family : Option ℕ → List ℕ
-recorded_family datagrams = count_family (codes "record_") (codes "datagrams") (codes "Datagrams that the record holds.") datagrams
+-- the metric of the units that were left out
+unfoldable pub left_out_family : OutputKind → Option ℕ → List ℕ
+left_out_family kind left_out = count_family (output_group kind) (codes "left_out") (left_out_help kind) left_out
 
--- both metrics of a record
-unfoldable pub record_families : RecordState → List ℕ
-record_families state = record_states state ++ recorded_family (record_datagrams state)
+-- that metric, if the output has a reader
+abbrev pub left_out_family_if : Bool → OutputKind → Option ℕ → List ℕ
+left_out_family_if true kind left_out = left_out_family kind left_out
+left_out_family_if false kind left_out = []
 
--- the lines before a WAV file's states
-abbrev pub wav_header : List ℕ
-wav_header = header_text (codes "wav_") (codes "state") Gauge (codes "The state of the WAV file: 1 for the state that it is in, and 0 for the others.")
+-- the metrics of both counts of an output
+unfoldable pub output_counts : OutputKind → Option ℕ → Option ℕ → List ℕ
+output_counts kind written left_out = written_family kind written ++ left_out_family_if (has_reader kind) kind left_out
 
--- the metric of a WAV file's state
-unfoldable pub wav_states : WavState → List ℕ
-wav_states state = wav_header ++ file_states (codes "wav_") (wav_text state)
+-- the metrics of an output
+unfoldable pub run_output_family : OutputKind → OutputState → List ℕ
+run_output_family kind state = output_state_family kind (state_name state) ++ output_counts kind (written_units state) (left_out_units state)
 
--- the metric of the blocks that a WAV file holds
-unfoldable pub wav_blocks_family : Option ℕ → List ℕ
-wav_blocks_family blocks = count_family (codes "wav_") (codes "blocks") (codes "Blocks of the mix that the WAV file holds.") blocks
-
--- both metrics of a WAV file
-unfoldable pub wav_families : WavState → List ℕ
-wav_families state = wav_states state ++ wav_blocks_family (wav_blocks state)
-
--- the lines before the states of raw PCM
-abbrev pub pcm_header : List ℕ
-pcm_header = header_text (codes "pcm_") (codes "state") Gauge (codes "The state of the raw PCM: 1 for the state that it is in, and 0 for the others.")
-
--- the metric of the state of raw PCM
-unfoldable pub pcm_state_family : PcmState → List ℕ
-pcm_state_family state = pcm_header ++ pcm_states (pcm_text state)
-
--- the metric of the blocks that were written as raw PCM
-unfoldable pub pcm_blocks_family : Option ℕ → List ℕ
-pcm_blocks_family blocks = count_family (codes "pcm_") (codes "blocks") (codes "Blocks of the mix that were written as raw PCM.") blocks
-
--- the metric of the blocks that were left out
-unfoldable pub left_out_family : Option ℕ → List ℕ
-left_out_family left_out =
-    count_family (codes "pcm_") (codes "left_out") (codes "Blocks of the mix that were left out of the raw PCM, because its reader was slow or there was none.") left_out
-
--- the metrics of both counts of raw PCM
-unfoldable pub pcm_counts : Option ℕ → Option ℕ → List ℕ
-pcm_counts blocks left_out = pcm_blocks_family blocks ++ left_out_family left_out
-
--- all metrics of raw PCM
-unfoldable pub pcm_families : PcmState → List ℕ
-pcm_families state = pcm_state_family state ++ pcm_counts (pcm_blocks state) (pcm_left_out state)
-
--- the metrics of the files that a run writes, and of its raw PCM
-abbrev pub file_families : RecordState → WavState → PcmState → List ℕ
-file_families record_state wav_state pcm_state = record_families record_state ++ wav_families wav_state ++ pcm_families pcm_state
+-- the metrics of the outputs of these kinds
+unfoldable pub run_output_families : List OutputKind → OutputStates → List ℕ
+run_output_families [] states = []
+run_output_families (kind ∷ kinds) states = run_output_family kind (state_of kind states) ++ run_output_families kinds states
 
 -- all metrics
 unfoldable pub metrics_text : Snapshot → List ℕ
@@ -309,4 +286,4 @@ metrics_text snapshot =
     ++ path_families PATH_FIELDS snapshot.streams.items
     ++ output_families OUTPUT_FIELDS snapshot.outputs.items
     ++ failed_text (slice_index snapshot.failed_sends 0) (slice_index snapshot.failed_sends 1)
-    ++ file_families snapshot.record snapshot.wav snapshot.pcm
+    ++ run_output_families OUTPUT_KINDS snapshot.run_outputs

@@ -1,17 +1,17 @@
 -- The JSON of a snapshot, as its tokens.
-use Rattle.std.specs.Prelude.{ℕ, List, [], ◌∷◌, ◌++◌, Option, Some, None, codes, slice_index}
+use Rattle.std.specs.Prelude.{ℕ, Bool, true, false, List, [], ◌∷◌, ◌++◌, Option, Some, None, codes, slice_index}
 use Rattle.std.specs.Fmt.{decimal, signed_decimal}
 use Rattle.arrayvec.specs.ArrayString.{ArrayString}
 use Rattle.json.specs.Token.{Token, begin_object, end_object, begin_array, end_array, key, string, number, null}
 use Rattle.status_page.specs.declared.snapshot.PathState.{PathState}
 use Rattle.status_page.specs.declared.snapshot.StreamState.{StreamState}
-use Rattle.status_page.specs.declared.snapshot.OutputState.{OutputState}
-use Rattle.status_page.specs.declared.snapshot.RecordState.{RecordState}
-use Rattle.status_page.specs.declared.snapshot.WavState.{WavState}
-use Rattle.status_page.specs.declared.snapshot.PcmState.{PcmState}
+use Rattle.status_page.specs.declared.snapshot.ChannelState.{ChannelState}
 use Rattle.status_page.specs.declared.snapshot.Snapshot.{Snapshot}
-use Rattle.status_page.specs.Audio.{pcm_blocks, pcm_left_out, pcm_text, wav_blocks, wav_text}
-use Rattle.status_page.specs.Record.{record_datagrams, record_text}
+use Rattle.studio_io.specs.declared.output_kind.OutputKind.{OutputKind}
+use Rattle.studio_io.specs.declared.output_kind.TheConstants.{OUTPUT_KINDS}
+use Rattle.studio_io.specs.declared.output_state.OutputState.{OutputState}
+use Rattle.studio_io.specs.declared.output_states.OutputStates.{OutputStates}
+use Rattle.studio_io.specs.Outputs.{has_reader, left_out_units, output_key as output_name, output_unit, state_name, state_of, written_units}
 use Rattle.status_page.specs.declared.fields.Number.{Number}
 use Rattle.status_page.specs.declared.fields.Number.TheVariants as Shown
 use Rattle.status_page.specs.declared.fields.path.PathField.{PathField}
@@ -64,7 +64,7 @@ stream_members [] stream = last_members stream
 stream_members (count ∷ counts) stream = stream_member (Count count) stream ++ stream_members counts stream
 
 -- the numbers of an output channel, each with its key
-unfoldable pub output_members : List OutputField → OutputState → List Token
+unfoldable pub output_members : List OutputField → ChannelState → List Token
 output_members [] output = []
 output_members (field ∷ fields) output = key (output_key field) ∷ number_token (output_value field output) ∷ output_members fields output
 
@@ -98,11 +98,11 @@ streams_tokens [] = []
 streams_tokens (stream ∷ streams) = stream_tokens stream ++ streams_tokens streams
 
 -- an output channel
-abbrev pub output_tokens : OutputState → List Token
+abbrev pub output_tokens : ChannelState → List Token
 output_tokens output = begin_object ∷ (output_members OUTPUT_FIELDS output ++ end_object ∷ [])
 
 -- the output channels
-unfoldable pub outputs_tokens : List OutputState → List Token
+unfoldable pub outputs_tokens : List ChannelState → List Token
 outputs_tokens [] = []
 outputs_tokens (output ∷ outputs) = output_tokens output ++ outputs_tokens outputs
 
@@ -123,40 +123,30 @@ count_member name count = key name ∷ known_token count ∷ []
 abbrev pub object_tokens : List ℕ → List Token → List Token
 object_tokens name members = key name ∷ begin_object ∷ (members ++ end_object ∷ [])
 
--- the state of a record, and the number of datagrams in it
-abbrev pub record_members : RecordState → List Token
-record_members state = state_member (record_text state) ++ count_member (codes "datagrams") (record_datagrams state)
+-- the number of units that were left out, if the output has a reader
+abbrev pub left_out_members : Bool → Option ℕ → List Token
+left_out_members true left_out = count_member (codes "left_out") left_out
+left_out_members false left_out = []
 
--- the state of a WAV file, and the number of blocks in it
-abbrev pub wav_members : WavState → List Token
-wav_members state = state_member (wav_text state) ++ count_member (codes "blocks") (wav_blocks state)
+-- the numbers of units of an output that were written, and that were left out; then with the state
+unfoldable pub output_count_members : OutputKind → Option ℕ → Option ℕ → List Token
+output_count_members kind written left_out = count_member (output_unit kind) written ++ left_out_members (has_reader kind) left_out
 
--- the number of blocks that were written as raw PCM, and the number that were left out; then with the state
-unfoldable pub pcm_count_members : Option ℕ → Option ℕ → List Token
-pcm_count_members blocks left_out = count_member (codes "blocks") blocks ++ count_member (codes "left_out") left_out
+unfoldable pub run_output_members : OutputKind → OutputState → List Token
+run_output_members kind state = state_member (state_name state) ++ output_count_members kind (written_units state) (left_out_units state)
 
-abbrev pub pcm_members : PcmState → List Token
-pcm_members state = state_member (pcm_text state) ++ pcm_count_members (pcm_blocks state) (pcm_left_out state)
+-- an output of the run
+abbrev pub run_output_tokens : OutputKind → OutputState → List Token
+run_output_tokens kind state = object_tokens (output_name kind) (run_output_members kind state)
 
--- the record
-abbrev pub record_tokens : RecordState → List Token
-record_tokens state = object_tokens (codes "record") (record_members state)
-
--- the WAV file
-abbrev pub wav_tokens : WavState → List Token
-wav_tokens state = object_tokens (codes "wav") (wav_members state)
-
--- raw PCM
-abbrev pub pcm_tokens : PcmState → List Token
-pcm_tokens state = object_tokens (codes "pcm") (pcm_members state)
-
--- the files that a run writes, and its raw PCM
-unfoldable pub file_tokens : RecordState → WavState → PcmState → List Token
-file_tokens record_state wav_state pcm_state = record_tokens record_state ++ wav_tokens wav_state ++ pcm_tokens pcm_state
+-- the outputs of these kinds
+unfoldable pub run_outputs_tokens : List OutputKind → OutputStates → List Token
+run_outputs_tokens [] states = []
+run_outputs_tokens (kind ∷ kinds) states = run_output_tokens kind (state_of kind states) ++ run_outputs_tokens kinds states
 
 -- a snapshot
 unfoldable pub state_tokens : Snapshot → List Token
 state_tokens snapshot =
     begin_object ∷ (array_tokens (codes "streams") (streams_tokens snapshot.streams.items)
     ++ array_tokens (codes "outputs") (outputs_tokens snapshot.outputs.items)
-    ++ failed_tokens snapshot.failed_sends ++ file_tokens snapshot.record snapshot.wav snapshot.pcm ++ end_object ∷ [])
+    ++ failed_tokens snapshot.failed_sends ++ run_outputs_tokens OUTPUT_KINDS snapshot.run_outputs ++ end_object ∷ [])

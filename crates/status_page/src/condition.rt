@@ -1,9 +1,8 @@
-//! The names of the conditions of a stream and of the states of a record, and their values as metrics.
+//! The names of the conditions of a stream, and their values as metrics.
 ghost use Rattle.std.specs.Prelude.{◌≡◌};
 ghost use Rattle.status_page.specs.Metrics.{condition_text, has_condition};
-ghost use Rattle.status_page.specs.Record.{record_datagrams, record_text};
 
-use crate::snapshot::{Condition, RecordState};
+use crate::snapshot::Condition;
 
 /// All conditions of a stream, in the order in which `/metrics` lists them.
 pub(crate) const CONDITIONS: [Condition; 4] = [
@@ -37,29 +36,6 @@ impl Condition {
             | (Condition::SignalLost, Condition::SignalLost)
             | (Condition::Ended, Condition::Ended) => 1,
             _ => 0,
-        }
-    }
-}
-
-impl RecordState {
-    /// Returns the state's name in `/state` and `/metrics`.
-    pub fn text(self) -> &'static str
-        ensures { result.now ≡ record_text self }
-    {
-        match self {
-            RecordState::Absent => "none",
-            RecordState::Writing(_) => "writing",
-            RecordState::Closed(_) => "ended",
-        }
-    }
-
-    /// Returns the number of datagrams that the record holds, or `None` without a record.
-    pub fn datagrams(self) -> Option<u64>
-        ensures { result ≡ record_datagrams self }
-    {
-        match self {
-            RecordState::Absent => None,
-            RecordState::Writing(datagrams) | RecordState::Closed(datagrams) => Some(datagrams),
         }
     }
 }

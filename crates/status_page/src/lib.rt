@@ -24,7 +24,6 @@
 //! read what is answered here under a name that it has had resolved to 127.0.0.1.
 #![tactic(auto)]
 
-mod audio_state;
 mod condition;
 mod control;
 mod control_page;
@@ -48,6 +47,5 @@ pub use server::served::ServedPage;
 pub use server::source::{RingSource, serve_page};
 pub use server::{MAX_CLIENTS, PageServer};
 pub use snapshot::{
-    Condition, CopyCounts, OutputState, PathState, PcmBlocks, PcmState, RecordState, Snapshot,
-    SocketState, StreamName, StreamState, WavState,
+    ChannelState, Condition, CopyCounts, PathState, Snapshot, SocketState, StreamName, StreamState,
 };

@@ -1,13 +1,13 @@
 //! A snapshot of a run: its streams, their paths and the output channels at one time.
 ghost use Rattle.std.specs.Prelude.{◌≡◌, [], ◌∷◌, None};
 ghost use Rattle.status_page.specs.Blank.{IsBlank, blank_path};
-ghost use Rattle.status_page.specs.declared.snapshot.RecordState.TheVariants.{Absent};
-ghost use Rattle.status_page.specs.declared.snapshot.WavState.TheVariants as Wav;
-ghost use Rattle.status_page.specs.declared.snapshot.PcmState.TheVariants as Pcm;
+ghost use Rattle.studio_io.specs.Outputs.{state_of};
+ghost use Rattle.studio_io.specs.declared.output_state.OutputState.TheVariants.{Absent};
 
 use arrayvec::{ArrayString, ArrayVec};
 use rtp_stats::ArrivalMargin;
 use rtp_stream::{Counts, PathCounts};
+use studio_io::{OutputKind, OutputStates};
 
 /// The name of a stream for people, of at most 64 octets.
 pub type StreamName = ArrayString<64>;
@@ -136,55 +136,11 @@ impl Default for StreamState {
 
 /// The state of an output channel.
 #[derive(Clone, Copy, Default, PartialEq, Eq)]
-pub struct OutputState {
+pub struct ChannelState {
     /// The greatest magnitude of a sample since the snapshot before. Full scale is 8,388,608.
     pub peak: u32,
     /// The number of samples that were saturated since the start.
     pub saturated: u64,
-}
-
-/// The state of a run's record.
-#[derive(Clone, Copy, PartialEq, Eq)]
-pub enum RecordState {
-    /// The run has no record.
-    Absent,
-    /// The record is being written, and holds this number of datagrams.
-    Writing(u64),
-    /// The record ended with this number of datagrams: nothing that arrives is added to it.
-    Closed(u64),
-}
-
-/// The state of a run's WAV file.
-#[derive(Clone, Copy, PartialEq, Eq)]
-pub enum WavState {
-    /// The run has no WAV file.
-    Absent,
-    /// The file is being written, and holds this number of blocks of the mix.
-    Writing(u64),
-    /// The file ended with this number of blocks: nothing that is mixed is added to it.
-    Closed(u64),
-}
-
-/// The numbers of blocks of a run's raw PCM.
-#[derive(Clone, Copy, PartialEq, Eq)]
-pub struct PcmBlocks {
-    /// The number of blocks that were written.
-    pub written: u64,
-    /// The number of blocks that were left out, because the reader was slow or there was none.
-    pub left_out: u64,
-}
-
-/// The state of a run's raw PCM.
-#[derive(Clone, Copy, PartialEq, Eq)]
-pub enum PcmState {
-    /// The run writes no raw PCM.
-    Absent,
-    /// Nobody reads the output yet.
-    Waiting(PcmBlocks),
-    /// The output is being written.
-    Writing(PcmBlocks),
-    /// The output ended: no block is written any more.
-    Closed(PcmBlocks),
 }
 
 /// A snapshot of a studio.
@@ -193,33 +149,26 @@ pub struct Snapshot {
     /// The state of each stream, in their order.
     pub streams: ArrayVec<StreamState, 16>,
     /// The state of each output channel, in their order.
-    pub outputs: ArrayVec<OutputState, 8>,
+    pub outputs: ArrayVec<ChannelState, 8>,
     /// For each of the two copies of the mix, the number of datagrams that were not sent.
     pub failed_sends: [u64; 2],
-    /// The state of the run's record.
-    pub record: RecordState,
-    /// The state of the run's WAV file.
-    pub wav: WavState,
-    /// The state of the run's raw PCM.
-    pub pcm: PcmState,
+    /// The state of what the run writes next to its mix: its record, its WAV file and its raw PCM.
+    pub run_outputs: OutputStates,
 }
 
 impl Snapshot {
-    /// Returns a snapshot without streams, output channels, a record, a WAV file and raw PCM, in which no send failed.
+    /// Returns a snapshot without streams, output channels and outputs of the run, in which no send failed.
     pub fn new() -> Snapshot
         ensures streams { result.streams.items ≡ [] }
         ensures outputs { result.outputs.items ≡ [] }
         ensures sends { result.failed_sends ≡ 0 ∷ 0 ∷ [] }
-        ensures record { result.record ≡ Absent }
-        ensures audio { (result.wav ≡ Wav.Absent) × (result.pcm ≡ Pcm.Absent) }
+        ensures run_outputs { (kind : OutputKind) → state_of kind result.run_outputs ≡ Absent }
     {
         Snapshot {
             streams: ArrayVec::new(),
             outputs: ArrayVec::new(),
             failed_sends: [0; 2],
-            record: RecordState::Absent,
-            wav: WavState::Absent,
-            pcm: PcmState::Absent,
+            run_outputs: OutputStates::new(),
         }
     }
 }

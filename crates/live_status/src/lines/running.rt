@@ -1,18 +1,16 @@
 //! The lines on standard error while a run goes on: of a stream's counts, of a path's socket, and of the run itself.
-ghost use Rattle.std.specs.Prelude.{◌≡◌, ◌+◌, ◌≤◌, ◌++◌, length, OnOk, OnErr};
+ghost use Rattle.std.specs.Prelude.{◌≡◌, ◌+◌, ◌*◌, ◌≤◌, ◌++◌, length, OnOk, OnErr};
 ghost use Rattle.rtp_stream.specs.Counts.{tally_of};
 ghost use Rattle.studio_run.specs.Buffer.{PassesOn, BreaksOff};
-ghost use Rattle.status_page.specs.Audio.{pcm_text, wav_text};
-ghost use Rattle.status_page.specs.Record.{record_text};
 ghost use Rattle.live_status.specs.Lines.{flag_text, known_text, running_line};
-ghost use Rattle.live_status.specs.Lines.{run_failed, run_left_out, run_line, run_pcm, run_pcm_blocks};
-ghost use Rattle.live_status.specs.Lines.{run_pcm_counts, run_pcm_state, run_record, run_time};
-ghost use Rattle.live_status.specs.Lines.{run_wav, run_wav_blocks, run_wav_state};
-ghost use Rattle.live_status.specs.Lines.{socket_faults, socket_line, socket_losses, socket_place};
+ghost use Rattle.live_status.specs.Lines.{output_left_out, output_left_out_if, output_state, output_written};
+ghost use Rattle.live_status.specs.Lines.{run_failed, run_line, run_output, run_output_counts, run_outputs, run_time};
+ghost use Rattle.live_status.specs.Lines.{socket_faults, socket_line, socket_losses, socket_place, written_word};
 
 use rtp_stream::{Counts, Path};
-use status_page::{PcmState, RecordState, SocketState, WavState};
+use status_page::SocketState;
 use std::io::Write;
+use studio_io::{OUTPUT_KINDS, OutputKind, OutputState, OutputStates};
 use studio_run::{TextBuffer, WriteFault, push_tally};
 
 /// Writes the line of a stream's counts at a clock reading, in sampling instants: each number after its word and `=`.
@@ -136,24 +134,22 @@ pub(crate) fn push_known(text: &mut TextBuffer, number: Option<u64>)
 }
 
 /// Writes the line of a run at a clock reading, in sampling instants: the datagrams of each copy of the mix that were
-/// not sent, and the states of the record, of the WAV file and of raw PCM, each with its counts.
+/// not sent, and the states of the run's outputs, each with its counts.
 pub(crate) fn write_run_state<W: Write>(
     text: &mut TextBuffer,
     writer: &mut W,
     time: i64,
     failed_a: u64,
     failed_b: u64,
-    state: RecordState,
-    wav: WavState,
-    pcm: PcmState,
+    outputs: &OutputStates,
 ) -> Result<(), WriteFault>
     ensures ok { OnOk result (PassesOn (W.contents writer.old) text.old (W.contents writer.new) text.new
-        (run_line time failed_a failed_b state wav pcm)) }
+        (run_line time failed_a failed_b outputs.now)) }
     ensures fault { OnErr result (BreaksOff (W.contents writer.old) text.old (W.contents writer.new)
-        (run_line time failed_a failed_b state wav pcm)) }
+        (run_line time failed_a failed_b outputs.now)) }
 {
     text.make_room(writer)?;
-    push_run_line(text, time, failed_a, failed_b, state, wav, pcm);
+    push_run_line(text, time, failed_a, failed_b, outputs);
     Ok(())
 }
 
@@ -164,18 +160,14 @@ fn push_run_line(
     time: i64,
     failed_a: u64,
     failed_b: u64,
-    state: RecordState,
-    wav: WavState,
-    pcm: PcmState,
+    outputs: &OutputStates,
 )
     requires { length text.old + 4096 ≤ 65536 }
-    ensures { text.new ≡ text.old ++ run_line time failed_a failed_b state wav pcm }
+    ensures { text.new ≡ text.old ++ run_line time failed_a failed_b outputs.now }
 {
     push_run_time(text, time);
     push_run_failed(text, failed_a, failed_b);
-    push_run_record(text, state);
-    push_run_wav(text, wav);
-    push_run_pcm(text, pcm);
+    push_run_outputs(text, &OUTPUT_KINDS, outputs);
     text.push("\n");
 }
 
@@ -203,143 +195,107 @@ fn push_run_failed(text: &mut TextBuffer, failed_a: u64, failed_b: u64)
     text.push_number(failed_b);
 }
 
-/// Adds the state of the record, and the number of datagrams that it holds.
-#[tactic(auto, unfolding(crate::specs::Lines::run_record))]
-fn push_run_record(text: &mut TextBuffer, state: RecordState)
-    requires { length text.old + 100 ≤ 65536 }
-    ensures text { text.new ≡ text.old ++ run_record state }
-    ensures few { length text.new ≤ length text.old + 100 }
+/// Adds the outputs of these kinds.
+#[tactic(auto, unfolding(crate::specs::Lines::run_outputs))]
+fn push_run_outputs(text: &mut TextBuffer, kinds: &[OutputKind], states: &OutputStates)
+    requires { length text.old + 400 * length kinds.now ≤ 65536 }
+    ensures text { text.new ≡ text.old ++ run_outputs kinds.now states.now }
+    ensures few { length text.new ≤ length text.old + 400 * length kinds.now }
 {
-    text.push(" record=");
-    push_state(text, state);
-    text.push(" recorded=");
-    push_known(text, state.datagrams());
+    for kind in kinds {
+        push_run_output(text, *kind, states.of(*kind));
+    }
 }
 
-/// Adds the state of the WAV file, and the number of blocks that it holds.
-#[tactic(auto, unfolding(crate::specs::Lines::run_wav))]
-fn push_run_wav(text: &mut TextBuffer, state: WavState)
+/// Adds the state of an output, and its counts.
+#[tactic(auto, unfolding(crate::specs::Lines::run_output))]
+fn push_run_output(text: &mut TextBuffer, kind: OutputKind, state: OutputState)
+    requires { length text.old + 400 ≤ 65536 }
+    ensures text { text.new ≡ text.old ++ run_output kind state }
+    ensures few { length text.new ≤ length text.old + 400 }
+{
+    push_output_state(text, kind, state.name());
+    push_output_counts(text, kind, state.written(), state.left_out());
+}
+
+/// Adds the name of an output's state behind the output's name.
+#[tactic(auto, unfolding(crate::specs::Lines::output_state))]
+fn push_output_state(text: &mut TextBuffer, kind: OutputKind, state: &str)
+    requires room { length text.old + 100 ≤ 65536 }
+    requires short { length state.now ≤ 7 }
+    ensures text { text.new ≡ text.old ++ output_state kind state.now }
+    ensures few { length text.new ≤ length text.old + 100 }
+{
+    text.push(" ");
+    text.push(kind.key());
+    text.push("=");
+    text.push(state);
+}
+
+/// Adds the numbers of units of an output that were written, and that were left out if the output has a reader.
+#[tactic(auto, unfolding(crate::specs::Lines::run_output_counts))]
+fn push_output_counts(
+    text: &mut TextBuffer,
+    kind: OutputKind,
+    written: Option<u64>,
+    left_out: Option<u64>,
+)
     requires { length text.old + 200 ≤ 65536 }
-    ensures text { text.new ≡ text.old ++ run_wav state }
+    ensures text { text.new ≡ text.old ++ run_output_counts kind written left_out }
     ensures few { length text.new ≤ length text.old + 200 }
 {
-    push_run_wav_state(text, state);
-    push_run_wav_blocks(text, state.blocks());
+    push_output_written(text, kind, written);
+    push_output_left_out_if(text, kind.has_reader(), kind, left_out);
 }
 
-/// Adds the state of the WAV file.
-#[tactic(auto, unfolding(crate::specs::Lines::run_wav_state))]
-fn push_run_wav_state(text: &mut TextBuffer, state: WavState)
+/// Adds the number of units of an output that were written.
+#[tactic(auto, unfolding(crate::specs::Lines::output_written))]
+fn push_output_written(text: &mut TextBuffer, kind: OutputKind, written: Option<u64>)
     requires { length text.old + 100 ≤ 65536 }
-    ensures text { text.new ≡ text.old ++ run_wav_state state }
+    ensures text { text.new ≡ text.old ++ output_written kind written }
     ensures few { length text.new ≤ length text.old + 100 }
 {
-    text.push(" wav=");
-    push_wav_state(text, state);
+    text.push(written_word(kind));
+    push_known(text, written);
 }
 
-/// Adds the number of blocks that the WAV file holds.
-#[tactic(auto, unfolding(crate::specs::Lines::run_wav_blocks))]
-fn push_run_wav_blocks(text: &mut TextBuffer, blocks: Option<u64>)
+/// Returns the word before the number of units of an output that were written.
+fn written_word(kind: OutputKind) -> &'static str
+    ensures word { result.now ≡ written_word kind }
+    ensures few { length result.now ≤ 12 }
+{
+    match kind {
+        OutputKind::Record => " recorded=",
+        OutputKind::Wav => " wav_blocks=",
+        OutputKind::Pcm => " pcm_blocks=",
+    }
+}
+
+/// Adds the number of units of an output that were left out, if the output has a reader.
+fn push_output_left_out_if(
+    text: &mut TextBuffer,
+    has_reader: bool,
+    kind: OutputKind,
+    left_out: Option<u64>,
+)
     requires { length text.old + 100 ≤ 65536 }
-    ensures text { text.new ≡ text.old ++ run_wav_blocks blocks }
+    ensures text { text.new ≡ text.old ++ output_left_out_if has_reader kind left_out }
     ensures few { length text.new ≤ length text.old + 100 }
 {
-    text.push(" wav_blocks=");
-    push_known(text, blocks);
+    if has_reader {
+        push_output_left_out(text, kind, left_out);
+    }
 }
 
-/// Adds the state of raw PCM, and the numbers of blocks that were written and left out.
-#[tactic(auto, unfolding(crate::specs::Lines::run_pcm))]
-fn push_run_pcm(text: &mut TextBuffer, state: PcmState)
-    requires { length text.old + 300 ≤ 65536 }
-    ensures text { text.new ≡ text.old ++ run_pcm state }
-    ensures few { length text.new ≤ length text.old + 300 }
-{
-    push_run_pcm_state(text, state);
-    push_run_pcm_counts(text, state.blocks(), state.left_out());
-}
-
-/// Adds the state of raw PCM.
-#[tactic(auto, unfolding(crate::specs::Lines::run_pcm_state))]
-fn push_run_pcm_state(text: &mut TextBuffer, state: PcmState)
+/// Adds the number of units of an output that were left out.
+#[tactic(auto, unfolding(crate::specs::Lines::output_left_out))]
+fn push_output_left_out(text: &mut TextBuffer, kind: OutputKind, left_out: Option<u64>)
     requires { length text.old + 100 ≤ 65536 }
-    ensures text { text.new ≡ text.old ++ run_pcm_state state }
+    ensures text { text.new ≡ text.old ++ output_left_out kind left_out }
     ensures few { length text.new ≤ length text.old + 100 }
 {
-    text.push(" pcm=");
-    push_pcm_state(text, state);
-}
-
-/// Adds the numbers of blocks of raw PCM that were written and left out.
-#[tactic(auto, unfolding(crate::specs::Lines::run_pcm_counts))]
-fn push_run_pcm_counts(text: &mut TextBuffer, blocks: Option<u64>, left_out: Option<u64>)
-    requires { length text.old + 200 ≤ 65536 }
-    ensures text { text.new ≡ text.old ++ run_pcm_counts blocks left_out }
-    ensures few { length text.new ≤ length text.old + 200 }
-{
-    push_run_pcm_blocks(text, blocks);
-    push_run_left_out(text, left_out);
-}
-
-/// Adds the number of blocks of raw PCM that were written.
-#[tactic(auto, unfolding(crate::specs::Lines::run_pcm_blocks))]
-fn push_run_pcm_blocks(text: &mut TextBuffer, blocks: Option<u64>)
-    requires { length text.old + 100 ≤ 65536 }
-    ensures text { text.new ≡ text.old ++ run_pcm_blocks blocks }
-    ensures few { length text.new ≤ length text.old + 100 }
-{
-    text.push(" pcm_blocks=");
-    push_known(text, blocks);
-}
-
-/// Adds the number of blocks that were left out of raw PCM.
-#[tactic(auto, unfolding(crate::specs::Lines::run_left_out))]
-fn push_run_left_out(text: &mut TextBuffer, left_out: Option<u64>)
-    requires { length text.old + 100 ≤ 65536 }
-    ensures text { text.new ≡ text.old ++ run_left_out left_out }
-    ensures few { length text.new ≤ length text.old + 100 }
-{
-    text.push(" pcm_left_out=");
+    text.push(" ");
+    text.push(kind.key());
+    text.push("_left_out=");
     push_known(text, left_out);
-}
-
-/// Adds the name of a record's state.
-fn push_state(text: &mut TextBuffer, state: RecordState)
-    requires { length text.old + 40 ≤ 65536 }
-    ensures text { text.new ≡ text.old ++ record_text state }
-    ensures few { length text.new ≤ length text.old + 40 }
-{
-    match state {
-        RecordState::Absent => text.push("none"),
-        RecordState::Writing(_) => text.push("writing"),
-        RecordState::Closed(_) => text.push("ended"),
-    }
-}
-
-/// Adds the name of a WAV file's state.
-fn push_wav_state(text: &mut TextBuffer, state: WavState)
-    requires { length text.old + 40 ≤ 65536 }
-    ensures text { text.new ≡ text.old ++ wav_text state }
-    ensures few { length text.new ≤ length text.old + 40 }
-{
-    match state {
-        WavState::Absent => text.push("none"),
-        WavState::Writing(_) => text.push("writing"),
-        WavState::Closed(_) => text.push("ended"),
-    }
-}
-
-/// Adds the name of the state of raw PCM.
-fn push_pcm_state(text: &mut TextBuffer, state: PcmState)
-    requires { length text.old + 40 ≤ 65536 }
-    ensures text { text.new ≡ text.old ++ pcm_text state }
-    ensures few { length text.new ≤ length text.old + 40 }
-{
-    match state {
-        PcmState::Absent => text.push("none"),
-        PcmState::Waiting(_) => text.push("waiting"),
-        PcmState::Writing(_) => text.push("writing"),
-        PcmState::Closed(_) => text.push("ended"),
-    }
 }

@@ -3,9 +3,10 @@
 //! All parts find room in it, which the texts show: so its functions test no result, and hold little across a test.
 use rtp_stream::{Counts, PathCounts};
 use status_page::{
-    ArrivalMargin, Condition, CopyCounts, OutputState, PathState, PcmBlocks, PcmState, RecordState,
-    Snapshot, SocketState, StreamName, StreamState, WavState,
+    ArrivalMargin, ChannelState, Condition, CopyCounts, PathState, Snapshot, SocketState,
+    StreamName, StreamState,
 };
+use studio_io::{OutputCounts, OutputEnd, OutputKind, OutputState, OutputStates};
 
 /// A name with all that has to be escaped.
 pub(super) const NAME: &str = "L\"\\\n<b>";
@@ -72,23 +73,36 @@ fn stream() -> StreamState {
 
 /// Adds an output channel with this peak.
 fn add_output(snapshot: &mut Snapshot, peak: u32) {
-    let output = OutputState { peak, saturated: 2 };
+    let output = ChannelState { peak, saturated: 2 };
     let _ = snapshot.outputs.try_push(output);
 }
 
-/// Returns a snapshot of that stream, of two output channels, of failed sends, of a record, of a WAV file and of raw
-/// PCM.
+/// Returns the counts of an output that was given 25 units.
+fn output_counts(written: u64, left_out: u64) -> OutputCounts {
+    OutputCounts {
+        given: 25,
+        written,
+        left_out,
+    }
+}
+
+/// Returns the states of a record that has ended, a WAV file that is written, and raw PCM that nobody reads yet.
+fn run_outputs() -> OutputStates {
+    let mut states = OutputStates::new();
+    let ended = OutputState::Ended(output_counts(14, 23), OutputEnd::Slow);
+    states.set(OutputKind::Record, ended);
+    states.set(OutputKind::Wav, OutputState::Writing(output_counts(20, 24)));
+    states.set(OutputKind::Pcm, OutputState::Waiting(output_counts(21, 22)));
+    states
+}
+
+/// Returns a snapshot of that stream, of two output channels, of failed sends, and of the outputs of a run.
 pub(super) fn snapshot() -> Snapshot {
     let mut snapshot = Snapshot::new();
     let _ = snapshot.streams.try_push(stream());
     add_output(&mut snapshot, 8_388_608);
     add_output(&mut snapshot, 0);
     snapshot.failed_sends = [11, 13];
-    snapshot.record = RecordState::Closed(14);
-    snapshot.wav = WavState::Writing(20);
-    snapshot.pcm = PcmState::Waiting(PcmBlocks {
-        written: 21,
-        left_out: 22,
-    });
+    snapshot.run_outputs = run_outputs();
     snapshot
 }

@@ -3,7 +3,7 @@ ghost use Rattle.std.specs.Prelude.{◌≡◌};
 ghost use Rattle.status_page.specs.Fields.{output_help, output_key, output_kind, output_value};
 
 use crate::fields::MetricKind;
-use crate::snapshot::OutputState;
+use crate::snapshot::ChannelState;
 
 /// A number of an output channel. `help` describes each.
 #[derive(Clone, Copy, PartialEq, Eq)]
@@ -49,7 +49,7 @@ impl OutputField {
     }
 
     /// Returns the number's value.
-    pub(crate) fn value(self, output: &OutputState) -> u64
+    pub(crate) fn value(self, output: &ChannelState) -> u64
         ensures { result ≡ output_value self output.now }
     {
         match self {

@@ -15,20 +15,16 @@ ghost use Rattle.status_page.specs.Metrics.{
   failed_samples,
   failed_text,
   count_family,
-  file_families,
   file_states,
   left_out_family,
-  pcm_blocks_family,
-  pcm_counts,
-  pcm_families,
-  pcm_state_family,
-  pcm_states,
-  record_families,
-  record_states,
-  recorded_family,
-  wav_blocks_family,
-  wav_families,
-  wav_states,
+  left_out_family_if,
+  output_counts,
+  output_state_family,
+  output_state_samples,
+  reader_states,
+  run_output_families,
+  run_output_family,
+  written_family,
   metrics_text,
   state_header,
 };
@@ -37,17 +33,17 @@ use crate::condition::CONDITIONS;
 use crate::fields::MetricKind;
 use crate::fields::output::{OUTPUT_FIELDS, OutputField};
 use crate::fields::path::{PATH_FIELDS, PathField};
+use crate::fields::run_output::{left_out_help, output_group, state_help, written_help};
 use crate::fields::stream::StreamField;
 use crate::page::samples::{
     push_condition_sample, push_count_sample, push_failed_sample, push_output_sample,
     push_path_sample, push_state_sample, push_stream_sample,
 };
 use crate::page::text::push_header;
-use crate::snapshot::{
-    Condition, OutputState, PathState, PcmState, RecordState, Snapshot, StreamState, WavState,
-};
+use crate::snapshot::{ChannelState, Condition, PathState, Snapshot, StreamState};
 use rtp_stream::{COUNT_FIELDS, CountField, Path};
 use std::alloc::{AllocError, Global};
+use studio_io::{OUTPUT_KINDS, OutputKind, OutputState, OutputStates};
 
 /// Returns a snapshot in the text form of Prometheus, version 0.0.4, or `AllocError` if an allocation fails.
 #[tactic(auto, unfolding(crate::specs::Metrics::metrics_text))]
@@ -65,7 +61,7 @@ pub fn metrics_text(alloc: Global, snapshot: &Snapshot) -> Result<Vec<u8>, Alloc
         snapshot.failed_sends[0],
         snapshot.failed_sends[1],
     )?;
-    push_file_families(&mut text, snapshot.record, snapshot.wav, snapshot.pcm)?;
+    push_run_output_families(&mut text, &OUTPUT_KINDS, &snapshot.run_outputs)?;
     Ok(text)
 }
 
@@ -224,7 +220,7 @@ fn push_path_samples(
 fn push_output_families(
     text: &mut Vec<u8>,
     fields: &[OutputField],
-    outputs: &[OutputState],
+    outputs: &[ChannelState],
 ) -> Result<(), AllocError>
     ensures { OnOk result (text.new.items ≡ text.old.items ++ output_families fields.now outputs.now) }
 {
@@ -240,7 +236,7 @@ fn push_output_families(
 fn push_output_samples(
     text: &mut Vec<u8>,
     field: OutputField,
-    outputs: &[OutputState],
+    outputs: &[ChannelState],
 ) -> Result<(), AllocError>
     ensures { OnOk result (text.new.items ≡ text.old.items ++ output_samples field 0 outputs.now) }
 {
@@ -270,143 +266,108 @@ fn push_failed_samples(text: &mut Vec<u8>, failed_a: u64, failed_b: u64) -> Resu
     push_failed_sample(text, "b", failed_b)
 }
 
-/// Appends the metrics of the record, of the WAV file and of raw PCM.
-fn push_file_families(
+/// Appends the metrics of the outputs of these kinds.
+#[tactic(auto, unfolding(crate::specs::Metrics::run_output_families))]
+fn push_run_output_families(
     text: &mut Vec<u8>,
-    recorded: RecordState,
-    wav: WavState,
-    pcm: PcmState,
+    kinds: &[OutputKind],
+    states: &OutputStates,
 ) -> Result<(), AllocError>
-    ensures { OnOk result (text.new.items ≡ text.old.items ++ file_families recorded wav pcm) }
+    ensures { OnOk result (text.new.items ≡ text.old.items ++ run_output_families kinds.now states.now) }
 {
-    push_record_families(text, recorded)?;
-    push_wav_families(text, wav)?;
-    push_pcm_families(text, pcm)
+    for kind in kinds {
+        push_run_output_family(text, *kind, states.of(*kind))?;
+    }
+    Ok(())
 }
 
-/// Appends the two metrics of the record.
-// Each text with a description is a function of its own: the proof then compares it once.
-#[tactic(auto, unfolding(crate::specs::Metrics::record_families))]
-fn push_record_families(text: &mut Vec<u8>, state: RecordState) -> Result<(), AllocError>
-    ensures { OnOk result (text.new.items ≡ text.old.items ++ record_families state) }
-{
-    push_record_states(text, state)?;
-    push_recorded(text, state.datagrams())
-}
-
-/// The description of the metric of the record's state.
-const RECORD_HELP: &str =
-    "The state of the record: 1 for the state that it is in, and 0 for the others.";
-
-/// Appends the metric of the record's state.
-#[tactic(auto, unfolding(crate::specs::Metrics::record_states))]
-fn push_record_states(text: &mut Vec<u8>, state: RecordState) -> Result<(), AllocError>
-    ensures { OnOk result (text.new.items ≡ text.old.items ++ record_states state) }
-{
-    push_header(text, "record_", "state", MetricKind::Gauge, RECORD_HELP)?;
-    push_file_states(text, "record_", state.text())
-}
-
-/// The description of the metric of the datagrams in the record.
-const RECORDED_HELP: &str = "Datagrams that the record holds.";
-
-/// Appends the metric of the datagrams in the record.
-#[tactic(auto, unfolding(crate::specs::Metrics::recorded_family))]
-fn push_recorded(text: &mut Vec<u8>, datagrams: Option<u64>) -> Result<(), AllocError>
-    ensures { OnOk result (text.new.items ≡ text.old.items ++ recorded_family datagrams) }
-{
-    push_count_family(text, "record_", "datagrams", RECORDED_HELP, datagrams)
-}
-
-/// Appends the two metrics of the WAV file.
-#[tactic(auto, unfolding(crate::specs::Metrics::wav_families))]
-fn push_wav_families(text: &mut Vec<u8>, state: WavState) -> Result<(), AllocError>
-    ensures { OnOk result (text.new.items ≡ text.old.items ++ wav_families state) }
-{
-    push_wav_states(text, state)?;
-    push_wav_blocks(text, state.blocks())
-}
-
-/// The description of the metric of the WAV file's state.
-const WAV_HELP: &str =
-    "The state of the WAV file: 1 for the state that it is in, and 0 for the others.";
-
-/// Appends the metric of the WAV file's state.
-#[tactic(auto, unfolding(crate::specs::Metrics::wav_states))]
-fn push_wav_states(text: &mut Vec<u8>, state: WavState) -> Result<(), AllocError>
-    ensures { OnOk result (text.new.items ≡ text.old.items ++ wav_states state) }
-{
-    push_header(text, "wav_", "state", MetricKind::Gauge, WAV_HELP)?;
-    push_file_states(text, "wav_", state.text())
-}
-
-/// The description of the metric of the blocks in the WAV file.
-const WAV_BLOCKS_HELP: &str = "Blocks of the mix that the WAV file holds.";
-
-/// Appends the metric of the blocks in the WAV file.
-#[tactic(auto, unfolding(crate::specs::Metrics::wav_blocks_family))]
-fn push_wav_blocks(text: &mut Vec<u8>, blocks: Option<u64>) -> Result<(), AllocError>
-    ensures { OnOk result (text.new.items ≡ text.old.items ++ wav_blocks_family blocks) }
-{
-    push_count_family(text, "wav_", "blocks", WAV_BLOCKS_HELP, blocks)
-}
-
-/// Appends the metrics of raw PCM.
-#[tactic(auto, unfolding(crate::specs::Metrics::pcm_families))]
-fn push_pcm_families(text: &mut Vec<u8>, state: PcmState) -> Result<(), AllocError>
-    ensures { OnOk result (text.new.items ≡ text.old.items ++ pcm_families state) }
-{
-    push_pcm_state_family(text, state)?;
-    push_pcm_counts(text, state.blocks(), state.left_out())
-}
-
-/// The description of the metric of the state of raw PCM.
-const PCM_HELP: &str =
-    "The state of the raw PCM: 1 for the state that it is in, and 0 for the others.";
-
-/// Appends the metric of the state of raw PCM.
-#[tactic(auto, unfolding(crate::specs::Metrics::pcm_state_family))]
-fn push_pcm_state_family(text: &mut Vec<u8>, state: PcmState) -> Result<(), AllocError>
-    ensures { OnOk result (text.new.items ≡ text.old.items ++ pcm_state_family state) }
-{
-    push_header(text, "pcm_", "state", MetricKind::Gauge, PCM_HELP)?;
-    push_pcm_states(text, state.text())
-}
-
-/// Appends the metrics of both counts of raw PCM.
-#[tactic(auto, unfolding(crate::specs::Metrics::pcm_counts))]
-fn push_pcm_counts(
+/// Appends the metrics of an output.
+#[tactic(auto, unfolding(crate::specs::Metrics::run_output_family))]
+fn push_run_output_family(
     text: &mut Vec<u8>,
-    blocks: Option<u64>,
+    kind: OutputKind,
+    state: OutputState,
+) -> Result<(), AllocError>
+    ensures { OnOk result (text.new.items ≡ text.old.items ++ run_output_family kind state) }
+{
+    push_output_state(text, kind, state.name())?;
+    push_output_counts(text, kind, state.written(), state.left_out())
+}
+
+/// Appends the metric of an output's state.
+#[tactic(auto, unfolding(crate::specs::Metrics::output_state_family))]
+fn push_output_state(text: &mut Vec<u8>, kind: OutputKind, state: &str) -> Result<(), AllocError>
+    ensures { OnOk result (text.new.items ≡ text.old.items ++ output_state_family kind state.now) }
+{
+    let group = output_group(kind);
+    push_header(text, group, "state", MetricKind::Gauge, state_help(kind))?;
+    push_state_samples(text, kind.has_reader(), group, state)
+}
+
+/// Appends the metrics of both counts of an output.
+#[tactic(auto, unfolding(crate::specs::Metrics::output_counts))]
+fn push_output_counts(
+    text: &mut Vec<u8>,
+    kind: OutputKind,
+    written: Option<u64>,
     left_out: Option<u64>,
 ) -> Result<(), AllocError>
-    ensures { OnOk result (text.new.items ≡ text.old.items ++ pcm_counts blocks left_out) }
+    ensures { OnOk result (text.new.items ≡ text.old.items ++ output_counts kind written left_out) }
 {
-    push_pcm_blocks(text, blocks)?;
-    push_left_out(text, left_out)
+    push_written(text, kind, written)?;
+    push_left_out_if(text, kind.has_reader(), kind, left_out)
 }
 
-/// The description of the metric of the blocks of raw PCM.
-const PCM_BLOCKS_HELP: &str = "Blocks of the mix that were written as raw PCM.";
-
-/// Appends the metric of the blocks of raw PCM.
-#[tactic(auto, unfolding(crate::specs::Metrics::pcm_blocks_family))]
-fn push_pcm_blocks(text: &mut Vec<u8>, blocks: Option<u64>) -> Result<(), AllocError>
-    ensures { OnOk result (text.new.items ≡ text.old.items ++ pcm_blocks_family blocks) }
+/// Appends the metric of the units that were written.
+#[tactic(auto, unfolding(crate::specs::Metrics::written_family))]
+fn push_written(
+    text: &mut Vec<u8>,
+    kind: OutputKind,
+    written: Option<u64>,
+) -> Result<(), AllocError>
+    ensures { OnOk result (text.new.items ≡ text.old.items ++ written_family kind written) }
 {
-    push_count_family(text, "pcm_", "blocks", PCM_BLOCKS_HELP, blocks)
+    push_count_family(
+        text,
+        output_group(kind),
+        kind.unit(),
+        written_help(kind),
+        written,
+    )
 }
 
-/// The description of the metric of the blocks that were left out of the raw PCM.
-const LEFT_OUT_HELP: &str =
-    "Blocks of the mix that were left out of the raw PCM, because its reader was slow or there was none.";
+/// Appends the metric of the units that were left out, if the output has a reader.
+fn push_left_out_if(
+    text: &mut Vec<u8>,
+    has_reader: bool,
+    kind: OutputKind,
+    left_out: Option<u64>,
+) -> Result<(), AllocError>
+    ensures { OnOk result (text.new.items ≡ text.old.items ++ left_out_family_if has_reader kind left_out) }
+{
+    if has_reader {
+        push_left_out(text, kind, left_out)
+    } else {
+        Ok(())
+    }
+}
 
-/// Appends the metric of the blocks that were left out of the raw PCM.
+/// Appends the metric of the units that were left out.
 #[tactic(auto, unfolding(crate::specs::Metrics::left_out_family))]
-fn push_left_out(text: &mut Vec<u8>, left_out: Option<u64>) -> Result<(), AllocError>
-    ensures { OnOk result (text.new.items ≡ text.old.items ++ left_out_family left_out) }
+fn push_left_out(
+    text: &mut Vec<u8>,
+    kind: OutputKind,
+    left_out: Option<u64>,
+) -> Result<(), AllocError>
+    ensures { OnOk result (text.new.items ≡ text.old.items ++ left_out_family kind left_out) }
 {
-    push_count_family(text, "pcm_", "left_out", LEFT_OUT_HELP, left_out)
+    push_count_family(
+        text,
+        output_group(kind),
+        "left_out",
+        left_out_help(kind),
+        left_out,
+    )
 }
 
 /// Appends the metric of a count without labels.
@@ -423,7 +384,25 @@ fn push_count_family(
     push_count_sample(text, group, key, count)
 }
 
-/// Appends the lines of the states of a file: 1 for the state of this name, and 0 for the others.
+/// Appends the lines of the states of an output, which has a reader or not: 1 for the state of this name, and 0 for the
+/// others.
+fn push_state_samples(
+    text: &mut Vec<u8>,
+    has_reader: bool,
+    group: &str,
+    state: &str,
+) -> Result<(), AllocError>
+    ensures { OnOk result
+        (text.new.items ≡ text.old.items ++ output_state_samples has_reader group.now state.now) }
+{
+    if has_reader {
+        push_reader_states(text, group, state)
+    } else {
+        push_file_states(text, group, state)
+    }
+}
+
+/// Appends the lines of the states of an output without a reader.
 #[tactic(auto, unfolding(crate::specs::Metrics::file_states))]
 fn push_file_states(text: &mut Vec<u8>, group: &str, state: &str) -> Result<(), AllocError>
     ensures { OnOk result (text.new.items ≡ text.old.items ++ file_states group.now state.now) }
@@ -433,13 +412,13 @@ fn push_file_states(text: &mut Vec<u8>, group: &str, state: &str) -> Result<(), 
     push_state_sample(text, group, state, "ended")
 }
 
-/// Appends the lines of the states of raw PCM: 1 for the state of this name, and 0 for the others.
-#[tactic(auto, unfolding(crate::specs::Metrics::pcm_states))]
-fn push_pcm_states(text: &mut Vec<u8>, state: &str) -> Result<(), AllocError>
-    ensures { OnOk result (text.new.items ≡ text.old.items ++ pcm_states state.now) }
+/// Appends the lines of the states of an output with a reader.
+#[tactic(auto, unfolding(crate::specs::Metrics::reader_states))]
+fn push_reader_states(text: &mut Vec<u8>, group: &str, state: &str) -> Result<(), AllocError>
+    ensures { OnOk result (text.new.items ≡ text.old.items ++ reader_states group.now state.now) }
 {
-    push_state_sample(text, "pcm_", state, "none")?;
-    push_state_sample(text, "pcm_", state, "waiting")?;
-    push_state_sample(text, "pcm_", state, "writing")?;
-    push_state_sample(text, "pcm_", state, "ended")
+    push_state_sample(text, group, state, "none")?;
+    push_state_sample(text, group, state, "waiting")?;
+    push_state_sample(text, group, state, "writing")?;
+    push_state_sample(text, group, state, "ended")
 }

@@ -20,7 +20,7 @@ use crate::fields::path::{PathField, flag};
 use crate::fields::stream::StreamField;
 use crate::fields::{MetricKind, Number};
 use crate::page::text::{push, push_label, push_metric, push_number, push_signed};
-use crate::snapshot::{Condition, OutputState, StreamName, StreamState};
+use crate::snapshot::{ChannelState, Condition, StreamName, StreamState};
 use rtp_stream::Path;
 use std::alloc::AllocError;
 
@@ -144,7 +144,7 @@ pub(crate) fn push_output_sample(
     text: &mut Vec<u8>,
     field: OutputField,
     number: usize,
-    output: &OutputState,
+    output: &ChannelState,
 ) -> Result<(), AllocError>
     ensures { OnOk result (text.new.items ≡ text.old.items ++ output_sample field number output.now) }
 {

@@ -21,15 +21,12 @@ ghost use Rattle.status_page.specs.State.{
   outputs_tokens,
   failed_tokens,
   count_member,
-  file_tokens,
-  pcm_count_members,
-  pcm_members,
-  pcm_tokens,
-  record_members,
-  record_tokens,
+  left_out_members,
+  output_count_members,
+  run_output_members,
+  run_output_tokens,
+  run_outputs_tokens,
   state_member,
-  wav_members,
-  wav_tokens,
   state_tokens,
 };
 
@@ -37,12 +34,11 @@ use crate::fields::Number;
 use crate::fields::output::{OUTPUT_FIELDS, OutputField};
 use crate::fields::path::{PATH_FIELDS, PathField};
 use crate::fields::stream::StreamField;
-use crate::snapshot::{
-    OutputState, PathState, PcmState, RecordState, Snapshot, StreamName, StreamState, WavState,
-};
+use crate::snapshot::{ChannelState, PathState, Snapshot, StreamName, StreamState};
 use json::Writer;
 use rtp_stream::{COUNT_FIELDS, CountField};
 use std::alloc::{AllocError, Global};
+use studio_io::{OUTPUT_KINDS, OutputKind, OutputState, OutputStates};
 
 /// Returns a snapshot as JSON (RFC 8259), or `AllocError` if an allocation fails.
 #[tactic(auto, unfolding(crate::specs::State::state_tokens))]
@@ -55,7 +51,7 @@ pub fn state_json(alloc: Global, snapshot: &Snapshot) -> Result<Vec<u8>, AllocEr
     write_streams(&mut writer, snapshot.streams.as_slice())?;
     write_outputs(&mut writer, snapshot.outputs.as_slice())?;
     write_failed_sends(&mut writer, snapshot.failed_sends)?;
-    write_files(&mut writer, snapshot.record, snapshot.wav, snapshot.pcm)?;
+    write_run_outputs(&mut writer, &OUTPUT_KINDS, &snapshot.run_outputs)?;
     writer.end_object()?;
     Ok(writer.into_inner())
 }
@@ -232,7 +228,7 @@ fn write_known(writer: &mut Writer, value: Option<u64>) -> Result<(), AllocError
 }
 
 /// Writes the member with the output channels.
-fn write_outputs(writer: &mut Writer, outputs: &[OutputState]) -> Result<(), AllocError>
+fn write_outputs(writer: &mut Writer, outputs: &[ChannelState]) -> Result<(), AllocError>
     ensures tokens { OnOk result (writer.new.tokens
         ≡ writer.old.tokens ++ array_tokens (codes "outputs") (outputs_tokens outputs.now)) }
     ensures before { OnOk result (writer.new.before ≡ writer.old.before) }
@@ -245,7 +241,7 @@ fn write_outputs(writer: &mut Writer, outputs: &[OutputState]) -> Result<(), All
 
 /// Writes the output channels one after another.
 #[tactic(auto, unfolding(crate::specs::State::outputs_tokens))]
-fn write_each_output(writer: &mut Writer, outputs: &[OutputState]) -> Result<(), AllocError>
+fn write_each_output(writer: &mut Writer, outputs: &[ChannelState]) -> Result<(), AllocError>
     ensures tokens { OnOk result (writer.new.tokens ≡ writer.old.tokens ++ outputs_tokens outputs.now) }
     ensures before { OnOk result (writer.new.before ≡ writer.old.before) }
 {
@@ -256,7 +252,7 @@ fn write_each_output(writer: &mut Writer, outputs: &[OutputState]) -> Result<(),
 }
 
 /// Writes an output channel.
-fn write_output(writer: &mut Writer, output: &OutputState) -> Result<(), AllocError>
+fn write_output(writer: &mut Writer, output: &ChannelState) -> Result<(), AllocError>
     ensures tokens { OnOk result (writer.new.tokens ≡ writer.old.tokens ++ output_tokens output.now) }
     ensures before { OnOk result (writer.new.before ≡ writer.old.before) }
 {
@@ -270,7 +266,7 @@ fn write_output(writer: &mut Writer, output: &OutputState) -> Result<(), AllocEr
 fn write_output_members(
     writer: &mut Writer,
     fields: &[OutputField],
-    output: &OutputState,
+    output: &ChannelState,
 ) -> Result<(), AllocError>
     ensures tokens { OnOk result (writer.new.tokens ≡ writer.old.tokens ++ output_members fields.now output.now) }
     ensures before { OnOk result (writer.new.before ≡ writer.old.before) }
@@ -294,94 +290,81 @@ fn write_failed_sends(writer: &mut Writer, failed: [u64; 2]) -> Result<(), Alloc
     writer.end_array()
 }
 
-/// Writes the members with the states of the record, of the WAV file and of raw PCM.
-#[tactic(auto, unfolding(crate::specs::State::file_tokens))]
-fn write_files(
+/// Writes the members with the outputs of these kinds.
+#[tactic(auto, unfolding(crate::specs::State::run_outputs_tokens))]
+fn write_run_outputs(
     writer: &mut Writer,
-    recorded: RecordState,
-    wav: WavState,
-    pcm: PcmState,
+    kinds: &[OutputKind],
+    states: &OutputStates,
 ) -> Result<(), AllocError>
-    ensures tokens { OnOk result (writer.new.tokens ≡ writer.old.tokens ++ file_tokens recorded wav pcm) }
+    ensures tokens { OnOk result (writer.new.tokens ≡ writer.old.tokens ++ run_outputs_tokens kinds.now states.now) }
     ensures before { OnOk result (writer.new.before ≡ writer.old.before) }
 {
-    write_record(writer, recorded)?;
-    write_wav(writer, wav)?;
-    write_pcm(writer, pcm)
+    for kind in kinds {
+        write_run_output(writer, *kind, states.of(*kind))?;
+    }
+    Ok(())
 }
 
-/// Writes the member with the state of the record.
-fn write_record(writer: &mut Writer, state: RecordState) -> Result<(), AllocError>
-    ensures tokens { OnOk result (writer.new.tokens ≡ writer.old.tokens ++ record_tokens state) }
-    ensures before { OnOk result (writer.new.before ≡ writer.old.before) }
-{
-    writer.key("record")?;
-    writer.begin_object()?;
-    write_record_members(writer, state)?;
-    writer.end_object()
-}
-
-/// Writes the state of the record, and the number of datagrams that it holds.
-fn write_record_members(writer: &mut Writer, state: RecordState) -> Result<(), AllocError>
-    ensures tokens { OnOk result (writer.new.tokens ≡ writer.old.tokens ++ record_members state) }
-    ensures before { OnOk result (writer.new.before ≡ writer.old.before) }
-{
-    write_state_member(writer, state.text())?;
-    write_count_member(writer, "datagrams", state.datagrams())
-}
-
-/// Writes the member with the state of the WAV file.
-fn write_wav(writer: &mut Writer, state: WavState) -> Result<(), AllocError>
-    ensures tokens { OnOk result (writer.new.tokens ≡ writer.old.tokens ++ wav_tokens state) }
-    ensures before { OnOk result (writer.new.before ≡ writer.old.before) }
-{
-    writer.key("wav")?;
-    writer.begin_object()?;
-    write_wav_members(writer, state)?;
-    writer.end_object()
-}
-
-/// Writes the state of the WAV file, and the number of blocks that it holds.
-fn write_wav_members(writer: &mut Writer, state: WavState) -> Result<(), AllocError>
-    ensures tokens { OnOk result (writer.new.tokens ≡ writer.old.tokens ++ wav_members state) }
-    ensures before { OnOk result (writer.new.before ≡ writer.old.before) }
-{
-    write_state_member(writer, state.text())?;
-    write_count_member(writer, "blocks", state.blocks())
-}
-
-/// Writes the member with the state of raw PCM.
-fn write_pcm(writer: &mut Writer, state: PcmState) -> Result<(), AllocError>
-    ensures tokens { OnOk result (writer.new.tokens ≡ writer.old.tokens ++ pcm_tokens state) }
-    ensures before { OnOk result (writer.new.before ≡ writer.old.before) }
-{
-    writer.key("pcm")?;
-    writer.begin_object()?;
-    write_pcm_members(writer, state)?;
-    writer.end_object()
-}
-
-/// Writes the state of raw PCM, and the numbers of blocks that were written and that were left out.
-fn write_pcm_members(writer: &mut Writer, state: PcmState) -> Result<(), AllocError>
-    ensures tokens { OnOk result (writer.new.tokens ≡ writer.old.tokens ++ pcm_members state) }
-    ensures before { OnOk result (writer.new.before ≡ writer.old.before) }
-{
-    write_state_member(writer, state.text())?;
-    write_pcm_counts(writer, state.blocks(), state.left_out())
-}
-
-/// Writes the numbers of blocks of raw PCM that were written and that were left out.
-#[tactic(auto, unfolding(crate::specs::State::pcm_count_members))]
-fn write_pcm_counts(
+/// Writes the member with an output of the run.
+fn write_run_output(
     writer: &mut Writer,
-    blocks: Option<u64>,
+    kind: OutputKind,
+    state: OutputState,
+) -> Result<(), AllocError>
+    ensures tokens { OnOk result (writer.new.tokens ≡ writer.old.tokens ++ run_output_tokens kind state) }
+    ensures before { OnOk result (writer.new.before ≡ writer.old.before) }
+{
+    writer.key(kind.key())?;
+    writer.begin_object()?;
+    write_output_state(writer, kind, state)?;
+    writer.end_object()
+}
+
+/// Writes the state of an output, and its counts.
+#[tactic(auto, unfolding(crate::specs::State::run_output_members))]
+fn write_output_state(
+    writer: &mut Writer,
+    kind: OutputKind,
+    state: OutputState,
+) -> Result<(), AllocError>
+    ensures tokens { OnOk result (writer.new.tokens ≡ writer.old.tokens ++ run_output_members kind state) }
+    ensures before { OnOk result (writer.new.before ≡ writer.old.before) }
+{
+    write_state_member(writer, state.name())?;
+    write_output_counts(writer, kind, state.written(), state.left_out())
+}
+
+/// Writes the number of units of an output that were written, and if it has a reader the number that were left out.
+#[tactic(auto, unfolding(crate::specs::State::output_count_members))]
+fn write_output_counts(
+    writer: &mut Writer,
+    kind: OutputKind,
+    written: Option<u64>,
     left_out: Option<u64>,
 ) -> Result<(), AllocError>
-    ensures tokens { OnOk result (writer.new.tokens ≡ writer.old.tokens ++ pcm_count_members blocks left_out) }
+    ensures tokens { OnOk result
+        (writer.new.tokens ≡ writer.old.tokens ++ output_count_members kind written left_out) }
     ensures before { OnOk result (writer.new.before ≡ writer.old.before) }
 {
-    write_count_member(writer, "blocks", blocks)?;
-    write_count_member(writer, "left_out", left_out)
+    write_count_member(writer, kind.unit(), written)?;
+    write_left_out(writer, kind.has_reader(), left_out)
+}
+
+/// Writes the number of units that were left out, if the output has a reader.
+fn write_left_out(
+    writer: &mut Writer,
+    has_reader: bool,
+    left_out: Option<u64>,
+) -> Result<(), AllocError>
+    ensures tokens { OnOk result (writer.new.tokens ≡ writer.old.tokens ++ left_out_members has_reader left_out) }
+    ensures before { OnOk result (writer.new.before ≡ writer.old.before) }
+{
+    if has_reader {
+        write_count_member(writer, "left_out", left_out)
+    } else {
+        Ok(())
+    }
 }
 
 /// Writes a state by its name.

@@ -3,7 +3,7 @@ use Rattle.arrayvec.specs.ArrayVec.{ArrayVec}
 use Rattle.std.proofs.lemmas.Int.{to_z-of_z}
 use Rattle.std.specs.List.{refill}
 use Rattle.rtp_stats.specs.declared.copy_tracker.CopyTracker.{CopyTracker}
-use Rattle.status_page.specs.declared.snapshot.OutputState.{OutputState}
+use Rattle.status_page.specs.declared.snapshot.ChannelState.{ChannelState}
 use Rattle.status_page.specs.declared.snapshot.Snapshot.{Snapshot}
 use Rattle.status_page.specs.declared.snapshot.StreamState.{StreamState}
 use Rattle.live_status.specs.Each.{AreEach}
@@ -27,17 +27,17 @@ returns-clause-shown g c =
     let given = c.as_mut_slice-streams.result.now in
     let by_trackers : AreEach (FillsStreamAt engine trackers) given streams = subst (λ (ts : List CopyTracker). AreEach (FillsStreamAt engine ts) given streams) c.as_slice.ensures.value c.fill_streams.ensures in
     let sees : AreEach (FillsStreamAt engine trackers) blank.streams.items streams = subst (λ (l : List StreamState). AreEach (FillsStreamAt engine trackers) l streams) c.as_mut_slice-streams.ensures.value by_trackers in
-    let heard : AreEach (IsEngineOutput engine) blank.outputs.items outputs = subst (λ (l : List OutputState). AreEach (IsEngineOutput engine) l outputs) c.as_mut_slice.ensures.value c.fill_engine_outputs.ensures in
+    let heard : AreEach (IsEngineOutput engine) blank.outputs.items outputs = subst (λ (l : List ChannelState). AreEach (IsEngineOutput engine) l outputs) c.as_mut_slice.ensures.value c.fill_engine_outputs.ensures in
     let same : refill (length blank.streams.items) blank.streams.items streams ≡ streams = refilled blank.streams.items streams sees.length_is in
     let kept : AreEach KeepsStream streams filled.streams.items = subst (λ (l : List StreamState). AreEach KeepsStream l filled.streams.items) same c.fill_health.ensures.streams in
-    let all : filled.outputs.items ≡ outputs = ap (λ (o : ArrayVec OutputState). o.items) c.fill_health.ensures.outputs ∙ refilled blank.outputs.items outputs heard.length_is in
+    let all : filled.outputs.items ≡ outputs = ap (λ (o : ArrayVec ChannelState). o.items) c.fill_health.ensures.outputs ∙ refilled blank.outputs.items outputs heard.length_is in
     let time : to_z w64 (of_z w64 c.time.result) ≡ engine.time = to_z-of_z w64 c.time.result (search rules) ∙ c.time.ensures.value in (
       filled,
       record {
         streams = λ few. streams-kept engine trackers publisher.streams.items streams filled.streams.items
             (streams-filled engine trackers publisher.streams.items blank.streams.items streams (c.blank_snapshot-snapshot.ensures.streams few) sees) kept;
-        outputs = subst (λ (l : List OutputState). AreEach (IsEngineOutput engine) (replicate publisher.channels blank_output) l) (sym all)
-            (subst (λ (l : List OutputState). AreEach (IsEngineOutput engine) l outputs) c.blank_snapshot-snapshot.ensures.outputs heard);
+        outputs = subst (λ (l : List ChannelState). AreEach (IsEngineOutput engine) (replicate publisher.channels blank_output) l) (sym all)
+            (subst (λ (l : List ChannelState). AreEach (IsEngineOutput engine) l outputs) c.blank_snapshot-snapshot.ensures.outputs heard);
       },
       subst (λ (now : ℤ). Shows publisher.watches.items publisher.streams.items now c.args.has_ended filled publisher.page c.publish.new.self.page) time c.publish.ensures.shown,
     )
