@@ -113,9 +113,9 @@ def rows_of_outputs() -> Iterator[str]:
     )
     word_of = texts(read(STATS[0]), "fn written_word(", "\n}\n")
     for name, key in texts(kinds, "fn key(").items():
-        unit, metric = unit_of[name], f"darbexum_{key}"
+        unit, metric, word = unit_of[name], f"darbexum_{key}", word_of[name].strip(" =")
         yield row(None, f"run {key}", f"{key}.state", f"{metric}_state", state_help[name])
-        yield row(key, f"run {word_of[name].strip(' =')}", f"{key}.{unit}", f"{metric}_{unit}_total", written_help[name])
+        yield row(key, f"run {word}", f"{key}.{unit}", f"{metric}_{unit}_total", written_help[name])
         if left_out_help[name]:
             yield row(None, f"run {key}_left_out", f"{key}.left_out", f"{metric}_left_out_total", left_out_help[name])
 
