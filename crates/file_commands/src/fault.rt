@@ -9,7 +9,8 @@ use studio_run::{
     GainsFault, GainsFaultKind, PlayFault, ReadFault, SpecError, StudioFault, WriteFault,
 };
 use thiserror::Error;
-use wav_file::{FileFault, StreamWavFault};
+use wav_file::FileFault;
+use wav_runs::StreamWavFault;
 
 /// The fault that ended a command over files. Its `Display` is the fault's line, without the path that precedes a
 /// fault of a file: the command writes that to `faults` itself.

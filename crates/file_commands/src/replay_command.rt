@@ -1,8 +1,8 @@
 //! The command `replay`: the report of a capture, with WAV files and a chart in addition to it.
 ghost use Rattle.std.specs.Prelude.{◌≡◌, ◌≢◌, ℕ, pos, [], None, IfOk};
 ghost use Rattle.studio_config.specs.Shift.{shifted};
-ghost use Rattle.pcap_replay.specs.StreamObserver.{HasFollowedIf};
-ghost use Rattle.pcap_replay.specs.WavObserver.{HasSoundedIf};
+ghost use Rattle.wav_runs.specs.StreamObserver.{HasFollowedIf};
+ghost use Rattle.wav_runs.specs.WavObserver.{HasSoundedIf};
 ghost use Rattle.file_commands.specs.ReplayedStudio.{HasGains};
 
 use crate::capture_flows::routes_at;
@@ -20,15 +20,14 @@ use crate::stream_output::{
 use command_line::ReplayArgs;
 use pcap_file::CaptureFault;
 use pcap_flows::Routes;
-use pcap_replay::{
-    RecordedChanges, RecordedPath, ReplayObserver, WavObserver, replay, replay_record,
-};
+use pcap_replay::{RecordedChanges, RecordedPath, ReplayObserver, replay, replay_record};
 use reception_chart::{Extent, StudioTracker};
 use std::alloc::Global;
 use std::io;
 use std::io::{Read, Write};
 use studio_config::StudioSpec;
-use wav_file::{Overwrite, StreamWav};
+use wav_file::Overwrite;
+use wav_runs::{StreamWav, WavObserver};
 
 /// The kind of a capture, which is known before it is replayed.
 #[derive(Drop)]

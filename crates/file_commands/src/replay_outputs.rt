@@ -1,17 +1,18 @@
 //! The files that `replay` writes in addition to its report.
 ghost use Rattle.std.specs.Prelude.{[], IfOk};
-ghost use Rattle.pcap_replay.specs.WavObserver.{HasSoundedIf};
-ghost use Rattle.pcap_replay.specs.StreamObserver.{HasFollowedIf};
+ghost use Rattle.wav_runs.specs.WavObserver.{HasSoundedIf};
+ghost use Rattle.wav_runs.specs.StreamObserver.{HasFollowedIf};
 
 use crate::fault::CommandFault;
 use crate::host::{Host, begin_fault_line};
 use mix_packets::OutSpec;
-use pcap_replay::{ReplayObserver, WavObserver};
+use pcap_replay::ReplayObserver;
 use reception_chart::{ReceptionObserver, StudioTracker};
 use rtp_stream::Path;
 use std::io::Write;
 use studio_run::write_text;
-use wav_file::{FileFault, Overwrite, StreamWav};
+use wav_file::{FileFault, Overwrite};
+use wav_runs::{StreamWav, WavObserver};
 
 /// The observer of a replay: the WAV files of the mix and of a stream and the trackers of the chart, each if it is
 /// asked for.

@@ -1,6 +1,6 @@
 //! The WAV file of one stream that `replay` writes in addition to its report.
 ghost use Rattle.std.specs.Prelude.{[], IfOk};
-ghost use Rattle.pcap_replay.specs.StreamObserver.{HasFollowedIf};
+ghost use Rattle.wav_runs.specs.StreamObserver.{HasFollowedIf};
 
 use crate::fault::CommandFault;
 use crate::host::{Host, begin_fault_line};
@@ -12,7 +12,8 @@ use std::alloc::Global;
 use std::io::Write;
 use studio_config::StudioSpec;
 use studio_session::Cursor;
-use wav_file::{FileFault, Overwrite, StreamWav, wav_stream};
+use wav_file::{FileFault, Overwrite};
+use wav_runs::{StreamWav, wav_stream};
 
 /// A stream by its number, and the path of the WAV file for its samples.
 #[derive(Clone, Copy)]

@@ -9,7 +9,7 @@ use std::alloc::Global;
 use std::io::{Read, Write};
 use studio_config::StudioSpec;
 use studio_run::{list_marks, list_marks_and_counts, play};
-use wav_file::{WavRunFault, list_to_wav, play_to_wav};
+use wav_runs::{WavRunFault, list_to_wav, play_to_wav};
 
 /// Writes the marks of the trace in `input` by the configuration of examples/first.
 pub fn run_quick_start<I: Read, W: Write>(

@@ -10,5 +10,4 @@ mod RoutingLemmas
 mod RecordLemmas
 mod RecordedPathLemmas
 mod RecordPacketsLemmas
-mod WavObserverLemmas
 mod ImportLinesLemmas

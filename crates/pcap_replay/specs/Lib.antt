@@ -6,8 +6,6 @@ pub mod RecordChanges
 pub mod RecordPackets
 pub mod Lines
 pub mod Observed
-pub mod WavObserver
-pub mod StreamObserver
 pub mod ImportLines
 pub mod Replay
 pub mod RecordedPaths

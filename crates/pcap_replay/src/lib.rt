@@ -14,8 +14,6 @@
 //!    write.
 //!
 //! A `ReplayObserver` is called with these events and with their datagrams.
-//! `WavObserver` writes the datagrams to a WAV file, and `wav_file::StreamWav` the samples of one
-//! stream.
 #![tactic(auto)]
 
 mod changes;
@@ -31,8 +29,6 @@ mod record_times;
 mod recording;
 mod routing;
 mod state;
-mod stream_observer;
-mod wav_observer;
 
 pub use changes::RecordedChanges;
 pub use fault::{RecordedChangeFault, ReplayFault};
@@ -42,4 +38,3 @@ pub use observer::ReplayObserver;
 pub use player::{replay, replay_record};
 pub use record_times::record_opening;
 pub use recording::{RecordedPath, RecordingFault, recorded_paths, recording_fault};
-pub use wav_observer::WavObserver;

@@ -3,11 +3,4 @@ pub mod LiveLemmas
 pub mod HeaderLemmas
 pub mod SamplesLemmas
 pub mod SilenceLemmas
-pub mod FrontLemmas
-pub mod StreamRunLemmas
-pub mod MixRunLemmas
-pub mod MixWavLemmas
-pub mod StreamTrackLemmas
 pub mod PartLemmas
-pub mod StreamPartLemmas
-pub mod StreamEventsLemmas

@@ -4,10 +4,4 @@ pub mod File
 pub mod LiveFile
 pub mod Bext
 pub mod MixSamples
-pub mod MixWav
 pub mod PartFile
-pub mod MixRun
-pub mod StreamSamples
-pub mod StreamTrack
-pub mod StreamEvents
-pub mod StreamRun

@@ -1,0 +1,9 @@
+mod FrontLemmas
+mod MixWavLemmas
+mod MixRunLemmas
+mod BrokenFileLemmas
+mod StreamTrackLemmas
+mod StreamRunLemmas
+mod StreamPartLemmas
+mod StreamEventsLemmas
+mod WavObserverLemmas

@@ -1,0 +1,9 @@
+pub mod MixWav
+pub mod BrokenFile
+pub mod MixRun
+pub mod StreamSamples
+pub mod StreamTrack
+pub mod StreamEvents
+pub mod StreamRun
+pub mod WavObserver
+pub mod StreamObserver
