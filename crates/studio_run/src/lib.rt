@@ -24,6 +24,7 @@ mod laws;
 mod lines;
 mod outputs;
 mod player;
+mod text_field;
 mod text_io;
 mod trace;
 

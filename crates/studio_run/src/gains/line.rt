@@ -18,7 +18,8 @@ ghost use Rattle.studio_run.specs.declared.gains.fault.GainsFaultKind.TheVariant
 
 use crate::gains::change::matrix_with_gain;
 use crate::gains::fault::GainsFaultKind;
-use crate::gains::field::{numbers_in, split_field};
+use crate::gains::field::numbers_in;
+use crate::text_field::split_field;
 use gain_mix::{Matrix, MatrixFault, Schedule};
 use rtp_stream::MAX_TIME;
 use std::alloc::{AllocError, Global};

@@ -7,8 +7,8 @@ ghost use Rattle.studio_run.specs.declared.gains.fault.GainsFaultKind.TheVariant
 
 use crate::gains::change::schedule_with_change;
 use crate::gains::fault::{GainsFault, GainsFaultKind};
-use crate::gains::field::first_place;
 use crate::gains::line::read_change;
+use crate::text_field::first_place;
 use gain_mix::Schedule;
 use std::alloc::{AllocError, Global};
 use studio_config::StudioSpec;

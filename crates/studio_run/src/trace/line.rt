@@ -5,9 +5,9 @@ ghost use Rattle.studio_run.specs.Trace.{line_said, fields_said, path_of, tick_o
 ghost use Rattle.studio_run.specs.LineEvent.{event_of, line_event_of, said_in, IsLast, IsLastIn};
 ghost use Rattle.studio_run.specs.Lines.{line_length, first_line, after_line, line_fault};
 
+use crate::text_field::{decimal_number, first_place, split_field};
 use crate::trace::digits::spells_octets;
 use crate::trace::fault::TraceFaultKind;
-use crate::trace::field::{decimal_number, first_place, split_field};
 use path_merge::Path;
 
 /// The greatest length of a line in octets, without its line feed.

@@ -2,7 +2,7 @@ use Rattle.std.proofs.Common.{◌+◌, sym, ◌∙◌}
 use Rattle.std.proofs.lemmas.List.{take_rest}
 use Rattle.studio_run.proofs.TraceLemmas.{EndsWith-drop}
 use Rattle.studio_run.proofs.FieldsLemmas.{split-Some, split-None}
-use Rattle.studio_run.proofs.trace.field.split_field.Goals as goal
+use Rattle.studio_run.proofs.text_field.split_field.Goals as goal
 
 pub returns-in-Some-clause-fields : goal.returns-in-Some-clause-fields
 returns-in-Some-clause-fields c = split-Some 32 c.args.text.now c.in-Some.end (sym c.first_place.ensures ∙ c.in-Some.is)

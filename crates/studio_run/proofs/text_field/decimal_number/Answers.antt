@@ -2,7 +2,7 @@ use Rattle.std.proofs.Common.{◌≡◌, subst, sym, refl, ◌∙◌, arith}
 use Rattle.std.specs.Str.{IsUtf8}
 use Rattle.std.specs.Str.Parse.{ParsesUnsigned}
 use Rattle.studio_run.proofs.DecimalLemmas.{BeginsPlainly, BeginsPlainly-decimal, IsUtf8-decimal, decimal-parsed, parsed-decimal}
-use Rattle.studio_run.proofs.trace.field.decimal_number.Goals as goal
+use Rattle.studio_run.proofs.text_field.decimal_number.Goals as goal
 
 pub returns-then-not-begins_plainly-clause-found : goal.returns-then-not-begins_plainly-clause-found
 returns-then-not-begins_plainly-clause-found c n most is =

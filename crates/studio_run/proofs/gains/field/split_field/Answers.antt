@@ -1,9 +1,0 @@
-use Rattle.std.proofs.Common.{sym, ◌∙◌}
-use Rattle.studio_run.proofs.FieldsLemmas.{split-Some, split-None}
-use Rattle.studio_run.proofs.gains.field.split_field.Goals as goal
-
-pub returns-in-Some-clause-fields : goal.returns-in-Some-clause-fields
-returns-in-Some-clause-fields c = split-Some 32 c.args.text.now c.in-Some.end (sym c.first_place.ensures ∙ c.in-Some.is)
-
-pub returns-in-None-clause-fields : goal.returns-in-None-clause-fields
-returns-in-None-clause-fields c = split-None 32 c.args.text.now (sym c.first_place.ensures ∙ c.in-None.is)
