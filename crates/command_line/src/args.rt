@@ -1,7 +1,7 @@
 //! The commands of the program and their arguments.
 ghost use Rattle.std.specs.Prelude.{◌≡◌, bytes_eq, codes};
 
-use live_io::LiveOptions;
+use studio_io::LiveOptions;
 
 /// The command that the command line asks for.
 #[derive(Drop)]

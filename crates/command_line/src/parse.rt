@@ -5,8 +5,8 @@ use crate::args::{
 use crate::clap_args::program_parser;
 use clap::error::ErrorKind;
 use clap::{ArgMatches, Error};
-use live_io::LiveOptions;
 use std::alloc::{AllocError, Global};
+use studio_io::LiveOptions;
 
 // A recorder that stops and starts again within a minute is one capture. A clock that is set steps by years.
 /// The longest step forward of a capture's time that is no fault, in seconds, unless the command line has another

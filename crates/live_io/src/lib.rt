@@ -17,16 +17,18 @@
 //!    writes them to the file. If the file is too slow and the ring is full, or a write fails, the record
 //!    ends there, with a whole block. A `RecordFile` is where the blocks go, and can be cut behind the
 //!    last of them; `CreateRecord` creates one. Both ends set the record's `OutputProgress`.
+//!
+//! `is_ready` tests if a read or a write of a descriptor, such as `STDIN`, would return at once.
 #![tactic(auto)]
 
 mod clock;
-mod options;
+mod descriptors;
 mod record;
 mod sockets;
 mod tai;
 
 pub use clock::{RestClock, RunPeriod, SystemClock};
-pub use options::LiveOptions;
+pub use descriptors::{STDERR, STDIN, is_ready};
 pub use record::RecordChannel;
 pub use record::file::{CreateRecord, RecordFault, RecordFile};
 pub use record::observer::RecordObserver;

@@ -1,7 +1,6 @@
 //! The line with the addresses of a run: of its paths, of the mix and of the page.
 
-use live_io::Sockets;
-use live_status::{STDERR, is_ready};
+use live_io::{STDERR, Sockets, is_ready};
 use rtp_stream::Path;
 use std::io;
 use std::io::Write;

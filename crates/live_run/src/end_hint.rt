@@ -1,7 +1,7 @@
 //! The line that says how to end a run with its report.
 
 use crate::supervisor::stop_conditions::is_interrupt_blocked;
-use live_status::{STDERR, is_ready};
+use live_io::{STDERR, is_ready};
 use std::io::Write;
 
 /// The line, with its line feed.

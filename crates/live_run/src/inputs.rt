@@ -1,10 +1,10 @@
 //! The inputs of a live run.
 
-use live_io::{LiveOptions, SocketConfig};
+use live_io::SocketConfig;
 use status_page::StreamName;
 use std::time::Duration;
 use studio_config::StudioSpec;
-use studio_io::RunProgress;
+use studio_io::{LiveOptions, RunProgress};
 
 /// A live run: its studio, its options and its inputs.
 #[derive(Clone, Copy)]

@@ -44,6 +44,6 @@ mod workers;
 
 pub use fault::LiveFault;
 pub use inputs::{LiveInputs, LiveRun};
-pub use live_io::LiveOptions;
 pub use run::run_studio_live;
 pub use status_page::{StreamName, Token};
+pub use studio_io::LiveOptions;

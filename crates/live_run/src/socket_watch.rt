@@ -1,8 +1,7 @@
 //! The watch of a run's sockets: a line on standard error for each path that fails or ends, and the kernel's drops.
 
 use crate::supervisor::{POLL_INTERVAL_MS, StatusTask};
-use live_io::{RunHealth, SocketHealth, read_kernel_drops};
-use live_status::{STDERR, is_ready};
+use live_io::{RunHealth, STDERR, SocketHealth, is_ready, read_kernel_drops};
 use rtp_stream::{Path, StreamSpec};
 use studio_config::StudioSpec;
 

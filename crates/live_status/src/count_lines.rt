@@ -3,9 +3,9 @@
 ghost use Rattle.std.specs.Prelude.{◌≡◌, ◌⊎◌, ◌^◌, ◌-◌, ◌*◌, ◌+ℤ◌, IfOk, int_le, pos};
 ghost use Rattle.std.specs.Int.{saturate_to_bits};
 
-use crate::fd_ready::{STDERR, is_ready};
 use crate::lines::drift::{write_path_drift, write_time_left};
 use crate::lines::running::{write_run_state, write_running_counts, write_socket_state};
+use live_io::{STDERR, is_ready};
 use rtp_stream::Path;
 use status_page::{PathState, Snapshot, StreamState};
 use std::alloc::{AllocError, Global};

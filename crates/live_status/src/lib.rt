@@ -23,7 +23,6 @@
 mod count_lines;
 mod engine_offers;
 mod engine_status;
-mod fd_ready;
 mod gain_channel;
 mod health;
 mod lines;
@@ -37,7 +36,6 @@ mod status_outputs;
 mod stream_status;
 
 pub use engine_status::EngineStatus;
-pub use fd_ready::{STDERR, STDIN, is_ready};
 pub use gain_channel::GainChannel;
 pub use gain_channel::link::GainLink;
 pub use gain_channel::page_desk::PageDesk;

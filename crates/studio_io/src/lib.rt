@@ -8,7 +8,8 @@
 //! - if gains are to change while it goes on, a `GainSource`, which it asks for changes; else
 //!   `NoGains`.
 //!
-//! The run returns a `WorkReport`, or the `WorkFault` that says why it did not begin.
+//! The run returns a `WorkReport`, or the `WorkFault` that says why it did not begin. `LiveOptions` has the
+//! options of a run on real sockets.
 //!
 //! What a run writes next to the datagrams of its mix are its outputs, at most one of each `OutputKind`.
 //! Each has an `OutputProgress`: the threads of the run set it, and any thread may read its
@@ -23,6 +24,7 @@ mod clock;
 mod feed;
 mod feed_state;
 mod gain_source;
+mod live_options;
 mod memory_clock;
 mod memory_feed;
 mod memory_sink;
@@ -39,6 +41,7 @@ pub use feed_state::FeedState;
 pub use gain_source::{
     GainAction, GainAnswer, GainRequest, GainSource, MAX_GAINS, MAX_REQUESTS, NoGains, copy_gains,
 };
+pub use live_options::LiveOptions;
 pub use memory_clock::MemoryClock;
 pub use memory_feed::MemoryFeed;
 pub use memory_sink::MemorySink;

@@ -1,7 +1,7 @@
 //! The conditions that stop a run: a pending signal that was blocked when the program was started, and the end of
 //! standard input.
 
-use live_status::{STDIN, is_ready};
+use live_io::{STDIN, is_ready};
 
 /// The file in which the system lists the signals of the process.
 // The toolchain cannot handle, block or await a signal, so pending ones are read here.
