@@ -83,7 +83,7 @@ fate_code Unlike = 8
 fate_code Restarted = 9
 
 abbrev pub outcome_code : ArriveOutcome → ℕ
-outcome_code (Offered fate) = fate_code fate
+outcome_code (Offered packet) = fate_code packet.fate
 outcome_code (Bad fault) = 10
 outcome_code WrongType = 11
 outcome_code WrongLength = 12

@@ -68,7 +68,7 @@ pub(crate) fn outcome_code(outcome: ArriveOutcome) -> i32
     ensures few { result <ℤ pos 13 }
 {
     match outcome {
-        ArriveOutcome::Offered(fate) => fate_code(fate),
+        ArriveOutcome::Offered(packet) => fate_code(packet.fate),
         ArriveOutcome::Bad(_) => 10,
         ArriveOutcome::WrongType => 11,
         ArriveOutcome::WrongLength => 12,

@@ -1,9 +1,8 @@
 -- Changes of gains that a run takes, one after another.
-use Rattle.std.proofs.Common.{◌≡◌, ℕ, ℤ, List, [], ◌∷◌, ◌++◌, map, length, Option, refl, sym, ap, subst, ◌∙◌, arith, append_assoc, append-nil, length-append}
-use Rattle.std.proofs.lemmas.List.{map-append}
-use Rattle.gain_mix.specs.Changes.{Changes, with_change}
+use Rattle.std.proofs.Common.{◌≡◌, ℕ, ℤ, List, [], ◌++◌, Option, sym, subst, ◌∙◌, append-nil}
 use Rattle.studio_config.specs.Studio.{Studio}
-use Rattle.studio_mix.specs.Changed.{rows_in, with_changes, with_each}
+use Rattle.studio_mix.specs.Changed.{with_changes}
+use Rattle.studio_mix.proofs.TakenLemmas.{more_taken, no_more, with_changes-append}
 use Rattle.studio_session.specs.Event.{TraceEvent}
 use Rattle.studio_engine.specs.Engine.{EngineState}
 use Rattle.studio_engine.specs.Session.{HasSession}
@@ -15,25 +14,6 @@ use Rattle.engine_run.specs.Rounds.{events_by}
 use Rattle.engine_run.specs.Runs.{IsSettledRun, IsSettledRunWith, IsUnderWay, IsUnderWayWith}
 use Rattle.engine_run.specs.declared.state.RunState.{RunState}
 use Rattle.engine_run.proofs.TellLemmas.{adds_more}
-
-with_each-append : (schedule : Changes) (first more : List (ℤ × List (List ℤ))) → with_each schedule (first ++ more) ≡ with_each (with_each schedule first) more
-with_each-append schedule [] more = refl
-with_each-append schedule (change ∷ first) more = with_each-append (with_change schedule change.0 change.1) first more
-
--- changes of a studio that already has changes
-pub with_changes-append : (studio : Studio) (first more : List (ℤ × List ℤ)) → with_changes (with_changes studio first) more ≡ with_changes studio (first ++ more)
-with_changes-append studio first more =
-    ap (λ (schedule : Changes). record studio { schedule = schedule })
-    (sym (with_each-append studio.schedule (map (rows_in studio) first) (map (rows_in studio) more))
-    ∙ ap (with_each studio.schedule) (sym (map-append (rows_in studio) first more)))
-
-more_taken : (a b c first more : List (ℤ × List ℤ)) → b ≡ a ++ first → c ≡ b ++ more → c ≡ a ++ (first ++ more)
-more_taken a b c first more e f = f ∙ (ap (λ l. l ++ more) e ∙ append_assoc a first more)
-
--- nothing was added to a list that stayed the same
-no_more : (a more : List (ℤ × List ℤ)) → a ≡ a ++ more → more ≡ []
-no_more a [] e = refl
-no_more a (x ∷ more) e = let long = ap length e in absurd (omega (arith, long, length-append a (x ∷ more)))
 
 -- a settled run that took no change is one of its studio, and the other way round
 pub settled-unchanged : (studio : Studio) (all : List (List Answer)) (clock : List ℤ) (report : WorkReport) (before after : Option (List (List ℕ))) (earlier later : Option (List Heard)) (taken : List (ℤ × List ℤ))

@@ -1,77 +1,22 @@
-//! Asks the source of gains for requests, and answers them by the engine. The observer is notified of each change.
-ghost use Rattle.std.specs.Prelude.{◌≡◌, ◌≤◌, ◌*◌, ◌∷◌, [], ℕ, List, length, Some, MatchResult, OnErr, OnOk, IfOk};
+//! Asks the source of gains for requests, has the engine answer them, and notifies the observer of each change.
+ghost use Rattle.std.specs.Prelude.{◌≡◌, ◌≤◌, ◌*◌, [], ℕ, List, length};
 ghost use Rattle.gain_mix.specs.Changes.{matrix_at};
 ghost use Rattle.gain_mix.specs.Gain.{ins_of};
 ghost use Rattle.studio_config.specs.Studio.{Studio};
-ghost use Rattle.studio_mix.specs.Changed.{with_changes};
+ghost use Rattle.studio_mix.specs.Mixer.{next_start_of};
 ghost use Rattle.studio_session.specs.Event.{TraceEvent};
 ghost use Rattle.studio_engine.specs.Session.{HasSession};
-ghost use Rattle.studio_io.specs.Gains.{AreShown, answer_of, changes_in, wanted_gains};
-ghost use Rattle.engine_run.specs.GainRequests.{HasTakenChanges, next_start};
+ghost use Rattle.studio_io.specs.Gains.{changes_in};
+ghost use Rattle.engine_run.specs.GainRequests.{HasTakenChanges};
 ghost use Rattle.engine_run.specs.Observers.{HasNotedTaken, Hears, NotesChanges};
 
 use crate::observer::RunObserver;
-use gain_mix::ChangeFault;
 use studio_engine::Engine;
-use studio_io::{GainAnswer, GainRequest, GainSource, MAX_REQUESTS, copy_gains};
-
-/// Answers a request for an engine's gains, and changes them if a change is asked for and can be taken. A request
-/// without a time is about the start of the next block.
-///
-/// For `GainAction::SetAll`, `gains` has the gains that are asked for, row by row. Afterwards it has those in force
-/// from the time of the answer on. If the request was refused it has those at the next block's start, unless it does
-/// not have a place for each gain.
-pub fn answer_request(engine: &mut Engine, request: GainRequest, gains: &mut [i32]) -> GainAnswer
-    ensures answer { result ≡ answer_of request engine.old.mixer.schedule (next_start engine.old) gains.old }
-    ensures shown { AreShown result request engine.old.mixer.schedule (next_start engine.old) gains.old gains.new }
-    ensures stands { (studio : Studio) (events : List TraceEvent) (datagrams : List (List ℕ))
-        → HasSession studio engine.old events datagrams
-        → HasSession (with_changes studio (changes_in result gains.new)) engine.new events datagrams }
-    ensures time { engine.new.time ≡ engine.old.time }
-{
-    let next = engine.next_block_start();
-    match try_request(engine, request, next, gains) {
-        Ok(answer) => answer,
-        Err(fault) => {
-            // The gains of the request are not in force, so the source is shown those that are.
-            let _ = copy_gains(engine.gains(next), gains);
-            GainAnswer::Refused(fault)
-        }
-    }
-}
-
-/// Answers a request for an engine's gains, whose next block begins at `next`. The error changes nothing, but `gains`
-/// may have the gains that were asked for.
-fn try_request(
-    engine: &mut Engine,
-    request: GainRequest,
-    next: i64,
-    gains: &mut [i32],
-) -> Result<GainAnswer, ChangeFault>
-    requires next { next ≡ next_start engine.old }
-    ensures answer { MatchResult result
-        (λ answer. answer ≡ answer_of request engine.old.mixer.schedule next gains.old)
-        (λ fault. GainAnswer.Refused fault ≡ answer_of request engine.old.mixer.schedule next gains.old) }
-    ensures shown { IfOk result (λ answer.
-        AreShown answer request engine.old.mixer.schedule next gains.old gains.new) }
-    ensures stands { IfOk result (λ answer. (studio : Studio) (events : List TraceEvent) (datagrams : List (List ℕ))
-        → HasSession studio engine.old events datagrams
-        → HasSession (with_changes studio (changes_in answer gains.new)) engine.new events datagrams) }
-    ensures time { engine.new.time ≡ engine.old.time }
-    ensures kept { OnErr result (engine.new ≡ engine.old) }
-{
-    let at = request.time(next);
-    request.action.write_gains(engine.gains(at), gains)?;
-    if request.action.is_change() {
-        engine.change_gains(at, gains)?;
-        return Ok(GainAnswer::Taken(at));
-    }
-    Ok(GainAnswer::Shown(at.max(next)))
-}
+use studio_io::{GainAnswer, GainSource, MAX_REQUESTS};
 
 /// Returns the number of gains of an engine's matrix.
 fn gain_count(engine: &Engine) -> usize
-    ensures value { let rows = matrix_at engine.now.mixer.schedule (next_start engine.now) in
+    ensures value { let rows = matrix_at engine.now.mixer.schedule (next_start_of engine.now.mixer) in
         result ≡ length rows * ins_of rows }
     ensures few { result ≤ 8192 }
 {
@@ -115,7 +60,7 @@ fn ask_once<F, G: GainSource, T: RunObserver<F>>(
         return false;
     };
     let next = engine.next_block_start();
-    let answer = answer_request(engine, request, gains);
+    let answer = engine.answer_request(request, gains);
     // Before the source has its answer: whoever reads the answer finds the change noted.
     notify_change(engine, answer, gains, tap);
     source.answer(answer, next, gains);

@@ -19,7 +19,7 @@
 //! with the changes of gains that the `GainSource` took. The observer gets exactly these
 //! changes, also in a run that is not settled.
 //!
-//! `answer_request` answers one request by an engine, for callers that have a loop of their own.
+//! `Engine::answer_request` answers one request, for callers that have a loop of their own.
 #![tactic(auto)]
 
 mod feed_reader;
@@ -32,7 +32,6 @@ mod report;
 mod run;
 mod state;
 
-pub use gain_requests::answer_request;
 pub use laws::a_run_without_changes_is_one_of_its_studio;
 pub use observer::{NoObserver, RunObserver};
 pub use run::{IdleWait, RunDevices, run_engine};

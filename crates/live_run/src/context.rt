@@ -2,8 +2,9 @@
 
 use crate::shown_health::ShownHealth;
 use crate::supervisor::stop_flags::StopFlags;
+use live_gains::RunGains;
 use live_io::{RunHealth, RunPeriod};
-use live_status::{RunGains, StatusOutputs};
+use live_status::StatusOutputs;
 
 /// The context of a run, in addition to its studio, its sockets and its outputs.
 #[derive(Drop)]

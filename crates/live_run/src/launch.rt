@@ -4,7 +4,6 @@ ghost use Rattle.live_run.specs.RunResult.{IsEarly, IsRunOf};
 
 use crate::context::RunContext;
 use crate::fault::LiveFault;
-use crate::gain_control::{GainControl, open_control};
 use crate::inputs::LiveRun;
 use crate::page_task::PageTask;
 use crate::shown_health::ShownHealth;
@@ -12,8 +11,9 @@ use crate::single_thread::run_in_one_thread;
 use crate::status::{PageLink, open_status};
 use crate::supervisor::stop_flags::StopFlags;
 use crate::workers::run_in_workers;
+use live_gains::{GainControl, GainLink, RunGains, open_control};
 use live_io::{RunPeriod, Sockets, open_sockets};
-use live_status::{GainLink, Meter, OpenPage, RunGains, StatusOutputs, open_page};
+use live_status::{Meter, OpenPage, StatusOutputs, open_page};
 use run_outputs::{CreateOutput, CreatedOutput, TaskOutput};
 use status_page::Token;
 use std::alloc::Global;

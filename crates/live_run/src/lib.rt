@@ -11,7 +11,7 @@
 //!   a `RunContext`. `page_task` is the task of the thread that serves the page.
 //! - `status` opens the outputs of the status, and writes the line of addresses and, at a terminal,
 //!   how to end the run with its report. `shown_health` reads what the status shows of sockets, sends
-//!   and outputs. `gain_control` opens the control of gains that a page has.
+//!   and outputs.
 //! - `workers` is the form with a thread for each path and stream and one for the mix,
 //!   `run_in_workers`. It passes its mix to the outputs.
 //! - `single_thread` is the form with an engine in one thread, `run_in_one_thread`. It waits by
@@ -29,7 +29,6 @@ mod address_line;
 mod context;
 mod end_hint;
 mod fault;
-mod gain_control;
 mod inputs;
 mod launch;
 mod page_task;

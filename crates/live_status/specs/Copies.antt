@@ -3,7 +3,7 @@ use Rattle.std.specs.Prelude.{◌≡◌, ℕ, ℤ, ◌+◌, ◌-◌, ◌^◌, mi
 use Rattle.rtp_stream.specs.declared.counts.Counts.{Counts}
 use Rattle.rtp_stream.specs.declared.stream_spec.Stream.{Stream}
 use Rattle.rtp_stats.specs.Offer.{Offer}
-use Rattle.rtp_stats.specs.Stats.{AreNumbers}
+use Rattle.rtp_stats.specs.Stats.{AreNumbers, no_stats}
 use Rattle.rtp_stats.specs.Tally.{HasTally}
 use Rattle.rtp_stats.specs.declared.copy_tracker.CopyTracker.{CopyTracker}
 use Rattle.rtp_stats.specs.declared.stats.PathStats.{PathStats}
@@ -30,10 +30,10 @@ abbrev pub HasPathStats : CopyTracker → ℕ → ℤ → ℕ → PathState → 
 HasPathStats tracker path now lost shown = (stream : Stream) (offers : List Offer) → HasTally stream offers tracker.tally → (numbers : PathStats)
     × AreNumbers stream offers path now numbers × (shown.copies ≡ Some (copies_of numbers lost)) × (shown.spare ≡ numbers.spare)
 
--- the path has the numbers of its tracker; without a tracker they did not change
-abbrev pub ShowsCopies : Option CopyTracker → ℕ → ℤ → ℕ → PathState → PathState → Type 0
-ShowsCopies None path now lost old new = (new.copies ≡ old.copies) × (new.spare ≡ old.spare)
-ShowsCopies (Some tracker) path now lost old new = HasPathStats tracker path now lost new
+-- the path has the numbers of its tracker; without a tracker it has those of no packet
+abbrev pub ShowsCopies : Option CopyTracker → ℕ → ℤ → ℕ → PathState → Type 0
+ShowsCopies None path now lost shown = (shown.copies ≡ Some (copies_of no_stats lost)) × (shown.spare ≡ None)
+ShowsCopies (Some tracker) path now lost shown = HasPathStats tracker path now lost shown
 
 -- the path has the numbers at its place: its first copies from these counts, and the fates of the others
 abbrev pub IsTold : Counts → List PathStats → ℕ → PathState → PathState → Type 0

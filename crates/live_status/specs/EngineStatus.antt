@@ -21,7 +21,7 @@ pub record IsEngineStream (engine : EngineState) (trackers : List CopyTracker) (
   pub paths : number < length engine.cursors → AreEach (IsEnginePath engine (slice_get trackers number) number stream.counts) (replicate status.paths blank_path) stream.paths.items
 
 -- a stream that was filled in: its counts and its paths are the engine's, and the rest did not change
-pub record FillsStream (engine : EngineState) (tracker : Option CopyTracker) (number : ℕ) (old new : StreamState) : Type 0 where
+pub record FillsEngineStream (engine : EngineState) (tracker : Option CopyTracker) (number : ℕ) (old new : StreamState) : Type 0 where
   pub name_is : new.name ≡ old.name
   pub condition_is : new.condition ≡ old.condition
   pub latency_is : new.latency ≡ old.latency
@@ -29,8 +29,8 @@ pub record FillsStream (engine : EngineState) (tracker : Option CopyTracker) (nu
   pub paths : number < length engine.cursors → AreEach (IsEnginePath engine tracker number new.counts) old.paths.items new.paths.items
 
 -- the stream was filled in with the tracker at its place
-abbrev pub FillsStreamAt : EngineState → List CopyTracker → ℕ → StreamState → StreamState → Type 0
-FillsStreamAt engine trackers number old new = FillsStream engine (slice_get trackers number) number old new
+abbrev pub FillsEngineStreamAt : EngineState → List CopyTracker → ℕ → StreamState → StreamState → Type 0
+FillsEngineStreamAt engine trackers number old new = FillsEngineStream engine (slice_get trackers number) number old new
 
 -- the channel has the engine's count of its saturated samples, if there is one
 abbrev pub IsEngineOutput : EngineState → ℕ → ChannelState → ChannelState → Type 0

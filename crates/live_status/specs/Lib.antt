@@ -2,6 +2,7 @@ pub mod Copies
 pub mod Each
 pub mod Engine
 pub mod EngineOffers
+pub mod FilledStreams
 pub mod Outputs
 pub mod SignalPresence
 pub mod Conditions
@@ -13,8 +14,3 @@ pub mod EngineStatus
 pub mod Lines
 pub mod DriftLines
 pub mod Health
-pub mod Planned
-pub mod GainLetters
-pub mod GainMemory
-pub mod GainChannel
-pub mod GainDesk

@@ -4,7 +4,9 @@ ghost use Rattle.std.specs.Prelude.{◌≡◌, ◌⊎◌, ◌^◌, ◌-◌, ◌*
 ghost use Rattle.std.specs.Int.{saturate_to_bits};
 
 use crate::lines::drift::{write_path_drift, write_time_left};
-use crate::lines::running::{write_run_state, write_running_counts, write_socket_state};
+use crate::lines::running::{
+    FailedSends, write_run_state, write_running_counts, write_socket_state,
+};
 use live_io::{STDERR, is_ready};
 use rtp_stream::Path;
 use status_page::{PathState, Snapshot, StreamState};
@@ -200,13 +202,12 @@ impl CountLines {
         ensures { self.new.every ≡ self.old.every }
     {
         if can_write() {
-            let [failed_a, failed_b] = snapshot.failed_sends;
+            let [a, b] = snapshot.failed_sends;
             write_run_state(
                 &mut self.text,
                 writer,
                 now,
-                failed_a,
-                failed_b,
+                FailedSends { a, b },
                 &snapshot.run_outputs,
             )?;
             self.text.finish(writer)?;

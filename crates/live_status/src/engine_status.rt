@@ -6,31 +6,29 @@ ghost use Rattle.std.specs.Prelude.{
   length,
   true,
   false,
+  None,
   IfOk,
   IfSome,
-  IsNone,
   MatchBool,
-  MatchOption,
   option_copied,
   slice_get,
 };
 ghost use Rattle.live_status.specs.Each.{AreEach};
 ghost use Rattle.studio_engine.specs.Engine.{stream_deadline_of};
-ghost use Rattle.live_status.specs.Copies.{ShowsCopies};
-ghost use Rattle.live_status.specs.Engine.{HasEngineBefore, IsEnginePath};
+ghost use Rattle.live_status.specs.Engine.{AreEngineCounts, AreStatsOf, HasEngineCounts, HasEnginePathCounts};
 ghost use Rattle.live_status.specs.EngineOffers.{IsNewTracker, Notes};
 ghost use Rattle.live_status.specs.Publisher.{is_due_at};
-ghost use Rattle.live_status.specs.EngineStatus.{IsEngineOutput, FillsStream, FillsStreamAt, ShowsEngine};
+ghost use Rattle.live_status.specs.EngineStatus.{IsEngineOutput, FillsEngineStream, FillsEngineStreamAt, ShowsEngine};
 
-use crate::engine_offers::{copy_trackers, note_offer, numbers_of};
+use crate::engine_offers::{copy_trackers, note_offer};
 use crate::health::{HealthSource, fill_health};
 use crate::meter::Meter;
 use crate::publisher::StatusPublisher;
-use crate::snapshot_fill::{fill_copies, fill_datagrams, fill_saturated, first_at};
+use crate::snapshot_fill::{fill_outputs, fill_stream};
 use path_merge::Path;
-use rtp_stats::CopyTracker;
-use rtp_stream::{Counts, StreamSpec};
-use status_page::{ChannelState, PathState, StreamState};
+use rtp_stats::{CopyTracker, MAX_CHANNELS, MixStats, StreamStats};
+use rtp_stream::{PathCounts, StreamSpec};
+use status_page::{ChannelState, StreamState};
 use std::alloc::{AllocError, Global};
 use std::io::Write;
 use studio_engine::Engine;
@@ -72,28 +70,19 @@ impl<'a, E: Write + Drop, H: HealthSource> EngineStatus<'a, E, H> {
 
     /// Notes a datagram that was just passed to the engine, and the engine's result for it. Call it before the engine
     /// is passed anything else.
-    pub fn note(
-        &mut self,
-        engine: &Engine,
-        stream: usize,
-        path: Path,
-        octets: &[u8],
-        receipt: ArriveOutcome,
-    )
-        ensures noted { Notes receipt stream path octets.now
+    pub fn note(&mut self, engine: &Engine, stream: usize, path: Path, outcome: ArriveOutcome)
+        ensures noted { Notes outcome stream path
             (stream_deadline_of (slice_get engine.now.cursors stream)) engine.now.time
             self.old.trackers.items self.new.trackers.items }
         ensures publisher { self.new.publisher ≡ self.old.publisher }
     {
-        // A datagram that was not offered to a merge has no fate: `fill_before_merge` shows its count.
-        let ArriveOutcome::Offered(fate) = receipt else {
+        // A datagram that was not offered to a merge has no fate: the engine's counts of its path show it.
+        let ArriveOutcome::Offered(packet) = outcome else {
             return;
         };
-        if let Some(numbers) = numbers_of(octets) {
-            let due = engine.stream_deadline(stream);
-            let trackers = self.trackers.as_mut_slice();
-            note_offer(trackers, stream, path, numbers, fate, due, engine.time());
-        }
+        let due = engine.stream_deadline(stream);
+        let trackers = self.trackers.as_mut_slice();
+        note_offer(trackers, stream, path, packet, due, engine.time());
     }
 
     /// Publishes the engine's status, if a snapshot or lines are due by the engine's time.
@@ -132,20 +121,10 @@ impl<'a, E: Write + Drop, H: HealthSource> EngineStatus<'a, E, H> {
 
 /// Fills in the streams of an engine.
 fn fill_streams(engine: &Engine, trackers: &[CopyTracker], streams: &mut [StreamState])
-    ensures { AreEach (FillsStreamAt engine.now trackers.now) streams.old streams.new }
+    ensures { AreEach (FillsEngineStreamAt engine.now trackers.now) streams.old streams.new }
 {
     for (number, stream) in streams.iter_mut().enumerate() {
         fill_engine_stream(engine, number, trackers.get(number), stream);
-    }
-}
-
-/// Fills in the output channels of an engine: their saturated samples and, if there is a meter, their peaks.
-fn fill_engine_outputs(engine: &Engine, meter: Option<&Meter>, outputs: &mut [ChannelState])
-    ensures { AreEach (IsEngineOutput engine.now) outputs.old outputs.new }
-{
-    fill_saturated(engine.saturated(), outputs);
-    if let Some(meter) = meter {
-        meter.fill_peaks(outputs);
     }
 }
 
@@ -156,94 +135,62 @@ fn fill_engine_stream(
     tracker: Option<&CopyTracker>,
     stream: &mut StreamState,
 )
-    ensures { FillsStream engine.now (option_copied tracker.entry) number stream.old stream.new }
+    ensures { FillsEngineStream engine.now (option_copied tracker.entry) number stream.old stream.new }
 {
-    if let Some(counts) = engine.counts(number) {
-        stream.counts = counts;
-        fill_paths(
-            engine,
-            number,
-            tracker,
-            &counts,
-            stream.paths.as_mut_slice(),
-        );
-    }
+    let stats = engine_stats(engine, number, tracker);
+    let counts = engine_path_counts(engine, number);
+    fill_stream(&stats, &counts, stream);
 }
 
-/// Fills in the paths of a stream with these counts.
-fn fill_paths(
+/// Returns the statistics of a stream of an engine, or `None` if there is no such stream.
+fn engine_stats(
     engine: &Engine,
     number: usize,
     tracker: Option<&CopyTracker>,
-    counts: &Counts,
-    paths: &mut [PathState],
-)
-    ensures { number < length engine.now.cursors
-        → AreEach (IsEnginePath engine.now (option_copied tracker.entry) number counts.now) paths.old paths.new }
+) -> Option<StreamStats>
+    ensures whole { IfSome result (λ stats. HasEngineCounts engine.now number stats.counts) }
+    ensures paths { IfSome result (AreStatsOf (option_copied tracker.entry) engine.now.time) }
+    ensures none { result ≡ None → length engine.now.cursors ≤ number }
 {
-    for (place, path) in paths.iter_mut().enumerate() {
-        fill_path(engine, number, tracker, counts, place, path);
+    let counts = engine.counts(number)?;
+    match tracker {
+        Some(tracker) => Some(tracker.stream_stats(counts, engine.time())),
+        // Never for an engine of the streams that `new` had: each of them has a tracker.
+        None => Some(StreamStats::of_counts(counts)),
     }
 }
 
-/// Fills in the path at a place of a stream with these counts. Does nothing at places past the fourth.
-fn fill_path(
-    engine: &Engine,
-    number: usize,
-    tracker: Option<&CopyTracker>,
-    counts: &Counts,
-    place: usize,
-    state: &mut PathState,
-)
-    ensures { number < length engine.now.cursors
-        → IsEnginePath engine.now (option_copied tracker.entry) number counts.now place state.old state.new }
+/// Returns the counts of the datagrams of each path of a stream; `None` if there is no such stream.
+fn engine_path_counts(engine: &Engine, number: usize) -> [Option<PathCounts>; 4]
+    ensures { AreEngineCounts engine.now number result }
 {
-    let Some(path) = path_at(place) else {
-        return;
+    [
+        engine_counts_at(engine, number, 0),
+        engine_counts_at(engine, number, 1),
+        engine_counts_at(engine, number, 2),
+        engine_counts_at(engine, number, 3),
+    ]
+}
+
+/// Returns the counts of the datagrams of the path with this number, 0 to 3, or `None` if there is no such stream.
+fn engine_counts_at(engine: &Engine, number: usize, path: u8) -> Option<PathCounts>
+    requires { path < 4 }
+    ensures value { IfSome result (HasEnginePathCounts engine.now number path) }
+    ensures none { result ≡ None → length engine.now.cursors ≤ number }
+{
+    match Path::new(path) {
+        Some(path) => engine.path_counts(number, path),
+        None => unreachable!(),
+    }
+}
+
+/// Fills in the output channels of an engine: their saturated samples and, if there is a meter, their peaks.
+fn fill_engine_outputs(engine: &Engine, meter: Option<&Meter>, outputs: &mut [ChannelState])
+    ensures { AreEach (IsEngineOutput engine.now) outputs.old outputs.new }
+{
+    let peaks = match meter {
+        Some(meter) => meter.take_peaks(),
+        None => [0; MAX_CHANNELS],
     };
-    state.first = first_at(counts, place);
-    fill_before_merge(engine, number, path, state);
-    fill_path_copies(tracker, path, engine.time(), counts.lost, state);
-}
-
-/// Fills in the counts of a path's datagrams before the merge.
-fn fill_before_merge(engine: &Engine, number: usize, path: Path, state: &mut PathState)
-    ensures before { number < length engine.now.cursors
-        → HasEngineBefore engine.now number path state.new.counts state.new.datagrams }
-    ensures first { state.new.first ≡ state.old.first }
-    ensures copies { (state.new.copies ≡ state.old.copies) × (state.new.spare ≡ state.old.spare) }
-{
-    if let Some(counts) = engine.path_counts(number, path) {
-        fill_datagrams(counts, state);
-    }
-}
-
-/// Fills in the copies and arrival margins of a path at the time `now`, if the stream has a copy tracker. `lost` is the
-/// number of packets that the stream lost.
-fn fill_path_copies(
-    tracker: Option<&CopyTracker>,
-    path: Path,
-    now: i64,
-    lost: u64,
-    state: &mut PathState,
-)
-    ensures copies { ShowsCopies (option_copied tracker.entry) path now lost state.old state.new }
-    ensures rest { (state.new.first ≡ state.old.first) × (state.new.counts ≡ state.old.counts)
-        × (state.new.datagrams ≡ state.old.datagrams) }
-{
-    if let Some(copies) = tracker {
-        let path_stats = copies.stats(path, now);
-        fill_copies(&path_stats, lost, state);
-    }
-}
-
-/// Returns the path at a place, or `None` past the fourth.
-fn path_at(place: usize) -> Option<Path>
-    ensures path { IfSome result (λ path. path ≡ place) }
-    ensures none { IsNone result → 4 ≤ place }
-{
-    match u8::try_from(place) {
-        Ok(number) => Path::new(number),
-        Err(_) => None,
-    }
+    fill_outputs(&MixStats::new(engine.saturated(), peaks), outputs);
 }

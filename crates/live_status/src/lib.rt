@@ -6,24 +6,19 @@
 //! 2. A `StatusPublisher` knows the names and conditions of the streams. Once it `is_due`, its caller
 //!    takes a `blank_snapshot`, fills in the numbers, and calls `publish`: that pushes the snapshot
 //!    to the page and writes the count lines that are due.
-//! 3. For a run in one thread, `EngineStatus` does step 2 from an engine, and tallies the copies of
-//!    each path. For workers, `fill_stream`, `fill_datagrams` and `fill_outputs` fill a snapshot from
-//!    the statistics that were received. `fill_health` fills in the state of sockets, of sends
-//!    and of the run's outputs, from a `HealthSource`.
+//! 3. `fill_stream` and `fill_outputs` fill a snapshot from statistics. Workers send theirs; for a run
+//!    in one thread, `EngineStatus` makes the same from an engine, and does step 2. `fill_health`
+//!    fills in the state of sockets, of sends and of the run's outputs, from a `HealthSource`.
 //!
 //! `publish` also watches the streams: from the arrival margins of the last minute it shows the drift
 //! of each path, and paths without a packet in time.
 //!
 //! A `Meter` measures the peaks of the mix if one thread sends it.
-//!
-//! `GainChannel::new` makes the two ends of a channel by which a page changes the gains of a run: the
-//! `PageDesk` sends requests, and `RunGains` is the source of gains that the run asks.
 #![tactic(auto)]
 
 mod count_lines;
 mod engine_offers;
 mod engine_status;
-mod gain_channel;
 mod health;
 mod lines;
 mod meter;
@@ -36,14 +31,10 @@ mod status_outputs;
 mod stream_status;
 
 pub use engine_status::EngineStatus;
-pub use gain_channel::GainChannel;
-pub use gain_channel::link::GainLink;
-pub use gain_channel::page_desk::PageDesk;
-pub use gain_channel::run_gains::RunGains;
 pub use health::{HealthSource, fill_health};
 pub use lines::report::{SinkCounts, write_feed_faults, write_sink_counts};
 pub use meter::Meter;
 pub use page_thread::{PageFault, PageThread};
 pub use publisher::StatusPublisher;
-pub use snapshot_fill::{fill_datagrams, fill_outputs, fill_stream};
+pub use snapshot_fill::{fill_outputs, fill_stream};
 pub use status_outputs::{OpenPage, StatusInputs, StatusOutputs, open_outputs, open_page};

@@ -1,11 +1,8 @@
 //! The meter of the mix's peaks.
 ghost use Rattle.std.specs.Prelude.{◌≡◌, ◌≤◌, min};
-ghost use Rattle.live_status.specs.Each.{AreEach};
-ghost use Rattle.live_status.specs.Outputs.{KeepsCount};
 
 use rtp_stats::{MAX_CHANNELS, raise_peaks};
 use rtp_wire::{Enc, HEADER_OCTETS};
-use status_page::ChannelState;
 use std::sync::atomic::{AtomicU32, Ordering};
 
 /// A meter that measures the datagrams of the mix as they are sent, and that another thread may read.
@@ -59,20 +56,12 @@ impl Meter {
         }
     }
 
-    /// Fills in each channel's peak since it was last read, and sets the peaks to 0.
-    pub(crate) fn fill_peaks(&self, outputs: &mut [ChannelState])
-        ensures { AreEach KeepsCount outputs.old outputs.new }
-    {
-        for (channel, output) in outputs.iter_mut().enumerate() {
-            output.peak = self.peak(channel);
+    /// Returns each channel's peak since it was last read, and sets the peaks to 0.
+    pub(crate) fn take_peaks(&self) -> [u32; MAX_CHANNELS] {
+        let mut taken = [0u32; MAX_CHANNELS];
+        for (peak, channel) in taken.iter_mut().zip(self.peaks.iter()) {
+            *peak = channel.swap(0, Ordering::SeqCst);
         }
-    }
-
-    /// Returns a channel's peak since it was last read, and sets it to 0.
-    fn peak(&self, channel: usize) -> u32 {
-        match self.peaks.get(channel) {
-            Some(peak) => peak.swap(0, Ordering::SeqCst),
-            None => 0,
-        }
+        taken
     }
 }

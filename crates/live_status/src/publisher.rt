@@ -54,6 +54,17 @@ pub struct StatusPublisher<E> {
     ghost few: { channels ≤ 8 },
 }
 
+/// The outputs of a publisher.
+#[derive(Drop)]
+pub(crate) struct PublisherOutputs<E> {
+    /// The schedule of the lines, if lines are wanted.
+    pub(crate) lines: Option<CountLines>,
+    /// The ring to the page, if there is one.
+    pub(crate) page: Option<Producer<Snapshot>>,
+    /// The writer of the lines.
+    pub(crate) writer: E,
+}
+
 impl<E: Write + Drop> StatusPublisher<E> {
     ghost use Rattle.rtp_stats.specs.Channel.{Gives};
     ghost use Rattle.live_status.specs.Publisher.{IsBlankSnapshot, Shows, is_due_at};
@@ -65,21 +76,24 @@ impl<E: Write + Drop> StatusPublisher<E> {
         streams: &[StreamSpec],
         names: &[Option<StreamName>],
         now: i64,
-        lines: Option<CountLines>,
-        page: Option<Producer<Snapshot>>,
         channels: u8,
-        writer: E,
+        outputs: PublisherOutputs<E>,
     ) -> Result<StatusPublisher<E>, AllocError>
         ensures streams { IfOk result
             (λ publisher. AreEach (IsNewStatusAt names.now now) streams.now publisher.streams.items) }
         ensures watches { IfOk result
             (λ publisher. AreEach (IsNewWatchAt now) streams.now publisher.watches.items) }
         ensures next { IfOk result (λ publisher. publisher.next ≡ now) }
-        ensures page { IfOk result (λ publisher. (publisher.page ≡ page) × (publisher.lines ≡ lines)) }
+        ensures page { IfOk result (λ publisher. (publisher.page ≡ outputs.page) × (publisher.lines ≡ outputs.lines)) }
         ensures channels { IfOk result (λ publisher. publisher.channels ≡ min channels 8) }
     {
         let watches = watches_of(alloc, streams, now)?;
         let streams = StreamStatus::of_streams(alloc, streams, names, now)?;
+        let PublisherOutputs {
+            lines,
+            page,
+            writer,
+        } = outputs;
         Ok(StatusPublisher {
             streams,
             watches,

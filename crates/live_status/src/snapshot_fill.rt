@@ -1,15 +1,31 @@
-//! Filling a snapshot with the statistics of a stream, of its paths and of the mix that workers send.
+//! Filling a snapshot with the statistics of a stream, of its paths and of the mix.
 ghost use Rattle.std.specs.Prelude.{◌≡◌, Some, slice_index};
 ghost use Rattle.live_status.specs.Copies.{IsTold, with_numbers};
 ghost use Rattle.live_status.specs.Each.{AreEach};
-ghost use Rattle.live_status.specs.Outputs.{HasCount, HasNumbers};
+ghost use Rattle.live_status.specs.FilledStreams.{FillsStream, HasCounts};
+ghost use Rattle.live_status.specs.Outputs.{HasNumbers};
 
 use rtp_stats::{MixStats, PathStats, StreamStats};
 use rtp_stream::{Counts, PathCounts};
 use status_page::{ChannelState, CopyCounts, PathState, StreamState};
 
+/// Fills in a stream: its statistics, if there are any, and the counts of its paths' datagrams, as far as they are
+/// known.
+pub fn fill_stream(
+    stats: &Option<StreamStats>,
+    counts: &[Option<PathCounts>],
+    stream: &mut StreamState,
+)
+    ensures { FillsStream stats.now counts.now stream.old stream.new }
+{
+    if let Some(own) = stats {
+        fill_stats(own, stream);
+    }
+    fill_path_counts(counts, stream.paths.as_mut_slice());
+}
+
 /// Fills in the counts of a stream, and the copies and arrival margins of its paths.
-pub fn fill_stream(stats: &StreamStats, stream: &mut StreamState)
+fn fill_stats(stats: &StreamStats, stream: &mut StreamState)
     ensures counts { stream.new.counts ≡ stats.now.counts }
     ensures paths { AreEach (IsTold stats.now.counts stats.now.paths)
         stream.old.paths.items stream.new.paths.items }
@@ -41,7 +57,7 @@ fn fill_path(stats: &StreamStats, place: usize, path: &mut PathState)
 
 /// Fills in the copies and arrival margins of a path from its statistics. `lost` is the number of packets that the
 /// stream lost.
-pub(crate) fn fill_copies(stats: &PathStats, lost: u64, state: &mut PathState)
+fn fill_copies(stats: &PathStats, lost: u64, state: &mut PathState)
     ensures { state.new ≡ with_numbers stats.now lost state.old }
 {
     let tally = stats.tally;
@@ -59,7 +75,7 @@ pub(crate) fn fill_copies(stats: &PathStats, lost: u64, state: &mut PathState)
 }
 
 /// Returns the number of first copies that the path at a place brought.
-pub(crate) fn first_at(counts: &Counts, place: usize) -> u64
+fn first_at(counts: &Counts, place: usize) -> u64
     ensures { result ≡ slice_index counts.now.taken_by place }
 {
     match counts.taken_by.get(place) {
@@ -68,17 +84,23 @@ pub(crate) fn first_at(counts: &Counts, place: usize) -> u64
     }
 }
 
-/// Fills in the counts of a path's datagrams before the merge.
-pub fn fill_datagrams(counts: PathCounts, state: &mut PathState)
-    ensures counts { state.new.counts ≡ Some counts }
-    ensures datagrams { state.new.datagrams ≡ counts.offered }
-    ensures copies { (state.new.copies ≡ state.old.copies) × (state.new.spare ≡ state.old.spare)
-        × (state.new.first ≡ state.old.first) × (state.new.socket ≡ state.old.socket) }
-    ensures watched { (state.new.drift ≡ state.old.drift) × (state.new.is_astray ≡ state.old.is_astray)
-        × (state.new.is_repeating ≡ state.old.is_repeating) }
+/// Fills in the counts of each path's datagrams before the merge.
+fn fill_path_counts(counts: &[Option<PathCounts>], paths: &mut [PathState])
+    ensures { AreEach (HasCounts counts.now) paths.old paths.new }
 {
-    state.datagrams = counts.offered;
-    state.counts = Some(counts);
+    for (place, path) in paths.iter_mut().enumerate() {
+        fill_counts_at(counts, place, path);
+    }
+}
+
+/// Fills in the counts of the datagrams of the path at a place, if they are known.
+fn fill_counts_at(counts: &[Option<PathCounts>], place: usize, path: &mut PathState)
+    ensures { HasCounts counts.now place path.old path.new }
+{
+    if let Some(Some(own)) = counts.get(place) {
+        path.datagrams = own.offered;
+        path.counts = Some(*own);
+    }
 }
 
 /// Fills in the mix: each channel's peak and its number of saturated samples.
@@ -99,16 +121,5 @@ fn fill_channel(stats: &MixStats, channel: usize, output: &mut ChannelState)
     }
     if let Some(count) = stats.saturated.get(channel) {
         output.saturated = *count;
-    }
-}
-
-/// Fills in the number of saturated samples of each output channel, as far as it is known.
-pub(crate) fn fill_saturated(saturated: &[u64], outputs: &mut [ChannelState])
-    ensures { AreEach (HasCount saturated.now) outputs.old outputs.new }
-{
-    for (channel, output) in outputs.iter_mut().enumerate() {
-        if let Some(count) = saturated.get(channel) {
-            output.saturated = *count;
-        }
     }
 }

@@ -3,7 +3,7 @@
 use crate::count_lines::CountLines;
 use crate::meter::Meter;
 use crate::page_thread::{PageFault, PageThread};
-use crate::publisher::StatusPublisher;
+use crate::publisher::{PublisherOutputs, StatusPublisher};
 use rtrb::Producer;
 use status_page::{Control, GainDesk, Snapshot, StreamName};
 use std::alloc::{AllocError, Global};
@@ -96,9 +96,11 @@ fn open_publisher<E: Write + Drop>(
         Some(seconds) => Some(CountLines::new(alloc, now, seconds)?),
         None => None,
     };
-    let streams = studio.streams();
+    let outputs = PublisherOutputs {
+        lines,
+        page: snapshots,
+        writer: faults,
+    };
     let channels = studio.output().channels();
-    Ok(Some(StatusPublisher::new(
-        alloc, streams, names, now, lines, snapshots, channels, faults,
-    )?))
+    Ok(Some(StatusPublisher::new(alloc, studio.streams(), names, now, channels, outputs)?))
 }

@@ -1,7 +1,6 @@
 -- Worked cases of the drift, computed.
-use Rattle.std.specs.Prelude.{◌≡◌, ℕ, List, [], ◌∷◌, length, pos, neg_ℤ, Option, Some, None, refl}
+use Rattle.std.specs.Prelude.{◌≡◌, ℕ, List, [], ◌∷◌, pos, neg_ℤ, Some, None, refl}
 use Rattle.rtp_stats.specs.Drift.{drift_of, minute_after, minute_from, year}
-use Rattle.rtp_stats.specs.declared.drift.Drift.{Drift}
 use Rattle.rtp_stats.specs.declared.spare.ArrivalMargin.{ArrivalMargin}
 
 abbrev second : ℕ → ℕ → ArrivalMargin

@@ -1,5 +1,5 @@
 -- Bounds of the sums of a slope.
-use Rattle.std.proofs.Common.{◌≡◌, ℕ, ◌+◌, ◌*◌, ◌<◌, ◌≤◌, arith, mul-le-mul}
+use Rattle.std.proofs.Common.{ℕ, ◌*◌, ◌<◌, ◌≤◌, arith, mul-le-mul}
 use Rattle.rtp_stats.specs.Drift.{IsSmall}
 use Rattle.rtp_stats.specs.declared.drift.sums.Sums.{Sums}
 

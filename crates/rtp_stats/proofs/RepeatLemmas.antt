@@ -1,5 +1,5 @@
 -- The rows of repeated numbers, after one more offer.
-use Rattle.std.proofs.Common.{◌≡◌, ◌≢◌, ℕ, ◌+◌, ◌<◌, Bool, true, false, List, [], ◌∷◌, length, refl, sym, ap, ◌∙◌, arith, if◌then◌else◌}
+use Rattle.std.proofs.Common.{◌≡◌, ◌≢◌, ℕ, ◌<◌, Bool, true, false, List, ◌∷◌, length, refl, sym, ap, ◌∙◌, arith, if◌then◌else◌}
 use Rattle.std.specs.Prelude.{nat_eq, slice_index, slice_set}
 use Rattle.std.proofs.lemmas.Bool.{eq-eqb, eqb-false, eqb-true, ne_eqb}
 use Rattle.std.proofs.lemmas.List.{get_or-set_other, get_or-set_same, length-set}
@@ -10,7 +10,7 @@ use Rattle.rtp_stats.proofs.TallyLemmas.{counts_new}
 use Rattle.rtp_stats.specs.Counts.{AreCounts}
 use Rattle.rtp_stats.specs.Offer.{Offer}
 use Rattle.rtp_stats.specs.Offers.{count_in_64_bits}
-use Rattle.rtp_stats.specs.Repeats.{is_restart, repeats_of, row_after, row_with, rows_after}
+use Rattle.rtp_stats.specs.Repeats.{is_restart, repeats_of, row_after, rows_after}
 
 -- counters, if the counter of one path begins again
 counts_zero : (f g : ℕ → ℕ) (numbers : List ℕ) (at : ℕ) → at < 4 → g at ≡ 0 → ((p : ℕ) → p < 4 → p ≢ at → g p ≡ f p) → AreCounts f numbers → AreCounts g (slice_set numbers at 0)

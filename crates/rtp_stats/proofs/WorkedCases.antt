@@ -1,5 +1,5 @@
 -- Worked cases of the definitions, computed.
-use Rattle.std.specs.Prelude.{◌≡◌, ℕ, Bool, true, false, List, [], ◌∷◌, ℤ, pos, negsuc, Some, None, refl}
+use Rattle.std.specs.Prelude.{◌≡◌, ℕ, false, List, [], ◌∷◌, ℤ, pos, negsuc, Some, None, refl}
 use Rattle.rtp_stream.specs.declared.fate.Fate.{Fate}
 use Rattle.rtp_stream.specs.declared.fate.Fate.TheVariants.{Double, Late, Restarted, Taken, Unlike}
 use Rattle.rtp_stats.specs.Missed.{missed_of}

@@ -1,5 +1,5 @@
 -- The drift of a path's arrival margin: the least-squares slope over the least margins of the seconds of a minute.
-use Rattle.std.specs.Prelude.{◌≡◌, ℕ, ◌+◌, ◌-◌, ◌*◌, ◌/◌, ◌^◌, ◌<◌, ◌≤◌, min, nat_eq, nat_lt, List, [], ◌∷◌, ◌++◌, length, drop, fold, ℤ, pos, neg_ℤ, Option, Some, None, if◌then◌else◌}
+use Rattle.std.specs.Prelude.{ℕ, ◌+◌, ◌-◌, ◌*◌, ◌/◌, ◌^◌, ◌≤◌, min, nat_eq, nat_lt, List, [], ◌∷◌, ◌++◌, length, drop, fold, ℤ, pos, neg_ℤ, Option, Some, None, if◌then◌else◌}
 use Rattle.rtp_stats.specs.declared.drift.Drift.{Drift}
 use Rattle.rtp_stats.specs.declared.drift.sums.Sums.{Sums}
 use Rattle.rtp_stats.specs.declared.spare.ArrivalMargin.{ArrivalMargin}

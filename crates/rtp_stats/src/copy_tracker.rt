@@ -1,15 +1,15 @@
 //! Tracks the copies that each path brings of a stream's packets (SMPTE ST 2022-7), with their arrival margins.
-ghost use Rattle.std.specs.Prelude.{◌≡◌, None, [], List, IfOk};
+ghost use Rattle.std.specs.Prelude.{◌≡◌, ◌<◌, None, [], List, length, IfOk};
 ghost use Rattle.rtp_stream.specs.declared.stream_spec.Stream.{Stream};
 ghost use Rattle.rtp_stats.specs.Offer.{Offer};
 ghost use Rattle.rtp_stats.specs.CopyTracker.{NotesOffer};
 ghost use Rattle.rtp_stats.specs.Tally.{HasTally};
-ghost use Rattle.rtp_stats.specs.Stats.{AreNumbers};
+ghost use Rattle.rtp_stats.specs.Stats.{AreNumbers, AreTold};
 
 use crate::deadlines::Deadlines;
-use crate::stats::PathStats;
+use crate::stats::{PathStats, StreamStats};
 use crate::tally::StreamTally;
-use rtp_stream::{Fate, Path, StreamSpec};
+use rtp_stream::{Counts, Fate, Path, StreamSpec};
 use std::alloc::{AllocError, Global};
 
 /// A tracker of the fates and arrival margins of a stream's packets, path by path.
@@ -53,6 +53,37 @@ impl CopyTracker {
         PathStats {
             tally: self.tally.path(path),
             spare: self.tally.spare(path, now),
+        }
+    }
+
+    /// Returns the statistics of all paths' packets at the clock reading `now`, in sampling instants at 48 kHz, with
+    /// the counts of the stream's merge.
+    pub fn stream_stats(&self, counts: Counts, now: i64) -> StreamStats
+        ensures counts { result.counts ≡ counts }
+        ensures four { length result.paths ≡ 4 }
+        ensures told { (stream : Stream) (offers : List Offer) → HasTally stream offers self.now.tally
+            → AreTold stream offers counts now result }
+    {
+        StreamStats {
+            counts,
+            paths: [
+                self.stats_at(0, now),
+                self.stats_at(1, now),
+                self.stats_at(2, now),
+                self.stats_at(3, now),
+            ],
+        }
+    }
+
+    /// Returns the statistics of the path with this number, 0 to 3.
+    fn stats_at(&self, number: u8, now: i64) -> PathStats
+        requires { number < 4 }
+        ensures { (stream : Stream) (offers : List Offer) → HasTally stream offers self.now.tally
+            → AreNumbers stream offers number now result }
+    {
+        match Path::new(number) {
+            Some(path) => self.stats(path, now),
+            None => unreachable!(),
         }
     }
 }

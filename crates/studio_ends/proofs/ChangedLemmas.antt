@@ -1,5 +1,5 @@
 -- The mixer's end, after it took a change of gains.
-use Rattle.std.proofs.Common.{◌≡◌, ℕ, ◌+◌, ◌*◌, ◌<◌, ◌≤◌, ◌≤ℤ◌, ℤ, List, length, vec_items, sym, ap, subst, ◌∙◌, arith}
+use Rattle.std.proofs.Common.{◌≡◌, ℕ, ◌+◌, ◌*◌, ◌<◌, ◌≤◌, ◌≤ℤ◌, ℤ, List, length, All, vec_items, sym, ap, subst, ◌∙◌, arith}
 use Rattle.std.proofs.Math.Nat.{mul-le-mul_right}
 use Rattle.std.proofs.lemmas.Int.{ints}
 use Rattle.std.proofs.lemmas.Option.{slice_get_within}
@@ -7,7 +7,11 @@ use Rattle.mix_packets.specs.declared.out_spec.Output.{Output}
 use Rattle.mix_packets.specs.Block.{block_start}
 use Rattle.studio_config.specs.Studio.{Studio}
 use Rattle.studio_mix.specs.Blocks.{AreFirstBlocks}
-use Rattle.studio_mix.specs.Changed.{with_gains}
+use Rattle.studio_io.specs.Gains.{changes_in}
+use Rattle.studio_io.specs.declared.gain_source.GainAnswer.{GainAnswer}
+use Rattle.studio_io.specs.declared.gain_source.GainAnswer.TheVariants.{Taken, Refused, Shown}
+use Rattle.studio_mix.specs.Changed.{with_changes, with_gains}
+use Rattle.studio_mix.specs.Mixer.{next_start_of}
 use Rattle.studio_mix.specs.Feed.{Feed}
 use Rattle.studio_mix.proofs.ChangedLemmas.{datagram_unchanged}
 use Rattle.studio_ends.specs.AcceptedFeeds.{accepted_feeds}
@@ -48,3 +52,21 @@ pub given_changed_at : (studio : Studio) (old new : MixEnd) (u at : ℤ) (gains 
     → block_start old.mixer.packer.spec old.mixer.packer.number ≤ℤ u → HasGiven studio old datagrams → HasGiven (with_gains studio at gains) new datagrams
 given_changed_at studio old new u at gains datagrams e same fed early given =
     subst (λ (a : ℤ). HasGiven (with_gains studio a gains) new datagrams) e (given_changed studio old new u gains datagrams same fed early given)
+
+-- nothing changed but the form of the mixer
+given_same : (studio : Studio) (old new : MixEnd) (datagrams : List (List ℕ)) → new.sides ≡ old.sides
+    → ((number : ℕ) → MixHasFeeds studio old number → MixHasFeeds studio new number) → HasGiven studio old datagrams → HasGiven studio new datagrams
+given_same studio old new datagrams same fed given = record {
+  some_frames = given.some_frames;
+  feeds = fed (length datagrams) given.feeds;
+  first = subst (λ sides. AreFirstBlocks studio (accepted_feeds studio.streams (vec_items sides)) datagrams) (sym same) given.first;
+}
+
+-- the mixer's end answered a request
+pub given_answered : (studio : Studio) (old new : MixEnd) (answer : GainAnswer) (gains : List ℤ) (datagrams : List (List ℕ)) → new.sides ≡ old.sides
+    → ((studio : Studio) (number : ℕ) → MixHasFeeds studio old number → MixHasFeeds (with_changes studio (changes_in answer gains)) new number)
+    → All (λ (change : ℤ × List ℤ). next_start_of old.mixer ≤ℤ change.0) (changes_in answer gains)
+    → HasGiven studio old datagrams → HasGiven (with_changes studio (changes_in answer gains)) new datagrams
+given_answered studio old new (Taken at) gains datagrams same fed later given = given_changed studio old new at gains datagrams same fed (later 0 (at, gains) (omega arith)) given
+given_answered studio old new (Refused fault) gains datagrams same fed later given = given_same studio old new datagrams same (fed studio) given
+given_answered studio old new (Shown at) gains datagrams same fed later given = given_same studio old new datagrams same (fed studio) given

@@ -9,6 +9,7 @@ use crate::rings::marks::MarkConsumer;
 use crate::stream_end::turns::StreamDone;
 use gain_mix::{ChangeFault, Matrix};
 use rtp_stats::MixStatsSender;
+use studio_io::{GainAnswer, GainRequest};
 use studio_mix::Mixer;
 
 pub(crate) mod marks_in;
@@ -83,7 +84,9 @@ impl MixEnd {
     ghost use Rattle.studio_config.specs.Studio.{Studio};
     ghost use Rattle.studio_mix.specs.Feed.{Feed};
     ghost use Rattle.studio_mix.specs.Blocks.{AreBlocks};
-    ghost use Rattle.studio_mix.specs.Changed.{gains_fault_of, with_gains};
+    ghost use Rattle.studio_io.specs.Gains.{AreShown, answer_of, changes_in};
+    ghost use Rattle.studio_mix.specs.Changed.{gains_fault_of, with_changes, with_gains};
+    ghost use Rattle.studio_mix.specs.Mixer.{next_start_of};
     ghost use Rattle.studio_mix.specs.Saturated.{AreSaturated};
     ghost use Rattle.studio_ends.specs.declared.rings.TokenConsumer.{TokenConsumer};
     ghost use Rattle.studio_ends.specs.AcceptedFeeds.{accepted_feeds, received_total};
@@ -181,6 +184,23 @@ impl MixEnd {
         ensures saturated { self.new.mixer.saturated ≡ self.old.mixer.saturated }
     {
         self.mixer.change_gains(at, gains)
+    }
+
+    /// Answers a request for the mixer's gains, and changes them if a change is asked for and can be taken. A request
+    /// without a time is about the start of the next block.
+    ///
+    /// For `GainAction::SetAll`, `gains` has the gains that are asked for, row by row. Afterwards it has those in force
+    /// from the time of the answer on. If the request was refused it has those at the next block's start, unless it
+    /// does not have a place for each gain.
+    pub fn answer_request(&mut self, request: GainRequest, gains: &mut [i32]) -> GainAnswer
+        ensures answer { result ≡ answer_of request self.old.mixer.schedule (next_start_of self.old.mixer) gains.old }
+        ensures shown { AreShown result request self.old.mixer.schedule (next_start_of self.old.mixer)
+            gains.old gains.new }
+        ensures given { (studio : Studio) (datagrams : List (List ℕ)) → HasGiven studio self.old datagrams
+            → HasGiven (with_changes studio (changes_in result gains.new)) self.new datagrams }
+        ensures sides { self.new.sides ≡ self.old.sides }
+    {
+        self.mixer.answer_request(request, gains)
     }
 
     /// Takes the token of a finished stream. The caller passes it to the stream whose end returned it.

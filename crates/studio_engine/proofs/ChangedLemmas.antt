@@ -1,14 +1,17 @@
 -- An engine that took a change of gains.
-use Rattle.std.proofs.Common.{◌≡◌, ℕ, ◌+◌, ◌*◌, ◌<◌, ◌≤◌, ◌≤ℤ◌, ℤ, List, length, sym, ap, ◌∙◌, arith}
+use Rattle.std.proofs.Common.{◌≡◌, ℕ, ◌+◌, ◌*◌, ◌<◌, ◌≤◌, ◌≤ℤ◌, ℤ, List, [], length, All, refl, sym, ap, subst, ◌∙◌, arith}
 use Rattle.std.proofs.Math.Nat.{mul-le-mul_right}
 use Rattle.std.proofs.lemmas.Int.{ints}
 use Rattle.std.proofs.lemmas.Option.{slice_get_within}
 use Rattle.mix_packets.specs.declared.out_spec.Output.{Output}
 use Rattle.mix_packets.specs.Block.{block_start}
 use Rattle.studio_config.specs.Studio.{Studio}
-use Rattle.studio_mix.specs.Changed.{with_gains}
+use Rattle.studio_io.specs.Gains.{changes_in}
+use Rattle.studio_io.specs.declared.gain_source.GainAnswer.{GainAnswer}
+use Rattle.studio_io.specs.declared.gain_source.GainAnswer.TheVariants.{Taken, Refused, Shown}
+use Rattle.studio_mix.specs.Changed.{with_changes, with_gains}
 use Rattle.studio_mix.specs.Feed.{Feed}
-use Rattle.studio_mix.specs.Mixer.{HasFeeds, MixerState}
+use Rattle.studio_mix.specs.Mixer.{HasFeeds, MixerState, next_start_of}
 use Rattle.studio_mix.specs.Room.{rooms_of}
 use Rattle.studio_mix.proofs.ChangedLemmas.{datagram_unchanged}
 use Rattle.studio_session.specs.Event.{TraceEvent}
@@ -49,3 +52,16 @@ session_changed studio old mixer at gains events datagrams fed lanes early s =
       };
       settled = λ e. let more = s.settled e in record { ended = more.ended; none = more.none };
     }
+
+-- an engine that answered a request
+pub session_answered : (studio : Studio) (old : EngineState) (mixer : MixerState) (answer : GainAnswer) (gains : List ℤ) (events : List TraceEvent) (datagrams : List (List ℕ))
+    → ((feeds : List Feed) (number : ℕ) → HasFeeds studio old.mixer feeds number → HasFeeds (with_changes studio (changes_in answer gains)) mixer feeds number)
+    → mixer.lanes ≡ old.mixer.lanes → All (λ (change : ℤ × List ℤ). next_start_of old.mixer ≤ℤ change.0) (changes_in answer gains)
+    → (changes_in answer gains ≡ [] → mixer ≡ old.mixer)
+    → HasSession studio old events datagrams
+    → HasSession (with_changes studio (changes_in answer gains)) (record { mixer = mixer; cursors = old.cursors; time = old.time; turning = old.turning; closed = old.closed; settled = old.settled; count = old.count }) events datagrams
+session_answered studio old mixer (Taken at) gains events datagrams fed lanes later kept s = session_changed studio old mixer at gains events datagrams fed lanes (later 0 (at, gains) (omega arith)) s
+session_answered studio old mixer (Refused fault) gains events datagrams fed lanes later kept s =
+    subst (λ (m : MixerState). HasSession studio (record { mixer = m; cursors = old.cursors; time = old.time; turning = old.turning; closed = old.closed; settled = old.settled; count = old.count }) events datagrams) (sym (kept refl)) s
+session_answered studio old mixer (Shown at) gains events datagrams fed lanes later kept s =
+    subst (λ (m : MixerState). HasSession studio (record { mixer = m; cursors = old.cursors; time = old.time; turning = old.turning; closed = old.closed; settled = old.settled; count = old.count }) events datagrams) (sym (kept refl)) s

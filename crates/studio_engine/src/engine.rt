@@ -64,15 +64,18 @@ use studio_config::StudioSpec;
 use studio_mix::Mixer;
 use studio_session::{ArriveOutcome, is_runnable};
 
+mod gain_requests;
+
 /// The number of events after which no more arrivals are taken: 2^62.
 // At most 2^60 clock readings and a close follow these, so the number of events never wraps.
 const MAX_EVENTS: usize = 4_611_686_018_427_387_904;
 
 /// A studio as one object.
 ///
-/// `arrive`, `turn` and `close` take input, and `change_gains` moves the gains at any time between. `turn`, and `drain`
-/// after a close, return datagrams. `time`, `stream`, `next_deadline`, `stream_deadline`, `next_block_start`, `gains`,
-/// `counts`, `path_counts`, `saturated` and `settled` read. Only `new` allocates.
+/// `arrive`, `turn` and `close` take input, and `change_gains` moves the gains at any time between; `answer_request`
+/// does so for a request of a `GainSource`. `turn`, and `drain` after a close, return datagrams. `time`, `stream`,
+/// `next_deadline`, `stream_deadline`, `next_block_start`, `gains`, `counts`, `path_counts`, `saturated` and `settled`
+/// read. Only `new` allocates.
 #[derive(Drop)]
 pub struct Engine {
     mixer: Mixer,
@@ -425,6 +428,7 @@ impl Engine {
     /// Returns the number of saturated samples of each output channel in the datagrams so far.
     pub fn saturated(&self) -> &[u64]
         ensures value { result.now ≡ self.now.mixer.saturated }
+        ensures few { length result.now ≤ 8 }
         ensures stands { (studio : Studio) (events : List TraceEvent) (datagrams : List (List ℕ))
             → HasSession studio self.now events datagrams
             → AreSaturated studio (feeds_of studio events) (length datagrams) result.now }

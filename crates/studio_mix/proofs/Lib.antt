@@ -10,4 +10,5 @@ pub mod LawLemmas
 pub mod SaturatedLemmas
 pub mod FirstBlockLemmas
 pub mod ChangedLemmas
+pub mod TakenLemmas
 mod WorkedCases

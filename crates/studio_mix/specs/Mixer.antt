@@ -21,6 +21,10 @@ pub record MixerState : Type 0 where
   pub packer : PackerState
   pub saturated : List ℕ
 
+-- the time at which the mixer's next block begins
+abbrev pub next_start_of : MixerState → ℤ
+next_start_of mixer = block_start mixer.packer.spec mixer.packer.number
+
 -- the mixer of this studio was fed these marks, returned the blocks before `next`, and counted their saturated samples;
 -- it keeps the schedule from this block on
 pub record HasFeeds (studio : Studio) (mixer : MixerState) (feeds : List Feed) (next : ℕ) : Type 0 where

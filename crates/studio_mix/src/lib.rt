@@ -12,8 +12,12 @@
 //!
 //! `Mixer::with_room` makes a mixer that also takes marks before they are wanted: `keep_ref` takes a
 //! mark if the mixer `has_room` for it.
+//!
+//! `change_gains` changes the gains between blocks. `answer_request` answers a request of a
+//! `GainSource`, which may ask for such a change.
 #![tactic(auto)]
 
+mod gain_requests;
 mod interleave;
 mod lane_capacity;
 mod lanes;

@@ -165,6 +165,7 @@ impl Mixer {
     /// rounded, did not fit the output's encoding.
     pub fn saturated(&self) -> &[u64]
         ensures value { result.now ≡ self.now.saturated }
+        ensures few { length result.now ≤ 8 }
         ensures stands { (studio : Studio) (feeds : List Feed) (number : ℕ)
             → HasFeeds studio self.now feeds number → AreSaturated studio feeds number result.now }
     {

@@ -15,7 +15,7 @@ use Rattle.studio_io.specs.Sinks.{Hands}
 use Rattle.studio_mix.specs.Changed.{with_changes}
 use Rattle.studio_rings.specs.GainRequests.{TakesChanges}
 use Rattle.studio_rings.specs.MixWorker.{AreSameSides, Mixes, MixesWith}
-use Rattle.studio_rings.proofs.GainRequestLemmas.{more_taken, no_more, with_changes-append}
+use Rattle.studio_mix.proofs.TakenLemmas.{more_taken, no_more, with_changes-append}
 
 consumers : {T A P : Type 0} (a b c : Consumer T A P) → SameConsumer a b → SameConsumer b c → SameConsumer a c
 consumers a b c f g = ((g.0.0 ∙ f.0.0, g.0.1 ∙ f.0.1, g.0.2 ∙ f.0.2, g.0.3 ∙ f.0.3), g.1 ∙ f.1)

@@ -38,7 +38,7 @@ use Rattle.studio_rings.specs.StreamWorkers.{AllReady, ArePairs, HasMarks, IsStr
 use Rattle.studio_rings.specs.declared.jobs.StreamJob.{StreamJob}
 use Rattle.studio_rings.specs.declared.jobs.StreamResult.{StreamResult}
 use Rattle.studio_rings.proofs.EndLemmas.{some_of}
-use Rattle.studio_rings.proofs.GainRequestLemmas.{no_more}
+use Rattle.studio_mix.proofs.TakenLemmas.{no_more}
 use Rattle.studio_rings.proofs.JobLemmas.{cut_once, map_length}
 
 module _ {F : Type 0} where

@@ -1,14 +1,9 @@
 -- A mixer's end that took changes of gains.
 use Rattle.std.specs.Prelude.{◌≡◌, ℕ, ℤ, List, ◌++◌}
-use Rattle.mix_packets.specs.Block.{block_start}
 use Rattle.studio_config.specs.Studio.{Studio}
 use Rattle.studio_mix.specs.Changed.{with_changes}
 use Rattle.studio_ends.specs.Datagrams.{HasGiven}
 use Rattle.studio_ends.specs.declared.mix_end.MixEnd.{MixEnd}
-
--- the time at which the mixer's next block begins
-abbrev pub next_start : MixEnd → ℤ
-next_start end = block_start end.mixer.packer.spec end.mixer.packer.number
 
 -- the mixer's end took exactly the changes from `first` to `last`, and the datagrams that it returned so far are also
 -- those of the studio with these changes

@@ -17,8 +17,8 @@
 //! - `ClockedStream` is the end of a stream with its clock. `turn` goes to the greatest clock reading
 //!   so far, and `try_close` closes the stream once everything that its paths sent was taken.
 //! - `run_mixer` passes each datagram of the mixer to the sink, and `run_mixer_with_gains` also asks
-//!   a `GainSource`. `answer_request` answers one request by the mixer's end. `is_settled_with`
-//!   returns whether everything that the streams' tokens report reached the mixer.
+//!   a `GainSource`. `MixEnd::answer_request` answers one request. `is_settled_with` returns whether
+//!   everything that the streams' tokens report reached the mixer.
 //!
 //! This crate also exports the ends of the rings, and the devices and the report of a run.
 #![tactic(auto)]
@@ -44,6 +44,5 @@ pub use studio_io::{
 pub use tokens::is_settled_with;
 pub use worker::Backoff;
 pub use worker::clocked_stream::ClockedStream;
-pub use worker::gain_requests::answer_request;
 pub use worker::mixer::{MixResult, run_mixer, run_mixer_with_gains};
 pub use worker::path::run_path;

@@ -1,5 +1,5 @@
 //! The pause of a worker that has nothing to do. `path`, `stream` and `mixer` are the workers; `clocked_stream` and
-//! `clocked_turn` are a stream's end with its clock, and its turns; `gain_requests` answers a source of gains.
+//! `clocked_turn` are a stream's end with its clock, and its turns; `gain_requests` asks a source of gains.
 
 use std::sync::Wait;
 use std::thread::Parker;

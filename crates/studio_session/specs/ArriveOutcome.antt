@@ -11,9 +11,9 @@ use Rattle.studio_session.specs.Session.{stream_history}
 use Rattle.studio_session.specs.declared.receipt.ArriveOutcome.{ArriveOutcome}
 use Rattle.studio_session.specs.declared.receipt.ArriveOutcome.TheVariants.{Offered, Bad as BadOf, WrongType as WrongTypeOf, WrongLength as WrongLengthOf}
 
--- the fate of a packet after a history, or why the datagram has none
+-- the number, the timestamp and the fate of a packet after a history, or why the datagram has none
 abbrev pub receipt_in : Stream → ℤ → List Event → ℕ → Reception → ArriveOutcome
-receipt_in stream open_at events path (Sent packet) = Offered (fate_of stream open_at events path packet)
+receipt_in stream open_at events path (Sent packet) = Offered (record { seq = packet.seq; ts = packet.ts; fate = fate_of stream open_at events path packet })
 receipt_in stream open_at events path (Bad fault) = BadOf fault
 receipt_in stream open_at events path WrongType = WrongTypeOf
 receipt_in stream open_at events path WrongLength = WrongLengthOf

@@ -49,7 +49,7 @@ ghost use Rattle.studio_session.specs.PushedEvents.{IsHanded};
 ghost use Rattle.studio_session.specs.ArriveOutcome.{receipt_in, receipt_of};
 
 use crate::event::EventHeader;
-use crate::receipt::ArriveOutcome;
+use crate::receipt::{ArriveOutcome, OfferedPacket};
 use crate::source::{DatagramRoom, EventSource};
 use path_merge::{Counts, Goal, MarkRef, Merge, Path, SlotWindow, StreamSpec};
 use rtp_stream::{PathCounts, ReceptionRef, receive_ref};
@@ -412,7 +412,11 @@ fn offer_received(
         → result ≡ receipt_in stream open_at events path (reception_from reception.entry) }
 {
     match reception {
-        ReceptionRef::Sent(packet) => ArriveOutcome::Offered(merge.offer_ref(path, packet)),
+        ReceptionRef::Sent(packet) => ArriveOutcome::Offered(OfferedPacket {
+            seq: packet.seq,
+            ts: packet.ts,
+            fate: merge.offer_ref(path, packet),
+        }),
         ReceptionRef::Bad(fault) => ArriveOutcome::Bad(fault),
         ReceptionRef::WrongType => ArriveOutcome::WrongType,
         ReceptionRef::WrongLength => ArriveOutcome::WrongLength,

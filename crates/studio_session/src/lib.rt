@@ -41,7 +41,7 @@ pub use fault::{StudioFault, first_fault, is_runnable};
 pub use feed_mixer::pull_marks;
 pub use finish::finish_stream;
 pub use laws::readings_may_be_left_out;
-pub use receipt::ArriveOutcome;
+pub use receipt::{ArriveOutcome, OfferedPacket};
 pub use report::Report;
 pub use rtp_stream::{PathCounts, Reception, ReceptionRef, StreamCounts, receive_ref};
 pub use run_list::run_studio;

@@ -1,7 +1,7 @@
 //! The tests of an engine's calls, one by one.
 use super::studios::{
-    Step, answers, block_of_48, block_of_six, gives, packet_of_48, packet_of_six, play, six,
-    six_and_forty_eight,
+    Step, answers, block_of_48, block_of_six, gives, offered, packet_of_48, packet_of_six, play,
+    six, six_and_forty_eight,
 };
 use crate::small_studios::six_and_forty_eight as studio;
 use gain_mix::ChangeFault;
@@ -11,8 +11,8 @@ use std::process::Abort;
 use studio_engine::{ArriveFault, Engine, Unfinished};
 use studio_session::ArriveOutcome;
 
-/// The result of `arrive` for a packet that is taken.
-pub const TAKEN: Result<ArriveOutcome, ArriveFault> = Ok(ArriveOutcome::Offered(Fate::Taken));
+/// The fate of a packet that is taken.
+pub const TAKEN: Result<Fate, ArriveFault> = Ok(Fate::Taken);
 
 const BLOCK_BY_BLOCK: [Step; 6] = [
     Step::Hand(0, 1, TAKEN),
@@ -36,7 +36,7 @@ const BETWEEN_TURNS: [Step; 7] = [
     Step::Hand(1, 2, TAKEN),
     Step::Give(18, 1, 2),
     Step::Turn(18, Ok(None)),
-    Step::Hand(0, 2, Ok(ArriveOutcome::Offered(Fate::Late))),
+    Step::Hand(0, 2, Ok(Fate::Late)),
 ];
 
 /// A packet that arrives between two turns is in the second one's datagram. One that arrives after its deadline is
@@ -195,7 +195,7 @@ const SETTLED: [Step; 7] = [
     Step::DrainOne(0, 1),
     Step::DrainNone,
     Step::Counts(1, 1, 0),
-    Step::Hand(0, 1, Ok(ArriveOutcome::Offered(Fate::Closed))),
+    Step::Hand(0, 1, Ok(Fate::Closed)),
     Step::Settled(true),
 ];
 
@@ -224,8 +224,8 @@ fn marks_are_kept_until_the_slower_stream_has_come(rt: HostRuntime) {
 /// Tests that marks are kept, on an engine of both streams.
 fn keeps_marks(rt: &impl Abort, engine: &mut Engine) {
     let path = path(rt, 0);
-    assert!(rt; engine.arrive(1, path, &packet_of_48(1, 48, 4)) == TAKEN);
-    assert!(rt; engine.arrive(0, path, &packet_of_six(1, 24, 1)) == TAKEN);
+    assert!(rt; engine.arrive(1, path, &packet_of_48(1, 48, 4)) == offered(1, 48, TAKEN));
+    assert!(rt; engine.arrive(0, path, &packet_of_six(1, 24, 1)) == offered(1, 24, TAKEN));
     assert!(rt; answers(engine, 143, Ok(None)));
     assert!(rt; gives(engine, 144, &first_of_both()));
     assert!(rt; gives(engine, 144, &block_of_48(1, 4)));

@@ -1,11 +1,11 @@
 //! The engines of the tests, their packets, and steps that call an engine.
 use crate::small_studios::{stream, sum_of};
 use gain_mix::ChangeFault;
-use path_merge::{ClockFault, Path, StreamSpec};
+use path_merge::{ClockFault, Fate, Path, StreamSpec};
 use std::alloc::Global;
 use std::process::Abort;
 use studio_engine::{ArriveFault, Engine, Unfinished};
-use studio_session::ArriveOutcome;
+use studio_session::{ArriveOutcome, OfferedPacket};
 
 /// The greatest number of octets of an output's datagram.
 const MAX_OCTETS: usize = 1452;
@@ -95,8 +95,8 @@ pub fn block_of_48(block: u8, sample: u8) -> [u8; 156] {
 /// samples are all one value.
 #[derive(Clone, Copy)]
 pub enum Step {
-    /// Packet 1 or 2, at 0 or 6, arrives on a path. Its samples are all its number.
-    Hand(u8, u8, Result<ArriveOutcome, ArriveFault>),
+    /// Packet 1 or 2, at 0 or 6, arrives on a path and has this fate, or is refused. Its samples are all its number.
+    Hand(u8, u8, Result<Fate, ArriveFault>),
     /// A turn to a clock reading returns this block with this sample.
     Give(i64, u8, u8),
     /// A turn to a clock reading returns no block, or is refused.
@@ -132,7 +132,7 @@ pub fn play(rt: &impl Abort, alloc: Global, steps: &[Step]) {
 /// Takes a step, and returns true if its result is the expected one.
 fn gives_result(engine: &mut Engine, step: Step) -> bool {
     match step {
-        Step::Hand(on, number, want) => hand(engine, on, number) == Some(want),
+        Step::Hand(on, number, want) => arrives(engine, on, number, want),
         Step::Give(now, block, sample) => gives(engine, now, &block_of_six(block, sample)),
         Step::Turn(now, want) => answers(engine, now, want),
         Step::Close(want) => engine.close() == want,
@@ -150,10 +150,27 @@ fn gives_result(engine: &mut Engine, step: Step) -> bool {
     }
 }
 
-/// Returns the result of `arrive` for packet 1 or 2 on a path, or none if there is no such path.
-fn hand(engine: &mut Engine, on: u8, number: u8) -> Option<Result<ArriveOutcome, ArriveFault>> {
+/// Returns true if packet 1 or 2 arrives on a path with this fate, or is refused so, and there is such a path.
+fn arrives(engine: &mut Engine, on: u8, number: u8, want: Result<Fate, ArriveFault>) -> bool {
     let ts = if number == 1 { 0 } else { 6 };
-    Some(engine.arrive(0, Path::new(on)?, &packet_of_six(number, ts, number)))
+    let Some(path) = Path::new(on) else {
+        return false;
+    };
+    engine.arrive(0, path, &packet_of_six(number, ts, number)) == offered(number, ts, want)
+}
+
+/// Returns the result of `arrive` for a packet with this sequence number, timestamp and fate, or for one that is
+/// refused.
+pub fn offered(
+    seq: u8,
+    ts: u8,
+    fate: Result<Fate, ArriveFault>,
+) -> Result<ArriveOutcome, ArriveFault> {
+    Ok(ArriveOutcome::Offered(OfferedPacket {
+        seq: u16::from(seq),
+        ts: u32::from(ts),
+        fate: fate?,
+    }))
 }
 
 /// Returns true if a turn returns this datagram.

@@ -78,7 +78,7 @@ impl<'a, R: Clock, E: Write + Drop, V: EventOutput> RunObserver<UdpFeed<'a, R>>
             octets,
         });
         if let Some(status) = &mut self.status {
-            status.note(engine, stream, path, octets, receipt);
+            status.note(engine, stream, path, receipt);
         }
     }
 

@@ -4,8 +4,8 @@ ghost use Rattle.studio_rings.specs.StreamResults.{AreOpenedTogether};
 ghost use Rattle.live_run.specs.RunResult.{IsEarly, IsRunOf, IsRunWith};
 
 use crate::fault::LiveFault;
+use live_gains::RunGains;
 use live_io::{FeedFlags, RunPeriod, Sockets, SystemClock, UdpFeed, UdpSink, udp_feeds};
-use live_status::RunGains;
 use run_outputs::{MixOutput, OutputSink};
 use std::alloc::{AllocError, Global};
 use std::sync::Wait;

@@ -133,23 +133,29 @@ pub(crate) fn push_known(text: &mut TextBuffer, number: Option<u64>)
     }
 }
 
+/// The datagrams of each copy of the mix that were not sent.
+#[derive(Clone, Copy)]
+pub(crate) struct FailedSends {
+    pub(crate) a: u64,
+    pub(crate) b: u64,
+}
+
 /// Writes the line of a run at a clock reading, in sampling instants: the datagrams of each copy of the mix that were
 /// not sent, and the states of the run's outputs, each with its counts.
 pub(crate) fn write_run_state<W: Write>(
     text: &mut TextBuffer,
     writer: &mut W,
     time: i64,
-    failed_a: u64,
-    failed_b: u64,
+    failed: FailedSends,
     outputs: &OutputStates,
 ) -> Result<(), WriteFault>
     ensures ok { OnOk result (PassesOn (W.contents writer.old) text.old (W.contents writer.new) text.new
-        (run_line time failed_a failed_b outputs.now)) }
+        (run_line time failed.a failed.b outputs.now)) }
     ensures fault { OnErr result (BreaksOff (W.contents writer.old) text.old (W.contents writer.new)
-        (run_line time failed_a failed_b outputs.now)) }
+        (run_line time failed.a failed.b outputs.now)) }
 {
     text.make_room(writer)?;
-    push_run_line(text, time, failed_a, failed_b, outputs);
+    push_run_line(text, time, failed.a, failed.b, outputs);
     Ok(())
 }
 

@@ -4,12 +4,12 @@ ghost use Rattle.studio_session.specs.Cursor.{IsSameCursor};
 ghost use Rattle.reception_chart.specs.Places.{CountsOne};
 
 use crate::reception::{CopyTiming, ReceptionEvent, ReceptionKind, ReceptionObserver};
-use path_merge::{Fate, MarkKindRef, PacketRef, Path};
+use path_merge::{Fate, MarkKindRef, Path};
 use rtp_stream::{StreamSpec, is_taken, near32};
 use rtp_wire::MAX_ARRIVAL_OCTETS;
 use std::alloc::{AllocError, Global};
 use studio_config::StudioSpec;
-use studio_session::{ArriveOutcome, Cursor, EventHeader, EventSource, ReceptionRef, receive_ref};
+use studio_session::{ArriveOutcome, Cursor, EventHeader, EventSource, OfferedPacket};
 
 /// The timestamp and the media time of a packet, from which the media times of all others of its epoch follow.
 // Not `rtp_stats::Deadlines`, which has no deadline for late packets: the chart draws their media times too.
@@ -215,17 +215,13 @@ fn take_datagram<O: ReceptionObserver>(
     let spec = cursor.spec();
     // A stream has a deadline once it has a packet, so this is tested before the datagram is taken.
     let anchored = cursor.next_deadline().is_some();
-    let receipt = cursor.push_datagram(path, octets);
-    if let (ArriveOutcome::Offered(fate), ReceptionRef::Sent(packet)) = (
-        receipt,
-        receive_ref(&spec, octets),
-    ) {
-        if is_taken(fate) {
-            let opens = !anchored || fate == Fate::Restarted;
+    if let ArriveOutcome::Offered(packet) = cursor.push_datagram(path, octets) {
+        if is_taken(packet.fate) {
+            let opens = !anchored || packet.fate == Fate::Restarted;
             let due = cursor.next_deadline();
             grid.reference = Some(reference_after(&spec, grid, opens, due, packet.ts));
         }
-        report_packet(&spec, grid, path, fate, &packet, observer);
+        report_packet(&spec, grid, path, packet, observer);
     }
 }
 
@@ -260,10 +256,10 @@ fn report_packet<O: ReceptionObserver>(
     spec: &StreamSpec,
     grid: &StreamGrid,
     path: Path,
-    fate: Fate,
-    packet: &PacketRef<'_>,
+    packet: OfferedPacket,
     observer: &mut O,
 ) {
+    let OfferedPacket { ts, fate, .. } = packet;
     let kind = match fate {
         Fate::Closed | Fate::CountersFull => return,
         Fate::Taken | Fate::Restarted => ReceptionKind::Taken(path),
@@ -274,7 +270,7 @@ fn report_packet<O: ReceptionObserver>(
     // The grid says nothing of the media time of a packet of another source or off the grid.
     let placed = !matches!(fate, Fate::WrongSource | Fate::OffGrid | Fate::Ahead);
     let media = match grid.reference {
-        Some(reference) => reference.media_of(packet.ts),
+        Some(reference) => reference.media_of(ts),
         None => grid.time,
     };
     let margin = media

@@ -1,8 +1,8 @@
 //! The channel that reports the saturated samples and the peaks of the mix.
-ghost use Rattle.std.specs.Prelude.{◌≡◌, min, slice_index, IfOk};
+ghost use Rattle.std.specs.Prelude.{◌≡◌, min, IfOk};
 ghost use Rattle.rtrb.specs.Ring.{SameConsumer, SameProducer};
 ghost use Rattle.rtp_stats.specs.Channel.{IsNewest};
-ghost use Rattle.rtp_stats.specs.Channels.{AreRaised, IsByChannel, TellsMix, no_peaks};
+ghost use Rattle.rtp_stats.specs.Channels.{AreRaised, TellsMix, no_peaks};
 
 use crate::channel::mix_sender::{MAX_CHANNELS, MixStatsSender};
 use crate::channel::{take_newest, try_send};
@@ -52,7 +52,7 @@ impl MixStatsSender {
     {
         self.peaks = self.raised(datagram);
         // The peaks start again only once they were sent: a peak between two looks of the receiver is never lost.
-        if try_send(&mut self.ring, numbers_of(saturated, self.peaks)) {
+        if try_send(&mut self.ring, MixStats::new(saturated, self.peaks)) {
             self.peaks = [0; MAX_CHANNELS];
         }
     }
@@ -72,31 +72,6 @@ impl MixStatsSender {
             &datagram[HEADER_OCTETS..],
         );
         peaks
-    }
-}
-
-/// Returns these counts and peaks as statistics.
-fn numbers_of(saturated: &[u64], peaks: [u32; MAX_CHANNELS]) -> MixStats
-    ensures counts { IsByChannel saturated.now result }
-    ensures peaks { result.peaks ≡ peaks }
-{
-    let mut counts = [0u64; MAX_CHANNELS];
-    for channel in 0..MAX_CHANNELS {
-        counts[channel] = count_at(saturated, channel);
-    }
-    MixStats {
-        saturated: counts,
-        peaks,
-    }
-}
-
-/// Returns the count of a channel; 0 if the output does not have it.
-fn count_at(saturated: &[u64], channel: usize) -> u64
-    ensures { result ≡ slice_index saturated.now channel }
-{
-    match saturated.get(channel) {
-        Some(count) => *count,
-        None => 0,
     }
 }
 

@@ -1,17 +1,16 @@
 //! The channel that reports the fates of a stream's packets.
-ghost use Rattle.std.specs.Prelude.{◌≡◌, ◌<◌, ◌^◌, [], List, None, IfOk, ℤ, pos, neg_ℤ, ◌+ℤ◌, ◌<ℤ◌, ◌≤ℤ◌};
+ghost use Rattle.std.specs.Prelude.{◌≡◌, ◌^◌, [], List, None, IfOk, ℤ, pos, neg_ℤ, ◌+ℤ◌, ◌<ℤ◌, ◌≤ℤ◌};
 ghost use Rattle.rtrb.specs.Ring.{SameConsumer, SameProducer};
 ghost use Rattle.rtp_stream.specs.declared.stream_spec.Stream.{Stream};
 ghost use Rattle.rtp_stats.specs.Offer.{Offer};
 ghost use Rattle.rtp_stats.specs.Tally.{HasTally};
 ghost use Rattle.rtp_stats.specs.Channel.{IsNewest};
-ghost use Rattle.rtp_stats.specs.Stats.{AreNumbers};
 ghost use Rattle.rtp_stats.specs.Channels.{Tells};
 ghost use Rattle.rtp_stats.specs.CopyTracker.{NotesOffer};
 
 use crate::channel::{take_newest, try_send};
 use crate::copy_tracker::CopyTracker;
-use crate::stats::{PathStats, StreamStats};
+use crate::stats::StreamStats;
 use rtp_stream::{Counts, Fate, PacketRef, Path, StreamSpec};
 use rtrb::{Consumer, Producer, RingBuffer};
 use std::alloc::{AllocError, Global};
@@ -96,28 +95,8 @@ impl StreamStatsSender {
         }
         // Set also if the ring turns out to be full: a receiver that is gone then costs ten tries a second.
         self.next = now.saturating_add(TENTH);
-        let numbers = StreamStats {
-            counts,
-            paths: [
-                numbers_at(&self.tracker, 0, now),
-                numbers_at(&self.tracker, 1, now),
-                numbers_at(&self.tracker, 2, now),
-                numbers_at(&self.tracker, 3, now),
-            ],
-        };
-        try_send(&mut self.ring, numbers);
-    }
-}
-
-/// Returns the statistics of the path with this number, 0 to 3.
-fn numbers_at(tracker: &CopyTracker, number: u8, now: i64) -> PathStats
-    requires { number < 4 }
-    ensures { (stream : Stream) (offers : List Offer) → HasTally stream offers tracker.now.tally
-        → AreNumbers stream offers number now result }
-{
-    match Path::new(number) {
-        Some(path) => tracker.stats(path, now),
-        None => unreachable!(),
+        let stats = self.tracker.stream_stats(counts, now);
+        try_send(&mut self.ring, stats);
     }
 }
 

@@ -1,15 +1,10 @@
-use Rattle.std.proofs.Common.{ℕ, List, subst}
-use Rattle.live_status.specs.Each.{AreEach}
-use Rattle.live_status.specs.Outputs.{HasCount}
-use Rattle.live_status.proofs.Outputs.{counted-alone, counted-kept}
+use Rattle.std.proofs.Common.{◌≤◌, ℕ, List, length, subst}
+use Rattle.rtp_stats.specs.Stats.{IsByChannel}
+use Rattle.live_status.proofs.Outputs.{counts_shown}
 use Rattle.live_status.proofs.engine_status.fill_engine_outputs.Goals as goal
 
-pub returns-in-Some : goal.returns-in-Some
-returns-in-Some c =
-    let counted = subst (λ (saturated : List ℕ). AreEach (HasCount saturated) c.args.outputs.now c.fill_saturated.new.outputs) c.saturated.ensures.value c.fill_saturated.ensures in
-    counted-kept c.args.engine.now.mixer.saturated c.args.outputs.now c.fill_saturated.new.outputs c.fill_peaks.new.outputs counted c.fill_peaks.ensures
-
-pub returns-in_default : goal.returns-in_default
-returns-in_default c =
-    let counted = subst (λ (saturated : List ℕ). AreEach (HasCount saturated) c.args.outputs.now c.fill_saturated.new.outputs) c.saturated.ensures.value c.fill_saturated.ensures in
-    counted-alone c.args.engine.now.mixer.saturated c.args.outputs.now c.fill_saturated.new.outputs counted
+pub returns : goal.returns
+returns c =
+    let counts = c.args.engine.now.mixer.saturated in
+    counts_shown counts c.new.result c.args.outputs.now c.fill_outputs.new.outputs (subst (λ (l : List ℕ). length l ≤ 8) c.saturated.ensures.value c.saturated.ensures.few)
+    (subst (λ (l : List ℕ). IsByChannel l c.new.result) c.saturated.ensures.value c.new.ensures.counts) c.fill_outputs.ensures

@@ -9,7 +9,7 @@ use Rattle.status_page.specs.declared.snapshot.StreamState.{StreamState}
 use Rattle.live_status.specs.Each.{AreEach}
 use Rattle.live_status.specs.Outputs.{blank_output}
 use Rattle.live_status.specs.Publisher.{Shows}
-use Rattle.live_status.specs.EngineStatus.{IsEngineOutput, FillsStreamAt}
+use Rattle.live_status.specs.EngineStatus.{IsEngineOutput, FillsEngineStreamAt}
 use Rattle.live_status.proofs.Each.{refilled}
 use Rattle.live_status.specs.Health.{KeepsStream}
 use Rattle.live_status.proofs.EngineStatusLemmas.{streams-filled, streams-kept}
@@ -25,8 +25,8 @@ returns-clause-shown g c =
     let filled : Snapshot = c.fill_health.new.snapshot in
     let trackers = c.args.self.now.trackers.items in
     let given = c.as_mut_slice-streams.result.now in
-    let by_trackers : AreEach (FillsStreamAt engine trackers) given streams = subst (λ (ts : List CopyTracker). AreEach (FillsStreamAt engine ts) given streams) c.as_slice.ensures.value c.fill_streams.ensures in
-    let sees : AreEach (FillsStreamAt engine trackers) blank.streams.items streams = subst (λ (l : List StreamState). AreEach (FillsStreamAt engine trackers) l streams) c.as_mut_slice-streams.ensures.value by_trackers in
+    let by_trackers : AreEach (FillsEngineStreamAt engine trackers) given streams = subst (λ (ts : List CopyTracker). AreEach (FillsEngineStreamAt engine ts) given streams) c.as_slice.ensures.value c.fill_streams.ensures in
+    let sees : AreEach (FillsEngineStreamAt engine trackers) blank.streams.items streams = subst (λ (l : List StreamState). AreEach (FillsEngineStreamAt engine trackers) l streams) c.as_mut_slice-streams.ensures.value by_trackers in
     let heard : AreEach (IsEngineOutput engine) blank.outputs.items outputs = subst (λ (l : List ChannelState). AreEach (IsEngineOutput engine) l outputs) c.as_mut_slice.ensures.value c.fill_engine_outputs.ensures in
     let same : refill (length blank.streams.items) blank.streams.items streams ≡ streams = refilled blank.streams.items streams sees.length_is in
     let kept : AreEach KeepsStream streams filled.streams.items = subst (λ (l : List StreamState). AreEach KeepsStream l filled.streams.items) same c.fill_health.ensures.streams in

@@ -1,5 +1,5 @@
 use Rattle.std.proofs.lemmas.Grind.{elements}
-use Rattle.std.proofs.Common.{◌≡◌, ℤ, refl, to_z, of_z, w64, arith}
+use Rattle.std.proofs.Common.{refl, to_z, of_z, w64, arith}
 use Rattle.std.proofs.lemmas.Int.{to_z-of_z}
 use Rattle.studio_mix.proofs.ChangedLemmas.{both_ok}
 use Rattle.studio_ends.specs.AcceptedFeeds.{accepted_feeds}

@@ -1,0 +1,3 @@
+pub mod GainChangeLemmas
+pub mod GainDeskLemmas
+pub mod PlannedLemmas

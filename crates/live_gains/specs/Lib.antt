@@ -1,0 +1,5 @@
+pub mod Planned
+pub mod GainMessages
+pub mod GainMemory
+pub mod GainChannel
+pub mod GainDesk

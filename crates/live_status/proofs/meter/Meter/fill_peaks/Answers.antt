@@ -1,6 +1,0 @@
-use Rattle.std.proofs.lemmas.Grind.{elements}
-use Rattle.std.proofs.Common.{arith}
-use Rattle.live_status.proofs.meter.Meter.fill_peaks.Goals as goal
-
-pub loop-channel-preserved : goal.loop-channel-preserved
-loop-channel-preserved c = grind (arith, elements)
