@@ -16,8 +16,8 @@ returns-in-Some-clause-paths c =
     let this : AreStatsOf (option_copied (Some c.in-Some.tracker)) c.args.engine.now.time stats = (
       c.stream_stats.ensures.four,
       λ stream offers tallied.
-      subst (λ (now : ℤ). AreTold stream offers stats.counts now stats) time
-      (subst (λ (counts : Counts). AreTold stream offers counts (to_z w64 (of_z w64 c.time.result)) stats) (sym c.stream_stats.ensures.counts) (c.stream_stats.ensures.told stream offers tallied)),
+          subst (λ (now : ℤ). AreTold stream offers stats.counts now stats) time
+          (subst (λ (counts : Counts). AreTold stream offers counts (to_z w64 (of_z w64 c.time.result)) stats) (sym c.stream_stats.ensures.counts) (c.stream_stats.ensures.told stream offers tallied)),
     ) in
     subst (λ (o : Option (Bor CopyTracker)). AreStatsOf (option_copied o) c.args.engine.now.time stats) (sym c.in-Some.is) this
 
