@@ -28,9 +28,20 @@ pub(crate) fn routes_at<H: Host>(
     gap: u64,
 ) -> Result<Routes, CommandFault> {
     let addresses = addresses_in(alloc, words)?;
+    let table = timed_table_at(host, alloc, path, gap)?;
+    routes_to(alloc, &table, addresses.as_slice())
+}
+
+/// Returns the flows of the capture at a path. Returns the fault of a time that jumps by more than `gap` seconds.
+fn timed_table_at<H: Host>(
+    host: &H,
+    alloc: Global,
+    path: &str,
+    gap: u64,
+) -> Result<FlowTable, CommandFault> {
     let table = table_at(host, alloc, path)?;
     check_times(host, alloc, path, &table, gap)?;
-    routes_to(alloc, &table, addresses.as_slice())
+    Ok(table)
 }
 
 /// Returns the addresses and ports that words name. Returns `CommandFault::Address` for a word that names none.

@@ -42,11 +42,21 @@ pub(crate) fn played_studio<H: Host>(
     gains: Option<&str>,
 ) -> Result<StudioSpec, CommandFault> {
     let studio = studio_of(host, alloc, config)?;
-    let Some(path) = gains else {
-        return Ok(studio);
-    };
+    match gains {
+        Some(path) => studio_with_file(host, alloc, &studio, path),
+        None => Ok(studio),
+    }
+}
+
+/// Returns a studio whose gains change as the file at a path says.
+fn studio_with_file<H: Host>(
+    host: &H,
+    alloc: Global,
+    studio: &StudioSpec,
+    path: &str,
+) -> Result<StudioSpec, CommandFault> {
     let text = read_gains(host, alloc, path)?;
-    changed_studio(alloc, &studio, text.as_slice())
+    changed_studio(alloc, studio, text.as_slice())
 }
 
 /// Returns the octets of the file of gains at a path. Returns `GainsInputFault::Unread` if the file cannot be read,
@@ -84,18 +94,34 @@ pub fn parse_studio(alloc: Global, octets: &[u8]) -> Result<StudioSpec, CommandF
     Ok(StudioSpec::from_table(alloc, &table)?)
 }
 
-/// Returns the studio that the octets of the configuration at a path describe. A fault of the configuration is
-/// explained: `CommandFault::Explained`. Returns `CommandFault::Memory` if an allocation fails.
-pub(crate) fn explained_studio(
+/// Returns the studio of the configuration at a path. A fault of the configuration is explained.
+pub(crate) fn checked_studio<H: Host>(
+    host: &H,
     alloc: Global,
     path: &str,
-    octets: &[u8],
 ) -> Result<StudioSpec, CommandFault> {
+    let octets = read_config(host, alloc, path)?;
+    explained_studio(alloc, path, octets.as_slice())
+}
+
+/// Returns the studio that the octets of the configuration at a path describe. A fault of the configuration is
+/// explained: `CommandFault::Explained`. Returns `CommandFault::Memory` if an allocation fails.
+fn explained_studio(alloc: Global, path: &str, octets: &[u8]) -> Result<StudioSpec, CommandFault> {
     let text = explained_text(alloc, path, octets)?;
     let table = explained_table(alloc, path, text)?;
-    match StudioSpec::from_table(alloc, &table) {
+    explained_by_table(alloc, path, text, &table)
+}
+
+/// Returns the studio of a configuration's table. A fault of the configuration is explained.
+fn explained_by_table(
+    alloc: Global,
+    path: &str,
+    text: &str,
+    table: &Table,
+) -> Result<StudioSpec, CommandFault> {
+    match StudioSpec::from_table(alloc, table) {
         Ok(studio) => Ok(studio),
-        Err(error) => Err(explained_error(alloc, path, text, &table, error)?),
+        Err(error) => Err(explained_error(alloc, path, text, table, error)),
     }
 }
 
@@ -133,12 +159,14 @@ fn explained_error(
     text: &str,
     table: &Table,
     error: SpecError,
-) -> Result<CommandFault, CommandFault> {
+) -> CommandFault {
     if error.kind == SpecErrorKind::Memory {
-        return Ok(CommandFault::Memory);
+        return CommandFault::Memory;
     }
-    let explained = explain_fault(alloc, path, text, table, &error)?;
-    Ok(CommandFault::Explained(ConfigFault::Studio(error), explained))
+    match explain_fault(alloc, path, text, table, &error) {
+        Ok(explained) => CommandFault::Explained(ConfigFault::Studio(error), explained),
+        Err(_) => CommandFault::Memory,
+    }
 }
 
 /// Returns the TOML table of a configuration's octets. Returns `ConfigFault::TooLong` for more than 1,048,576 octets,

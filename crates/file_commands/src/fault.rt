@@ -4,10 +4,9 @@ use pcap_flows::ImportFault;
 use pcap_replay::{RecordingFault, ReplayFault};
 use std::alloc::{AllocError, AllocFailed};
 use std::io;
-use studio_config::SpecErrorKind;
-use studio_run::{
-    GainsFault, GainsFaultKind, PlayFault, ReadFault, SpecError, StudioFault, WriteFault,
-};
+use studio_config::{SpecError, SpecErrorKind};
+use studio_run::{GainsFault, GainsFaultKind, PlayFault, ReadFault, WriteFault};
+use studio_session::StudioFault;
 use thiserror::Error;
 use wav_file::FileFault;
 use wav_runs::StreamWavFault;

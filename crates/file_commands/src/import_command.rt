@@ -23,12 +23,10 @@ pub fn run_import<H: Host>(
     faults: &mut H::Stderr,
 ) -> Result<(), CommandFault> {
     let addresses = addresses_in(alloc, args.addresses.as_slice())?;
-    let octets = read_capture(host, alloc, path)?;
-    import_octets(
+    import_to(
         host,
         alloc,
         path,
-        octets.as_slice(),
         addresses.as_slice(),
         args,
         output,
@@ -36,22 +34,49 @@ pub fn run_import<H: Host>(
     )
 }
 
-/// Writes the trace or the configuration of the octets of the capture at a path, for its flows to these addresses.
-fn import_octets<H: Host>(
+/// Writes the trace or the configuration of the capture at a path, for its flows to these addresses.
+fn import_to<H: Host>(
     host: &H,
     alloc: Global,
     path: &str,
-    octets: &[u8],
     addresses: &[SocketAddrV4],
     args: &ImportArgs<'_>,
     output: &mut H::Stdout,
     faults: &mut H::Stderr,
 ) -> Result<(), CommandFault> {
+    let octets = read_capture(host, alloc, path)?;
+    let octets = octets.as_slice();
+    let table = timed_table(host, alloc, path, octets, args.gap)?;
+    import_table(alloc, &table, octets, addresses, args, output, faults)
+}
+
+/// Returns the flows in the octets of the capture at a path. Returns the fault of a time that jumps by more than `gap`
+/// seconds.
+fn timed_table<H: Host>(
+    host: &H,
+    alloc: Global,
+    path: &str,
+    octets: &[u8],
+    gap: u64,
+) -> Result<FlowTable, CommandFault> {
     let table = FlowTable::of(alloc, octets)?;
-    check_times(host, alloc, path, &table, args.gap)?;
-    let left_out = import_flows(alloc, &table, octets, addresses, args, output)?;
+    check_times(host, alloc, path, &table, gap)?;
+    Ok(table)
+}
+
+/// Writes the trace or the configuration of a capture's flows to these addresses, and what is missing of them.
+fn import_table<W: Write, E: Write>(
+    alloc: Global,
+    table: &FlowTable,
+    octets: &[u8],
+    addresses: &[SocketAddrV4],
+    args: &ImportArgs<'_>,
+    output: &mut W,
+    faults: &mut E,
+) -> Result<(), CommandFault> {
+    let left_out = import_flows(alloc, table, octets, addresses, args, output)?;
     note_left_out(left_out, faults);
-    own_fault(&table)
+    own_fault(table)
 }
 
 /// Writes the number of flows that were left out, if there are some.

@@ -11,6 +11,7 @@
 #![tactic(auto)]
 
 mod capture_flows;
+mod chart_observer;
 mod config;
 mod config_help;
 mod config_summary;
@@ -19,9 +20,11 @@ mod fault;
 mod host;
 mod import_command;
 mod imported_config;
+mod replay;
 mod replay_command;
 mod replay_input;
 mod replay_outputs;
+mod replay_source;
 mod stream_output;
 mod streams_command;
 mod trace_commands;

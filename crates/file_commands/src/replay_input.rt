@@ -1,5 +1,5 @@
 //! The capture that `replay` reads: a file, or a record on standard input whose first octets were already read.
-ghost use Rattle.std.specs.Prelude.{◌≡◌, pos, IfOk, IfSome};
+ghost use Rattle.std.specs.Prelude.{◌≡◌, pos, IfOk, IfSome, Some};
 ghost use Rattle.pcap_file.specs.Entries.{entries_of};
 ghost use Rattle.pcap_replay.specs.Record as spec;
 ghost use Rattle.studio_config.specs.Shift.{shifted};
@@ -89,6 +89,14 @@ pub(crate) fn paths_in<R: Read>(
     Ok(recorded_paths(alloc, input)?)
 }
 
+/// The run of which a record is.
+#[derive(Drop)]
+struct RecordedRun {
+    /// The opening time, in sampling instants.
+    opening: u64,
+    paths: Vec<RecordedPath>,
+}
+
 /// Returns a configuration's studio, moved to the record that begins with these octets, with the changes of a text of
 /// gains. Returns `CaptureInputFault::NoRecord` if no record begins so.
 pub(crate) fn recorded_studio(
@@ -99,13 +107,21 @@ pub(crate) fn recorded_studio(
 ) -> Result<StudioSpec, CommandFault>
     ensures { IfOk result (IsRecorded front.now studio gains.now) }
 {
+    let run = recorded_run(alloc, front)?;
+    studio_for(alloc, studio, run.opening, run.paths.as_slice(), gains)
+}
+
+/// Returns the run that the record describes which begins with these octets.
+fn recorded_run(alloc: Global, front: &[u8]) -> Result<RecordedRun, CommandFault>
+    ensures { IfOk result (λ run. spec.opening_in (entries_of front.now) ≡ Some run.opening) }
+{
     let mut start = front;
     let Some(opening) = opening_in(alloc, &mut start)? else {
         return Err(CommandFault::Capture(CaptureInputFault::NoRecord));
     };
     let mut again = front;
     let paths = paths_in(alloc, &mut again)?;
-    studio_for(alloc, studio, opening, paths.as_slice(), gains)
+    Ok(RecordedRun { opening, paths })
 }
 
 /// Returns a configuration's studio, moved to a record: opened when the recorded run was, with the changes of a text

@@ -3,11 +3,15 @@ ghost use Rattle.std.specs.Prelude.{[], IfOk};
 ghost use Rattle.wav_runs.specs.WavObserver.{HasSoundedIf};
 ghost use Rattle.wav_runs.specs.StreamObserver.{HasFollowedIf};
 
+use crate::chart_observer::ChartObserver;
 use crate::fault::CommandFault;
 use crate::host::{Host, begin_fault_line};
+use crate::stream_output::{end_stream_wav, stream_wav_result};
+use command_line::ReplayArgs;
 use mix_packets::OutSpec;
+use pcap_file::CaptureFault;
 use pcap_replay::ReplayObserver;
-use reception_chart::{ReceptionObserver, StudioTracker};
+use reception_chart::Extent;
 use rtp_stream::Path;
 use std::io::Write;
 use studio_run::write_text;
@@ -17,13 +21,21 @@ use wav_runs::{StreamWav, WavObserver};
 /// The observer of a replay: the WAV files of the mix and of a stream and the trackers of the chart, each if it is
 /// asked for.
 #[derive(Drop)]
-pub(crate) struct ReplayOutputs<F: Overwrite, O> {
+pub(crate) struct ReplayOutputs<F: Overwrite> {
     pub(crate) wav: Option<WavObserver<F>>,
     pub(crate) stream: Option<StreamWav<F>>,
-    pub(crate) streams: Option<StudioTracker<O>>,
+    pub(crate) chart: Option<ChartObserver<Extent>>,
 }
 
-impl<F: Overwrite + Drop, O: ReceptionObserver + Drop> ReplayObserver for ReplayOutputs<F, O> {
+/// A replay whose report and WAV files were written: the observer of the chart's first pass, and the fault of a record's
+/// last block, if it is cut.
+#[derive(Drop)]
+pub(crate) struct Played {
+    pub(crate) chart: Option<ChartObserver<Extent>>,
+    pub(crate) cut: Option<CaptureFault>,
+}
+
+impl<F: Overwrite + Drop> ReplayObserver for ReplayOutputs<F> {
     // Contracts follow the WAV files alone. The chart is outside them.
     ghost heard = { λ begun now events datagrams. HasSoundedIf begun.wav now.wav events datagrams
         × HasFollowedIf begun.stream now.stream events datagrams };
@@ -31,31 +43,57 @@ impl<F: Overwrite + Drop, O: ReceptionObserver + Drop> ReplayObserver for Replay
     fn arrived(&mut self, stream: usize, path: Path, octets: &[u8]) {
         self.wav.arrived(stream, path, octets);
         self.stream.arrived(stream, path, octets);
-        if let Some(streams) = &mut self.streams {
-            streams.arrived(stream, path, octets);
-        }
+        self.chart.arrived(stream, path, octets);
     }
 
     fn read(&mut self, time: i64) {
         self.wav.read(time);
         self.stream.read(time);
-        if let Some(streams) = &mut self.streams {
-            streams.read(time);
-        }
+        self.chart.read(time);
     }
 
     fn closed(&mut self) {
         self.wav.closed();
         self.stream.closed();
-        if let Some(streams) = &mut self.streams {
-            streams.closed();
-        }
+        self.chart.closed();
     }
 
     fn output(&mut self, datagram: &[u8]) {
         self.wav.output(datagram);
         self.stream.output(datagram);
     }
+}
+
+impl<F: Overwrite + Drop> ReplayOutputs<F> {
+    /// Completes the WAV files after a report, or after the fault that ended it. Returns the first fault: of the
+    /// report, of the mix's file, or of the stream's.
+    pub(crate) fn finish<E: Write>(
+        self,
+        played: Result<Option<CaptureFault>, CommandFault>,
+        args: &ReplayArgs<'_>,
+        faults: &mut E,
+    ) -> Result<Played, CommandFault> {
+        let ReplayOutputs { wav, stream, chart } = self;
+        match finish_files(wav, stream, played, args, faults) {
+            Ok(cut) => Ok(Played { chart, cut }),
+            Err(fault) => Err(fault),
+        }
+    }
+}
+
+/// Completes the WAV files after a report, and returns what the report did, or the first fault of a file behind it.
+fn finish_files<F: Overwrite + Drop, E: Write>(
+    wav: Option<WavObserver<F>>,
+    stream: Option<StreamWav<F>>,
+    played: Result<Option<CaptureFault>, CommandFault>,
+    args: &ReplayArgs<'_>,
+    faults: &mut E,
+) -> Result<Option<CaptureFault>, CommandFault> {
+    let ended = end_stream_wav(stream, played.is_ok());
+    let cut = finish_wav(wav, played, args.wav, faults)?;
+    let path = args.wav_stream.map(|wav| wav.file);
+    stream_wav_result(ended, path, faults)?;
+    Ok(cut)
 }
 
 /// Creates the mix's WAV file and writes its header, if there is a path for it.
@@ -80,13 +118,14 @@ pub(crate) fn create_wav<H: Host>(
     }
 }
 
-/// Completes the mix's WAV file after a report, or after the fault that ended the report.
-pub(crate) fn finish_wav<F: Overwrite + Drop, E: Write>(
+/// Completes the mix's WAV file after a report, or after the fault that ended the report. Returns what the report did,
+/// or the fault of the file.
+fn finish_wav<F: Overwrite + Drop, E: Write>(
     wav: Option<WavObserver<F>>,
-    played: Result<(), CommandFault>,
+    played: Result<Option<CaptureFault>, CommandFault>,
     path: Option<&str>,
     faults: &mut E,
-) -> Result<(), CommandFault> {
+) -> Result<Option<CaptureFault>, CommandFault> {
     let (Some(wav), Some(path)) = (wav, path) else {
         return played;
     };
@@ -96,7 +135,7 @@ pub(crate) fn finish_wav<F: Overwrite + Drop, E: Write>(
         return played;
     }
     match wav.finish() {
-        Ok(_file) => Ok(()),
+        Ok(_file) => played,
         Err(fault) => Err(file_fault("wav", path, fault, faults)),
     }
 }

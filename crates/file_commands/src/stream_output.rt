@@ -7,7 +7,7 @@ use crate::host::{Host, begin_fault_line};
 use crate::replay_outputs::file_fault;
 use crate::trace_commands::stream_number;
 use command_line::StreamWavArgs;
-use path_merge::StreamSpec;
+use rtp_stream::StreamSpec;
 use std::alloc::Global;
 use std::io::Write;
 use studio_config::StudioSpec;
@@ -20,14 +20,6 @@ use wav_runs::{StreamWav, wav_stream};
 pub(crate) struct NumberedFile<'a> {
     number: u8,
     path: &'a str,
-}
-
-// Without the path: the borrow checker does not cover a struct of a reference and a value with ghost fields.
-/// A stream of a studio, with its number.
-#[derive(Clone, Copy)]
-pub(crate) struct NumberedStream {
-    number: u8,
-    spec: StreamSpec,
 }
 
 /// Returns the stream's number and its file's path, if there is a `--wav-stream`. Returns `StreamNumber` if the word of
@@ -44,21 +36,31 @@ pub(crate) fn numbered_file<'a>(
     }))
 }
 
-/// Returns the stream of a studio, if one is to be written. If the studio has none of this number, or the stream has
-/// too many channels, writes the file's path to `faults` and returns the fault.
-pub(crate) fn stream_output<E: Write>(
+/// Tests that a studio has the stream of a file, if there is one. If the studio has none of this number, or the stream
+/// has too many channels, writes the file's path to `faults` and returns the fault.
+pub(crate) fn check_stream<E: Write>(
     file: Option<NumberedFile<'_>>,
     studio: &StudioSpec,
     faults: &mut E,
-) -> Result<Option<NumberedStream>, CommandFault> {
-    let Some(file) = file else {
-        return Ok(None);
-    };
+) -> Result<(), CommandFault> {
+    match file {
+        Some(file) => {
+            stream_of(file, studio, faults)?;
+            Ok(())
+        }
+        None => Ok(()),
+    }
+}
+
+/// Returns the stream of a file. If the studio has none of this number, or the stream has too many channels, writes the
+/// file's path to `faults` and returns the fault.
+fn stream_of<E: Write>(
+    file: NumberedFile<'_>,
+    studio: &StudioSpec,
+    faults: &mut E,
+) -> Result<StreamSpec, CommandFault> {
     match wav_stream(studio, file.number) {
-        Ok(spec) => Ok(Some(NumberedStream {
-            number: file.number,
-            spec,
-        })),
+        Ok(stream) => Ok(stream),
         Err(fault) => {
             begin_fault_line("wav", file.path, faults);
             Err(CommandFault::StreamWav(fault))
@@ -66,28 +68,29 @@ pub(crate) fn stream_output<E: Write>(
     }
 }
 
-/// Creates the stream's WAV file and writes its header, if there is a path for it. All memory is taken before that.
+/// Creates the stream's WAV file and writes its header, if there is one. All memory is taken before that.
 pub(crate) fn create_stream_wav<H: Host>(
     host: &H,
     alloc: Global,
-    stream: Option<NumberedStream>,
-    path: Option<&str>,
+    file: Option<NumberedFile<'_>>,
     studio: &StudioSpec,
     faults: &mut H::Stderr,
 ) -> Result<Option<StreamWav<H::Target>>, CommandFault>
     ensures { IfOk result (λ wav. HasFollowedIf wav wav [] []) }
 {
-    let (Some(stream), Some(path)) = (stream, path) else {
+    let Some(file) = file else {
         return Ok(None);
     };
-    let cursor = Cursor::new(alloc, stream.spec, stream.number, studio.open_at())?;
-    let created = match host.create(path) {
+    // `check_stream` found it before: the borrow checker covers no struct of a path and a value with ghost fields.
+    let stream = stream_of(file, studio, faults)?;
+    let cursor = Cursor::new(alloc, stream, file.number, studio.open_at())?;
+    let created = match host.create(file.path) {
         Ok(target) => StreamWav::begin(target, cursor),
         Err(fault) => Err(fault),
     };
     match created {
         Ok(wav) => Ok(Some(wav)),
-        Err(fault) => Err(file_fault("wav", path, fault, faults)),
+        Err(fault) => Err(file_fault("wav", file.path, fault, faults)),
     }
 }
 

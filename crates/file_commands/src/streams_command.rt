@@ -21,11 +21,33 @@ pub fn run_streams<H: Host>(
     output: &mut H::Stdout,
 ) -> Result<(), CommandFault> {
     let table = table_at(host, alloc, args.file)?;
-    let list = measured_list(host, alloc, args.file, &table)?;
-    let text = table_text(alloc, &table, &list, args.all)?;
-    write_text(output, text.as_bytes())?;
-    check_times(host, alloc, args.file, &table, args.gap)?;
-    own_fault(&table)
+    list_table(host, alloc, args, &table, output)
+}
+
+/// Writes the lines of the flows of a capture, and returns the fault of its times, or its own.
+fn list_table<H: Host>(
+    host: &H,
+    alloc: Global,
+    args: StreamsArgs<'_>,
+    table: &FlowTable,
+    output: &mut H::Stdout,
+) -> Result<(), CommandFault> {
+    write_list(host, alloc, args, table, output)?;
+    check_times(host, alloc, args.file, table, args.gap)?;
+    own_fault(table)
+}
+
+/// Writes the lines of the flows of a capture.
+fn write_list<H: Host>(
+    host: &H,
+    alloc: Global,
+    args: StreamsArgs<'_>,
+    table: &FlowTable,
+    output: &mut H::Stdout,
+) -> Result<(), CommandFault> {
+    let list = measured_list(host, alloc, args.file, table)?;
+    let text = table_text(alloc, table, &list, args.all)?;
+    Ok(write_text(output, text.as_bytes())?)
 }
 
 /// Returns the streams of the capture at a path, with the skews of their paths.

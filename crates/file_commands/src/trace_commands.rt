@@ -1,5 +1,5 @@
 //! The commands over a trace on standard input, with or without a WAV file of the mix or of one stream, and `check`.
-use crate::config::{explained_studio, played_studio, quick_start_studio, read_config, studio_of};
+use crate::config::{checked_studio, played_studio, quick_start_studio, studio_of};
 use crate::config_summary::write_summary;
 use crate::fault::{CommandFault, FileClash, output_result};
 use crate::host::{Host, NamedFile, STDIN_PATH, begin_fault_line, refuse_inputs};
@@ -66,8 +66,7 @@ pub fn run_check<H: Host>(
     path: &str,
     output: &mut H::Stdout,
 ) -> Result<(), CommandFault> {
-    let octets = read_config(host, alloc, path)?;
-    let studio = explained_studio(alloc, path, octets.as_slice())?;
+    let studio = checked_studio(host, alloc, path)?;
     output_result(write_summary(&studio, output))
 }
 
@@ -140,25 +139,23 @@ pub fn run_marks_to_wav<H: Host>(
     let path = args.file;
     refuse_inputs(host, "wav", Some(path), &[config, STDIN_PATH], faults)?;
     let studio = studio_of(host, alloc, config)?;
-    list_stream(host, alloc, &studio, stream, path, input, output, faults)
+    let file = NamedFile { host, path };
+    list_stream(&file, alloc, &studio, stream, input, output, faults)
 }
 
-/// Writes the marks of the trace in `input` by a studio, and the samples of the stream of this number to the WAV file
-/// at a path.
+/// Writes the marks of the trace in `input` by a studio, and the samples of the stream of this number to a WAV file.
 fn list_stream<H: Host>(
-    host: &H,
+    file: &NamedFile<'_, H>,
     alloc: Global,
     studio: &StudioSpec,
     stream: u8,
-    path: &str,
     input: &mut H::Stdin,
     output: &mut H::Stdout,
     faults: &mut H::Stderr,
 ) -> Result<(), CommandFault> {
-    let file = NamedFile { host, path };
-    match list_to_wav(alloc, studio, stream, input, output, &file) {
+    match list_to_wav(alloc, studio, stream, input, output, file) {
         Ok(_file) => Ok(()),
-        Err(fault) => Err(wav_fault(fault, path, faults)),
+        Err(fault) => Err(wav_fault(fault, file.path, faults)),
     }
 }
 

@@ -117,7 +117,7 @@ fn run_file_command<H: Host>(
         FileCommand::Streams(args) => run_streams(host, alloc, args, output),
         FileCommand::Import(path, args) => run_import(host, alloc, path, &args, output, faults),
         FileCommand::Replay(config, args) => {
-            run_replay(host, alloc, config, args, input, output, faults)
+            run_replay(host, alloc, config, &args, input, output, faults)
         }
     }
 }

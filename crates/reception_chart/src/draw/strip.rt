@@ -11,7 +11,13 @@ use std::io::Write;
 /// The distance of rows.
 pub(crate) const ROW_STEP: u32 = 16;
 
-/// The class and the name of each path's row.
+/// The names of a row: its class in the style sheet, and the text next to it.
+struct RowName {
+    class: &'static str,
+    text: &'static str,
+}
+
+/// The class and the text of each path's row.
 const PATHS: [(&str, &str); 4] = [
     ("from_a", "from a"),
     ("from_b", "from b"),
@@ -34,8 +40,8 @@ pub(crate) fn push_strip(
 ) -> Result<(), AllocError> {
     let mut y = top;
     for row in 0..usize::from(paths.min(4)) {
-        let (class, name) = PATHS[row];
-        push_row(svg, alloc, y, paths, bins, row, class, name)?;
+        let (class, text) = PATHS[row];
+        push_row(svg, alloc, y, paths, bins, row, RowName { class, text })?;
         y = y.saturating_add(ROW_STEP);
     }
     push_common(svg, alloc, y, paths, bins)
@@ -51,21 +57,24 @@ fn push_common(
 ) -> Result<(), AllocError> {
     let mut y = top;
     for row in DOUBLE_ROW..ROWS {
-        let name = name_of(row);
-        push_row(svg, alloc, y, paths, bins, row, name, name)?;
+        push_row(svg, alloc, y, paths, bins, row, name_of(row))?;
         y = y.saturating_add(ROW_STEP);
     }
     Ok(())
 }
 
-/// Returns the name of a row behind those of the paths, which is also its class.
-fn name_of(row: usize) -> &'static str {
-    match row {
+/// Returns the names of a row behind those of the paths, which are one word.
+fn name_of(row: usize) -> RowName {
+    let name = match row {
         DOUBLE_ROW => "double",
         LATE_ROW => "late",
         LOST_ROW => "lost",
         REFUSED_ROW => "refused",
         _ => "restart",
+    };
+    RowName {
+        class: name,
+        text: name,
     }
 }
 
@@ -77,13 +86,13 @@ fn push_row(
     paths: u8,
     bins: &Bins,
     row: usize,
-    class: &str,
-    name: &str,
+    name: RowName,
 ) -> Result<(), AllocError>
     requires { row < 9 }
 {
+    let RowName { class, text } = name;
     let base = y.saturating_add(11);
-    push_text(svg, "end", LEFT - 8, base, name)?;
+    push_text(svg, "end", LEFT - 8, base, text)?;
     let heights = heights_of(alloc, paths, bins, row)?;
     push_bars(svg, class, y, ROW_STEP - 2, heights.as_slice())?;
     let (x, total) = (LEFT + PLOT_WIDTH + 8, bins.total(row));
