@@ -1,3 +1,4 @@
 pub mod FlowTableLemmas
 pub mod StreamLemmas
 pub mod TraceLemmas
+mod SkewLemmas

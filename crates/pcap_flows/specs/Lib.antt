@@ -11,3 +11,5 @@ pub mod CaptureTimes
 pub mod Streams
 pub mod Routes
 pub mod PacketFormat
+pub mod Skew
+pub mod PairTimes

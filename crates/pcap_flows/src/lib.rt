@@ -18,6 +18,7 @@
 //! The table, the routes, the texts and the times of up to 16 pairs of paths are allocated.
 #![tactic(auto)]
 
+mod capture_skews;
 mod capture_times;
 mod fault;
 mod flow;
@@ -26,6 +27,7 @@ mod import;
 mod packet;
 mod packet_format;
 mod packet_place;
+mod pair_times;
 mod received_numbers;
 mod routes;
 mod same_packets;

@@ -1,6 +1,8 @@
 //! The streams of a capture, to be listed: which there are, in which order, and the skews of their paths.
+use crate::capture_skews::{MAX_PAIRS, add_reader, push_pairs, take_skews};
 use crate::packet_format::first_format;
-use crate::skew::{FlowPair, MAX_PAIRS, PairTimes, Skew, add_reader, push_pairs, take_skews};
+use crate::pair_times::{FlowPair, PairTimes};
+use crate::skew::Skew;
 use crate::streams::{FlowPath, StreamFlows, paths_of};
 use crate::table::FlowTable;
 use pcap_file::ReaderFault;

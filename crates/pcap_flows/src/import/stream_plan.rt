@@ -1,9 +1,9 @@
 //! The streams of a configuration that fits a capture.
+use crate::capture_skews::{push_pairs, skews_of};
 use crate::fault::ImportFault;
 use crate::import::stream_times::{StreamTimes, stream_times_in};
 use crate::packet_format::{PacketFormat, first_format};
 use crate::routes::{Route, Routes};
-use crate::skew::{push_pairs, skews_of};
 use crate::table::FlowTable;
 use rtp_stream::Stream;
 use std::alloc::{AllocError, Global};
