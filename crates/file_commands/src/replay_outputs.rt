@@ -27,8 +27,8 @@ pub(crate) struct ReplayOutputs<F: Overwrite> {
     pub(crate) chart: Option<ChartObserver<Extent>>,
 }
 
-/// A replay whose report and WAV files were written: the observer of the chart's first pass, and the fault of a record's
-/// last block, if it is cut.
+/// A replay whose report and WAV files were written: the observer of the chart's first pass, and the fault of a
+/// record's last block, if it is cut.
 #[derive(Drop)]
 pub(crate) struct Played {
     pub(crate) chart: Option<ChartObserver<Extent>>,
