@@ -5,7 +5,7 @@ ghost use Rattle.live_run.specs.RunResult.{IsEarly, IsRunOf};
 use crate::context::RunContext;
 use crate::fault::LiveFault;
 use crate::inputs::LiveRun;
-use crate::page_task::PageTask;
+use crate::page_task::{RunPage, open_run_page};
 use crate::shown_health::ShownHealth;
 use crate::single_thread::run_in_one_thread;
 use crate::status::{PageLink, open_status};
@@ -13,8 +13,8 @@ use crate::supervisor::stop_flags::StopFlags;
 use crate::workers::run_in_workers;
 use live_gains::{GainControl, GainLink, RunGains, open_control};
 use live_io::{RunPeriod, Sockets, open_sockets};
-use live_status::{Meter, OpenPage, StatusOutputs, open_page};
-use run_outputs::{CreateOutput, CreatedOutput, TaskOutput};
+use live_status::{Meter, StatusOutputs};
+use run_outputs::{CreateOutput, CreatedOutput, SideTask, TaskOutput};
 use status_page::Token;
 use std::alloc::Global;
 use std::io::Write;
@@ -46,7 +46,7 @@ pub(crate) fn launch_run<
     control: Option<Token>,
     faults: E,
 ) -> Result<WorkReport, LiveFault>
-    ensures run { IfOk result (IsRunOf run.options.now.one_thread (is_some control) run.studio.now) }
+    ensures run { IfOk result (IsRunOf run.entry.options.now.one_thread (is_some control) run.entry.studio.now) }
     ensures early { IfErr result IsEarly }
 {
     // Made here and not in `bind_and_run`, whose parts and threads borrow it.
@@ -82,25 +82,45 @@ fn bind_and_run<
     control: Option<Token>,
     faults: E,
 ) -> Result<WorkReport, LiveFault>
-    ensures run { IfOk result (IsRunOf run.options.now.one_thread (is_some control) run.studio.now) }
+    ensures run { IfOk result (IsRunOf run.entry.options.now.one_thread (is_some control) run.entry.studio.now) }
     ensures early { IfErr result IsEarly }
 {
     let sockets = open_sockets(rt, alloc, run.studio, run.inputs.sockets)?;
     let GainControl { gains, control } = open_control(rt, alloc, run.studio, &state.link, control)?;
-    let OpenPage { thread, snapshots } = open_page(rt, alloc, run.options.page, control)?;
-    let page = PageLink {
-        address: thread.as_ref().and_then(|page| page.address().ok()),
-        snapshots,
-    };
+    let page = open_run_page(rt, alloc, run.options.page, control)?;
+    let RunPage { link, task } = page;
     let bound = BoundRun {
         sockets,
         gains,
-        page,
+        page: link,
     };
-    // From here on the page's server is a part of the outputs, which are a type parameter: what holds an HTTP server by
-    // name is proved along all of its fields, and so are their destructors.
-    let served = thread.map(|page| TaskOutput::new(PageTask::new(page)));
-    run_bound(rt, alloc, run, state, bound, (served, outputs), faults)
+    bound.run_with_page(rt, alloc, run, state, (task, outputs), faults)
+}
+
+impl<'a, R: Threads + Wait + Sync + Clock> BoundRun<'a, R> {
+    /// Runs it with its outputs, and with the task that serves its page, if it has one.
+    // The page's server is a type parameter: what holds an HTTP server by name is proved along all of its fields, and
+    // so are their destructors.
+    fn run_with_page<E: Write + Send + Drop, S: SideTask + Send + Drop, O: CreateOutput>(
+        self,
+        rt: &'a R,
+        alloc: Global,
+        run: LiveRun<'a>,
+        state: &'a SharedState,
+        outputs: (Option<S>, O),
+        faults: E,
+    ) -> Result<WorkReport, LiveFault>
+        ensures run { IfOk result
+            (IsRunOf run.entry.options.now.one_thread (is_some self.entry.gains) run.entry.studio.now) }
+        ensures early { IfErr result IsEarly }
+    {
+        let (task, outputs) = outputs;
+        let served = match task {
+            Some(task) => Some(TaskOutput::new(task)),
+            None => None,
+        };
+        run_bound(rt, alloc, run, state, self, (served, outputs), faults)
+    }
 }
 
 /// Opens the status of a run whose sockets and page are open, creates its outputs, and runs it.
@@ -114,7 +134,7 @@ fn run_bound<'a, R: Threads + Wait + Sync + Clock, E: Write + Send + Drop, O: Cr
     faults: E,
 ) -> Result<WorkReport, LiveFault>
     ensures run { IfOk result
-        (IsRunOf run.options.now.one_thread (is_some bound.entry.gains) run.studio.now) }
+        (IsRunOf run.entry.options.now.one_thread (is_some bound.entry.gains) run.entry.studio.now) }
     ensures early { IfErr result IsEarly }
 {
     let BoundRun {
@@ -169,18 +189,25 @@ fn run_created<'a, R: Threads + Wait + Sync + Clock, E: Write + Send + Drop, O: 
     created: CreatedOutput<O::Events, O::Mix, O::Tasks>,
 ) -> Result<WorkReport, LiveFault>
     ensures run { IfOk result
-        (IsRunOf run.options.now.one_thread (is_some context.entry.gains) run.studio.now) }
+        (IsRunOf run.entry.options.now.one_thread (is_some context.entry.gains) run.entry.studio.now) }
     ensures early { IfErr result IsEarly }
 {
     if run.options.one_thread {
         run_in_one_thread::<R, E, O>(rt, alloc, run.studio, sockets, context, created)
     } else {
-        // A run by workers has no thread in which its events could be passed on.
-        let CreatedOutput {
-            events: _,
-            mix,
-            tasks,
-        } = created;
-        run_in_workers::<R, E, O>(rt, alloc, run.studio, sockets, context, (mix, tasks))
+        let outputs = without_events(created);
+        run_in_workers::<R, E, O>(rt, alloc, run.studio, sockets, context, outputs)
     }
+}
+
+/// Drops the part of an output that takes events, and returns the others.
+// A run by workers has no thread in which its events could be passed on. Dropped here and not by the caller, since a
+// task of the output that takes its events from there ends only then.
+fn without_events<V: Drop, M: Drop, T: Drop>(created: CreatedOutput<V, M, T>) -> (M, T) {
+    let CreatedOutput {
+        events: _,
+        mix,
+        tasks,
+    } = created;
+    (mix, tasks)
 }

@@ -1,8 +1,12 @@
 //! The task that serves the page of a run.
 
-use live_status::PageThread;
+use crate::status::PageLink;
+use live_status::{OpenPage, PageFault, PageThread, open_page};
 use run_outputs::SideTask;
-use status_page::GainDesk;
+use status_page::{Control, GainDesk};
+use std::alloc::Global;
+use std::net::Net;
+use std::random::RandomSource;
 use std::sync::Wait;
 use std::time::Clock;
 
@@ -12,16 +16,44 @@ pub(crate) struct PageTask<D: GainDesk> {
     server: PageThread<D>,
 }
 
-impl<D: GainDesk> PageTask<D> {
-    /// Returns the task of this server.
-    pub(crate) fn new(server: PageThread<D>) -> PageTask<D> {
-        PageTask { server }
-    }
-}
-
 impl<D: GainDesk> SideTask for PageTask<D> {
     fn complete<R: Wait + Clock>(self, rt: &R) {
         let PageTask { server } = self;
         server.serve(rt);
     }
+}
+
+/// The page of a run: the run's link to it, and the task that serves it. Both are empty without a page.
+#[derive(Drop)]
+pub(crate) struct RunPage<D: GainDesk> {
+    pub(crate) link: PageLink,
+    pub(crate) task: Option<PageTask<D>>,
+}
+
+/// Binds the page's port, if a page is wanted, and returns the page. Returns errors as `open_page` does.
+// In a function of its own: what holds an HTTP server by name is proved along all of its fields.
+pub(crate) fn open_run_page<R: Net + RandomSource, D: GainDesk>(
+    rt: &R,
+    alloc: Global,
+    port: Option<u16>,
+    control: Option<Control<D>>,
+) -> Result<RunPage<D>, PageFault> {
+    let OpenPage { thread, snapshots } = open_page(rt, alloc, port, control)?;
+    let Some(server) = thread else {
+        return Ok(RunPage {
+            link: PageLink {
+                address: None,
+                snapshots,
+            },
+            task: None,
+        });
+    };
+    let address = match server.address() {
+        Ok(address) => Some(address),
+        Err(_) => None,
+    };
+    Ok(RunPage {
+        link: PageLink { address, snapshots },
+        task: Some(PageTask { server }),
+    })
 }

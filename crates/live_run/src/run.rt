@@ -49,9 +49,9 @@ pub fn run_studio_live<
     output: &mut W,
     faults: E,
 ) -> Result<(), LiveFault>
-    ensures ok { OnOk result (WritesRun run.options.now.one_thread (is_some control) run.studio.now true
+    ensures ok { OnOk result (WritesRun run.entry.options.now.one_thread (is_some control) run.entry.studio.now true
         (W.contents output.old) (W.contents output.new)) }
-    ensures fault { IfErr result (FailsRun run.options.now.one_thread (is_some control) run.studio.now
+    ensures fault { IfErr result (FailsRun run.entry.options.now.one_thread (is_some control) run.entry.studio.now
         (W.contents output.old) (W.contents output.new)) }
 {
     // Allocated before the run, so that no run is left without memory for its report.
