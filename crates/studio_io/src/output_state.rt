@@ -24,7 +24,7 @@ pub enum OutputEnd {
 /// The counts of an output, in its units: datagrams of a record, and blocks of the mix else.
 #[derive(Clone, Copy, PartialEq, Eq)]
 pub struct OutputCounts {
-    /// The number of units that the run gave to the output, also if they were not written. It is 0 until the run ends.
+    /// The number of units that the run gave to the output so far, also if they were not written.
     pub given: u64,
     /// The number of units that were written whole.
     pub written: u64,
