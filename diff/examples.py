@@ -1,7 +1,7 @@
 #!/usr/bin/env python3
 """python3 diff/examples.py: the examples of docs/RECEPTION.md through the reference, beside values written by hand.
 
-Left out are those of samples and of specifications, of payloads that the stream has no room for, and of a packet's
+Left out are those of samples and of specifications, of payloads that the stream has no space for, and of a packet's
 path.
 """
 import sys

@@ -128,7 +128,7 @@ def is_emptying(anchor, due, stood):
     return anchor.number < due and any(early.values()) and all(early[path] for path in "abcd" if holds[path])
 
 
-def room_of(stream, anchor, due, stood):
+def width_of(stream, anchor, due, stood):
     """How many numbers, from the one due next on, are in time."""
     return 0 if stream.follows and is_emptying(anchor, due, stood) else WINDOW
 
@@ -138,9 +138,9 @@ def stands(stream, anchor, time, stood, path, packet):
     due, number = next_due(anchor, time), number_of(anchor, time, packet)
     if is_off(anchor, time, packet):
         return Stood(path, None, False, False)
-    room = room_of(stream, anchor, due, stood)
+    width = width_of(stream, anchor, due, stood)
     greatest = max([anchor.number] + [one.number for one in stood if one.number is not None])
-    in_time = due <= number < due + room
+    in_time = due <= number < due + width
     return Stood(path, number if in_time else None, greatest < number < due, number >= due and not in_time)
 
 
@@ -180,8 +180,8 @@ def fate_of_first(stream, time, packet):
     return out_of_reach(time, first_media(stream, time, packet))
 
 
-def fate_of_next(epoch, time, packet, room):
-    """The fate of an arrival after an anchor, with so much room."""
+def fate_of_next(epoch, time, packet, width):
+    """The fate of an arrival after an anchor, in a window of this width."""
     anchor, packets = epoch.anchor, epoch.packets
     due, number = next_due(anchor, time), number_of(anchor, time, packet)
     if packet.ssrc != anchor.ssrc:
@@ -190,7 +190,7 @@ def fate_of_next(epoch, time, packet, room):
         return "off_grid"
     if number < due:
         return "late"
-    if number >= due + room:
+    if number >= due + width:
         return "ahead"
     if number not in packets:
         return "taken"
@@ -210,9 +210,9 @@ def arrivals(events, stream=PROGRAM):
         if packet is None:
             fates.append("no_packet")
             continue
-        of_path, room = came[event[0]], WINDOW
+        of_path, width = came[event[0]], WINDOW
         if epochs:
-            room = room_of(stream, epochs[-1].anchor, next_due(epochs[-1].anchor, time), stood)
+            width = width_of(stream, epochs[-1].anchor, next_due(epochs[-1].anchor, time), stood)
         if epochs and is_asked_for(stream, packet):
             of_path.append(Came(packet, is_off(epochs[-1].anchor, time, packet)))
             stood.append(stands(stream, epochs[-1].anchor, time, stood, event[0], packet))
@@ -223,7 +223,7 @@ def arrivals(events, stream=PROGRAM):
             came.clear()
             stood.clear()
         elif epochs:
-            fates.append(fate_of_next(epochs[-1], time, packet, room))
+            fates.append(fate_of_next(epochs[-1], time, packet, width))
             if fates[-1] == "taken":
                 epochs[-1].packets[number_of(epochs[-1].anchor, time, packet)] = packet.payload
         else:

@@ -23,17 +23,17 @@ off_path engine stream path many =
     let test : nat_lt path 4 ≡ false = grind (arith, nat_tests, many) in
     ap (λ t. if t then option_map arrive_fault_code (arrive_fault_of engine stream path) else Some no_path) test
 
--- a turn with room for a datagram
-pub with_room : (engine : EngineState) (now : ℤ) (room : ℕ) (fault : Option ClockFault) → datagram_length engine.mixer.packer.spec ≤ room → clock_fault_of engine.time engine.closed now ≡ fault
-    → turn_code_of engine now room ≡ option_map clock_fault_code fault
-with_room engine now room fault wide is =
-    let test : nat_lt room (datagram_length engine.mixer.packer.spec) ≡ false = grind (arith, nat_tests, wide) in
+-- a turn with space for a datagram
+pub with_space : (engine : EngineState) (now : ℤ) (capacity : ℕ) (fault : Option ClockFault) → datagram_length engine.mixer.packer.spec ≤ capacity → clock_fault_of engine.time engine.closed now ≡ fault
+    → turn_code_of engine now capacity ≡ option_map clock_fault_code fault
+with_space engine now capacity fault wide is =
+    let test : nat_lt capacity (datagram_length engine.mixer.packer.spec) ≡ false = grind (arith, nat_tests, wide) in
     ap (λ t. if t then Some short_room else option_map clock_fault_code (clock_fault_of engine.time engine.closed now)) test ∙ ap (option_map clock_fault_code) is
 
--- the code for a room that is too short
-pub without_room : (engine : EngineState) (now : ℤ) (room : ℕ) → room < datagram_length engine.mixer.packer.spec → turn_code_of engine now room ≡ Some short_room
-without_room engine now room narrow =
-    let test : nat_lt room (datagram_length engine.mixer.packer.spec) ≡ true = grind (arith, nat_tests, narrow) in
+-- the code for a buffer that is too short
+pub without_space : (engine : EngineState) (now : ℤ) (capacity : ℕ) → capacity < datagram_length engine.mixer.packer.spec → turn_code_of engine now capacity ≡ Some short_room
+without_space engine now capacity narrow =
+    let test : nat_lt capacity (datagram_length engine.mixer.packer.spec) ≡ true = grind (arith, nat_tests, narrow) in
     ap (λ t. if t then Some short_room else option_map clock_fault_code (clock_fault_of engine.time engine.closed now)) test
 
 -- a stream that has a specification is there

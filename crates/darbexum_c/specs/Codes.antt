@@ -1,7 +1,7 @@
 -- The numbers that represent results.
 use Rattle.std.specs.Prelude.{ℕ, ℤ, List, pos, negsuc, nat_lt, length, slice_get, Option, Some, None, if◌then◌else◌, option_map}
-use Rattle.gain_mix.specs.declared.live.ChangeFault.{ChangeFault}
-use Rattle.gain_mix.specs.declared.live.ChangeFault.TheVariants.{Shape, Range, Time, TooMany}
+use Rattle.gain_mix.specs.declared.live_schedule.ChangeFault.{ChangeFault}
+use Rattle.gain_mix.specs.declared.live_schedule.ChangeFault.TheVariants.{Shape, Range, Time, TooMany}
 use Rattle.mix_packets.specs.OutSpec.{datagram_length}
 use Rattle.studio_mix.specs.Changed.{gains_fault_of}
 use Rattle.path_merge.specs.Clock.{clock_fault_of}
@@ -15,8 +15,8 @@ use Rattle.rtp_stream.specs.declared.fate.Fate.{Fate}
 use Rattle.rtp_stream.specs.declared.fate.Fate.TheVariants.{Closed, CountersFull, WrongSource, OffGrid, Late, Ahead, Taken, Double, Unlike, Restarted}
 use Rattle.rtp_stream.specs.declared.stream_spec.StreamClock.{StreamClock}
 use Rattle.rtp_stream.specs.declared.stream_spec.StreamClock.TheVariants.{Media, Arrival, Follow}
-use Rattle.studio_session.specs.declared.receipt.ArriveOutcome.{ArriveOutcome}
-use Rattle.studio_session.specs.declared.receipt.ArriveOutcome.TheVariants.{Offered, Bad, WrongType, WrongLength}
+use Rattle.studio_session.specs.declared.arrive_outcome.ArriveOutcome.{ArriveOutcome}
+use Rattle.studio_session.specs.declared.arrive_outcome.ArriveOutcome.TheVariants.{Offered, Bad, WrongType, WrongLength}
 
 -- DARBEXUM_NO_ENGINE, -1, to DARBEXUM_TOO_MANY, -17
 abbrev pub no_engine : ℤ
@@ -122,13 +122,13 @@ gains_code_of engine at gains = gains_code (gains_fault_of engine.mixer at gains
 abbrev pub arrive_code_of : EngineState → ℕ → ℕ → Option ℤ
 arrive_code_of engine stream path = if nat_lt path 4 then option_map arrive_fault_code (arrive_fault_of engine stream path) else Some no_path
 
--- the code of the reason why a clock reading isn't taken: the room is shorter than a datagram, or the engine's fault
+-- the code of the reason why a clock reading isn't taken: the buffer is shorter than a datagram, or the engine's fault
 abbrev pub turn_code_of : EngineState → ℤ → ℕ → Option ℤ
-turn_code_of engine now room =
-    if nat_lt room (datagram_length engine.mixer.packer.spec) then Some short_room
+turn_code_of engine now capacity =
+    if nat_lt capacity (datagram_length engine.mixer.packer.spec) then Some short_room
     else option_map clock_fault_code (clock_fault_of engine.time engine.closed now)
 
--- 0 if a struct of this size has room for the values, or else a code
+-- 0 if a struct of this size has space for the values, or else a code
 abbrev pub size_code_of : ℕ → ℕ → ℤ
 size_code_of needed size = if nat_lt size needed then short_room else pos 0
 

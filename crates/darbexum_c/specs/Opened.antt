@@ -16,7 +16,7 @@ pub record IsOpened (octets : List ℕ) (engine : EngineState) : Type 0 where
   pub reads : parse_document octets ≡ Some members
   pub fine : config_fault_of members ≡ None
   pub stands : HasSession (studio_of members) engine [] []
-  pub rested : engine.turning ≡ false
+  pub idle : engine.turning ≡ false
 
 -- the octets are too many, or no TOML in UTF-8
 abbrev pub IsNoToml : List ℕ → Type 0

@@ -29,7 +29,7 @@ fault_text_of code =
     else if int_eq code code_is.too_many then codes "64 changes before the time are still to come"
     else unnamed_text_of code
 
--- the room after a text was written to its start: as much of the text as fits before a 0, the 0, and what was behind it
-abbrev pub room_after : List ℕ → List ℕ → List ℕ
-room_after text [] = []
-room_after text (octet ∷ rest) = take (length rest) text ++ 0 ∷ drop (min (length text) (length rest)) rest
+-- the buffer after a text was written to its start: as much of the text as fits before a 0, the 0, and what was behind it
+abbrev pub buffer_after : List ℕ → List ℕ → List ℕ
+buffer_after text [] = []
+buffer_after text (octet ∷ rest) = take (length rest) text ++ 0 ∷ drop (min (length text) (length rest)) rest

@@ -25,7 +25,7 @@ ghost use Rattle.mix_packets.specs.OutSpec.{datagram_length};
 ghost use Rattle.studio_config.specs.Studio.{Studio};
 ghost use Rattle.studio_mix.specs.Changed.{with_gains};
 ghost use Rattle.studio_session.specs.Event.{TraceEvent, Arrival};
-ghost use Rattle.studio_session.specs.ArriveOutcome.{receipt_of};
+ghost use Rattle.studio_session.specs.ArriveOutcome.{outcome_of};
 ghost use Rattle.studio_engine.specs.Session.{Gives, HasGivenReady, HasSession, shut, turned};
 ghost use Rattle.darbexum_c.specs.Codes as code;
 
@@ -44,7 +44,7 @@ pub(crate) fn arrive(engine: &mut Engine, stream: usize, path: u8, octets: &[u8]
     ensures outcome { pos 0 ≤ℤ result
         → (studio : Studio) (events : List TraceEvent) (datagrams : List (List ℕ)) (spec : Stream)
         → HasSession studio engine.old events datagrams → slice_get studio.streams stream ≡ Some spec
-        → result ≡ pos (code.outcome_code (receipt_of spec stream studio.open_at events path octets.now)) }
+        → result ≡ pos (code.outcome_code (outcome_of spec stream studio.open_at events path octets.now)) }
     ensures fine { pos 0 ≤ℤ result → code.arrive_code_of engine.old stream path ≡ None }
     ensures fault { result <ℤ pos 0 → code.arrive_code_of engine.old stream path ≡ Some result }
     ensures kept { result <ℤ pos 0 → engine.new ≡ engine.old }

@@ -24,7 +24,7 @@ pub(crate) const WENT_BACK: i32 = -6;
 pub(crate) const TOO_FAR: i32 = -7;
 /// The engine is closed.
 pub(crate) const CLOSED: i32 = -8;
-/// The room is shorter than a datagram, or a struct is smaller than this version's.
+/// The buffer is shorter than a datagram, or a struct is smaller than this version's.
 pub(crate) const SHORT_ROOM: i32 = -9;
 /// The configuration is not TOML, or too long.
 pub(crate) const NO_TOML: i32 = -10;

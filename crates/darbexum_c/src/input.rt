@@ -26,7 +26,7 @@ ghost use Rattle.mix_packets.specs.OutSpec.{datagram_length};
 ghost use Rattle.studio_config.specs.Studio.{Studio};
 ghost use Rattle.studio_mix.specs.Changed.{with_gains};
 ghost use Rattle.studio_session.specs.Event.{TraceEvent, Arrival};
-ghost use Rattle.studio_session.specs.ArriveOutcome.{receipt_of};
+ghost use Rattle.studio_session.specs.ArriveOutcome.{outcome_of};
 ghost use Rattle.studio_engine.specs.Engine.{EngineState};
 ghost use Rattle.studio_engine.specs.Session.{Gives, HasGivenReady, HasSession, shut, turned};
 ghost use Rattle.darbexum_c.specs.Codes as code;
@@ -53,7 +53,7 @@ pub extern "C" fn darbexum_arrive(
     ensures outcome { pos 0 ≤ℤ result → IsSomeAnd handle.old.engine
         (λ before. (studio : Studio) (events : List TraceEvent) (datagrams : List (List ℕ)) (spec : Stream)
         → HasSession studio before events datagrams → slice_get studio.streams stream ≡ Some spec
-        → result ≡ pos (code.outcome_code (receipt_of spec stream studio.open_at events path octets.now))) }
+        → result ≡ pos (code.outcome_code (outcome_of spec stream studio.open_at events path octets.now))) }
     ensures empty { handle.old.engine ≡ None → result ≡ code.no_engine }
     ensures fine { pos 0 ≤ℤ result → (engine : EngineState) → handle.old.engine ≡ Some engine
         → code.arrive_code_of engine stream path ≡ None }

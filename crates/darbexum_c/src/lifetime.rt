@@ -3,7 +3,7 @@ ghost use Rattle.std.specs.Prelude.{◌≡◌, ◌⊎◌, ◌<ℤ◌, [], pos, S
 ghost use Rattle.studio_config.specs.declared.config.fault.SpecError.{SpecError};
 ghost use Rattle.darbexum_c.specs.Codes as code;
 ghost use Rattle.darbexum_c.specs.Opened.{IsNoStudio, IsNoToml, IsOpened};
-ghost use Rattle.darbexum_c.specs.Texts.{room_after};
+ghost use Rattle.darbexum_c.specs.Texts.{buffer_after};
 
 use crate::codes::{NO_MEMORY, NO_STUDIO, NO_TOML};
 use crate::handle::Handle;
@@ -27,7 +27,7 @@ pub extern "C" fn darbexum_open(
     ensures no_toml { result ≡ code.no_toml → IsNoToml config.now }
     ensures no_studio { result ≡ code.no_studio → (fault : SpecError) × IsNoStudio config.now fault }
     ensures kept { result <ℤ pos 0 → handle.new.engine ≡ handle.old.engine }
-    ensures quiet { result ≡ pos 0 → told.new ≡ room_after [] told.old }
+    ensures quiet { result ≡ pos 0 → told.new ≡ buffer_after [] told.old }
 {
     // First, so that the text is one even if its own allocation fails.
     write_text(b"", told);

@@ -44,7 +44,7 @@ pub extern "C" fn darbexum_next_deadline(
         → HasSession studio engine events datagrams
         → IsUnreadyBefore studio events (length datagrams) reading.new) }
     ensures later { result ≡ pos 0 → IsSomeAnd handle.old.engine (λ engine. engine.time <ℤ reading.new) }
-    ensures rested { result ≡ pos 0 → IsSomeAnd handle.old.engine (λ engine. engine.turning ≡ false) }
+    ensures idle { result ≡ pos 0 → IsSomeAnd handle.old.engine (λ engine. engine.turning ≡ false) }
     ensures open_yet { result ≡ pos 0 → IsSomeAnd handle.old.engine (λ engine. engine.closed ≡ false) }
     ensures never { result ≡ code.none → (engine : EngineState) → handle.old.engine ≡ Some engine
         → engine.turning ≡ false → engine.closed ≡ false

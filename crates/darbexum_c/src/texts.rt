@@ -1,22 +1,22 @@
 //! Texts for C: each ends in a 0.
 ghost use Rattle.std.specs.Prelude.{◌≡◌};
-ghost use Rattle.darbexum_c.specs.Texts.{fault_text_of, room_after, unnamed_text_of};
+ghost use Rattle.darbexum_c.specs.Texts.{fault_text_of, buffer_after, unnamed_text_of};
 
 use crate::codes::{
     BAD_GAIN, BAD_SHAPE, BAD_TIME, CLOSED, FULL, NO_ENGINE, NO_MEMORY, NO_PATH, NO_STREAM,
     NO_STUDIO, NO_TOML, NONE, SHORT_ROOM, TOO_FAR, TOO_MANY, UNFINISHED, WENT_BACK,
 };
 
-/// Writes a text to the front of a room, cut so that a 0 fits behind it. An empty room stays empty.
-pub(crate) fn write_text(text: &[u8], room: &mut [u8])
-    ensures { room.new ≡ room_after text.now room.old }
+/// Writes a text to the front of a buffer, cut so that a 0 fits behind it. An empty buffer stays empty.
+pub(crate) fn write_text(text: &[u8], buffer: &mut [u8])
+    ensures { buffer.new ≡ buffer_after text.now buffer.old }
 {
-    let Some(last) = room.len().checked_sub(1) else {
+    let Some(last) = buffer.len().checked_sub(1) else {
         return;
     };
     let len = text.len().min(last);
-    room[..len].copy_from_slice(&text[..len]);
-    room[len] = 0;
+    buffer[..len].copy_from_slice(&text[..len]);
+    buffer[len] = 0;
 }
 
 /// Returns the text of a code.

@@ -1,6 +1,6 @@
 //! The calls that need no engine: the version of the library, and the text of a code.
 ghost use Rattle.std.specs.Prelude.{◌≡◌, length};
-ghost use Rattle.darbexum_c.specs.Texts.{fault_text_of, room_after};
+ghost use Rattle.darbexum_c.specs.Texts.{fault_text_of, buffer_after};
 
 use crate::texts::{fault_text, write_text};
 
@@ -19,7 +19,7 @@ pub extern "C" fn darbexum_version() -> u32
 /// text, without the 0.
 #[unsafe(no_mangle)]
 pub extern "C" fn darbexum_fault_text(code: i32, out: &mut [u8]) -> usize
-    ensures text { out.new ≡ room_after (fault_text_of code) out.old }
+    ensures text { out.new ≡ buffer_after (fault_text_of code) out.old }
     ensures len { result ≡ length (fault_text_of code) }
 {
     let text = fault_text(code).as_bytes();

@@ -39,18 +39,18 @@ taken-more studio mid new events datagrams a b c h k = record {
   stands = subst (λ (s : Studio). HasSession s new events datagrams) (with_changes-append studio h.changes k.changes) k.stands;
 }
 
-module _ {F C K T : Type 0} (feed_told : F → List Answer) (clock_told : C → List ℤ) (sink_handed : K → Option (List (List ℕ))) (tap_heard : T → Option (List Heard))
+module _ {F C K T : Type 0} (feed_told : F → List Answer) (clock_told : C → List ℤ) (sink_handed : K → Option (List (List ℕ))) (observer_heard : T → Option (List Heard))
     (studio : Studio) (all : List (List (List Answer))) (clock : List ℤ) (before : Option (List (List ℕ))) (earlier : Option (List Heard)) where
   -- a run that took no change
-  pub run-as-it-was : (state : RunState F C K T) (taken : List (ℤ × List ℤ)) → IsUnderWay feed_told clock_told sink_handed tap_heard studio all clock before earlier state
-      → IsUnderWayWith feed_told clock_told sink_handed tap_heard studio all clock before earlier state taken taken
+  pub run-as-it-was : (state : RunState F C K T) (taken : List (ℤ × List ℤ)) → IsUnderWay feed_told clock_told sink_handed observer_heard studio all clock before earlier state
+      → IsUnderWayWith feed_told clock_told sink_handed observer_heard studio all clock before earlier state taken taken
   run-as-it-was state taken h = record { changes = []; taken = sym (append-nil taken); run = h }
 
   -- a run whose engine took changes, and whose observer got no other notification
-  pub run-asked : (old : RunState F C K T) (engine : EngineState) (tap : T) (a b : List (ℤ × List ℤ)) → (h : IsUnderWay feed_told clock_told sink_handed tap_heard studio all clock before earlier old) → engine.time ≡ old.engine.time
-      → Hears (tap_heard old.tap) [] (tap_heard tap) → HasTakenChanges studio engine (events_by studio.open_at h.rounds) h.datagrams a b
-      → IsUnderWayWith feed_told clock_told sink_handed tap_heard studio all clock before earlier (record old { engine = engine; tap = tap }) a b
-  run-asked old engine tap a b h same none t =
+  pub run-asked : (old : RunState F C K T) (engine : EngineState) (observer : T) (a b : List (ℤ × List ℤ)) → (h : IsUnderWay feed_told clock_told sink_handed observer_heard studio all clock before earlier old) → engine.time ≡ old.engine.time
+      → Hears (observer_heard old.observer) [] (observer_heard observer) → HasTakenChanges studio engine (events_by studio.open_at h.rounds) h.datagrams a b
+      → IsUnderWayWith feed_told clock_told sink_handed observer_heard studio all clock before earlier (record old { engine = engine; observer = observer }) a b
+  run-asked old engine observer a b h same none t =
       let told = heard_by studio.open_at (events_by studio.open_at h.rounds) in
       record {
         changes = t.changes;
@@ -65,16 +65,16 @@ module _ {F C K T : Type 0} (feed_told : F → List Answer) (clock_told : C → 
           given = h.given;
           count = h.count;
           handed = h.handed;
-          heard = subst (λ l. Hears earlier l (tap_heard tap)) (append-nil told) (adds_more earlier (tap_heard old.tap) (tap_heard tap) told [] h.heard none);
+          heard = subst (λ l. Hears earlier l (observer_heard observer)) (append-nil told) (adds_more earlier (observer_heard old.observer) (observer_heard observer) told [] h.heard none);
         };
       }
 
   -- a run that took changes, and then more
-  pub run-took-more : (mid new : RunState F C K T) (a b c : List (ℤ × List ℤ)) → (h : IsUnderWayWith feed_told clock_told sink_handed tap_heard studio all clock before earlier mid a b)
-      → IsUnderWayWith feed_told clock_told sink_handed tap_heard (with_changes studio h.changes) all clock before earlier new b c
-      → IsUnderWayWith feed_told clock_told sink_handed tap_heard studio all clock before earlier new a c
+  pub run-took-more : (mid new : RunState F C K T) (a b c : List (ℤ × List ℤ)) → (h : IsUnderWayWith feed_told clock_told sink_handed observer_heard studio all clock before earlier mid a b)
+      → IsUnderWayWith feed_told clock_told sink_handed observer_heard (with_changes studio h.changes) all clock before earlier new b c
+      → IsUnderWayWith feed_told clock_told sink_handed observer_heard studio all clock before earlier new a c
   run-took-more mid new a b c h k = record {
     changes = h.changes ++ k.changes;
     taken = more_taken a b c h.changes k.changes h.taken k.taken;
-    run = subst (λ (s : Studio). IsUnderWay feed_told clock_told sink_handed tap_heard s all clock before earlier new) (with_changes-append studio h.changes k.changes) k.run;
+    run = subst (λ (s : Studio). IsUnderWay feed_told clock_told sink_handed observer_heard s all clock before earlier new) (with_changes-append studio h.changes k.changes) k.run;
   }

@@ -4,7 +4,7 @@ use Rattle.std.proofs.lemmas.Bool.{false≢true}
 use Rattle.std.proofs.lemmas.Bool.Decides.{nat_tests}
 use Rattle.std.proofs.lemmas.Grind.{flat_map-append}
 use Rattle.std.specs.Ordering.{int_eq}
-use Rattle.studio_session.specs.Event.{TraceEvent, Arrival, Reading, Closing}
+use Rattle.studio_session.specs.Event.{TraceEvent, Arrival, Tick, Closing}
 use Rattle.studio_session.specs.Fault.{closed_at, time_at}
 use Rattle.studio_engine.specs.Session.{turned}
 use Rattle.studio_io.specs.Clocks.{TellsTime, time_with}
@@ -70,7 +70,7 @@ arrivals-append (x ∷ xs) ys h k = (h.0, arrivals-append xs ys h.1 k)
 turned-after : (old new : ℤ) (events : List TraceEvent) → turned old new events ≡ events ++ turned old new []
 turned-after old new events = by_test (int_eq old new)
   where
-    by_test : (b : Bool) → (if b then events else events ++ Reading new ∷ []) ≡ events ++ (if b then [] else [] ++ Reading new ∷ [])
+    by_test : (b : Bool) → (if b then events else events ++ Tick new ∷ []) ≡ events ++ (if b then [] else [] ++ Tick new ∷ [])
     by_test true = sym (append-nil events)
     by_test false = refl
 
@@ -78,9 +78,9 @@ turned-after old new events = by_test (int_eq old new)
 pub datagrams-turned : (s p : ℕ) (old new : ℤ) (events : List TraceEvent) → datagrams_on s p (turned old new events) ≡ datagrams_on s p events
 datagrams-turned s p old new events = by_test (int_eq old new)
   where
-    by_test : (b : Bool) → datagrams_on s p (if b then events else events ++ Reading new ∷ []) ≡ datagrams_on s p events
+    by_test : (b : Bool) → datagrams_on s p (if b then events else events ++ Tick new ∷ []) ≡ datagrams_on s p events
     by_test true = refl
-    by_test false = none_more s p events (Reading new ∷ []) refl
+    by_test false = none_more s p events (Tick new ∷ []) refl
 
 more-rounds : (time : ℤ) (rounds : List Round) (round : Round)
     → events_by time (rounds ++ round ∷ []) ≡ events_by time rounds ++ (turned (time_by time rounds) (time_with (time_by time rounds) round.answer) [] ++ round.arrivals)
@@ -136,22 +136,22 @@ rounds-more (first ∷ rounds) round h k = (h.0, rounds-more rounds round h.1 k)
 pub time-arrivals : (time : ℤ) (xs ys : List TraceEvent) → AreArrivals ys → time_at time (xs ++ ys) ≡ time_at time xs
 time-arrivals time [] [] h = refl
 time-arrivals time [] (Arrival s p d ∷ ys) h = time-arrivals time [] ys h.1
-time-arrivals time [] (Reading t ∷ ys) h = absurd (false≢true h.0)
+time-arrivals time [] (Tick t ∷ ys) h = absurd (false≢true h.0)
 time-arrivals time [] (Closing ∷ ys) h = absurd (false≢true h.0)
 time-arrivals time (Arrival s p d ∷ xs) ys h = time-arrivals time xs ys h
-time-arrivals time (Reading t ∷ xs) ys h = time-arrivals t xs ys h
+time-arrivals time (Tick t ∷ xs) ys h = time-arrivals t xs ys h
 time-arrivals time (Closing ∷ xs) ys h = time-arrivals time xs ys h
 
 closed-arrivals : (closed : Bool) (xs ys : List TraceEvent) → AreArrivals xs → closed_at closed (xs ++ ys) ≡ closed_at closed ys
 closed-arrivals closed [] ys h = refl
 closed-arrivals closed (Arrival s p d ∷ xs) ys h = closed-arrivals closed xs ys h.1
-closed-arrivals closed (Reading t ∷ xs) ys h = absurd (false≢true h.0)
+closed-arrivals closed (Tick t ∷ xs) ys h = absurd (false≢true h.0)
 closed-arrivals closed (Closing ∷ xs) ys h = absurd (false≢true h.0)
 
 closed-turned : (closed : Bool) (old new : ℤ) (ys : List TraceEvent) → closed_at closed (turned old new [] ++ ys) ≡ closed_at closed ys
 closed-turned closed old new ys = by_test (int_eq old new)
   where
-    by_test : (b : Bool) → closed_at closed ((if b then [] else [] ++ Reading new ∷ []) ++ ys) ≡ closed_at closed ys
+    by_test : (b : Bool) → closed_at closed ((if b then [] else [] ++ Tick new ∷ []) ++ ys) ≡ closed_at closed ys
     by_test true = refl
     by_test false = refl
 

@@ -52,11 +52,11 @@ count-more old mid xs ys h k few =
     let mid_is = k (omega (arith, few, sum, old_is)) in
     omega (arith, old_is, mid_is, sum)
 
-module _ {F C K T : Type 0} (feed_told : F → List Answer) (clock_told : C → List ℤ) (sink_handed : K → Option (List (List ℕ))) (tap_heard : T → Option (List Heard))
+module _ {F C K T : Type 0} (feed_told : F → List Answer) (clock_told : C → List ℤ) (sink_handed : K → Option (List (List ℕ))) (observer_heard : T → Option (List Heard))
     (studio : Studio) (all : List (List (List Answer))) (clock : List ℤ) (before : Option (List (List ℕ))) (earlier : Option (List Heard)) where
   -- a run before its first round is under way
-  pub run-begins : (feeds : List F) (state : RunState F C K T) (streams : List Stream) → streams ≡ studio.streams → all ≡ grouped studio.streams (map feed_told feeds) → clock ≡ clock_told state.clock → before ≡ sink_handed state.sink → earlier ≡ tap_heard state.tap
-      → HasSession studio state.engine [] [] → HaveBegun streams feeds state.readers.items → state.counts.blocks ≡ 0 → IsUnderWay feed_told clock_told sink_handed tap_heard studio all clock before earlier state
+  pub run-begins : (feeds : List F) (state : RunState F C K T) (streams : List Stream) → streams ≡ studio.streams → all ≡ grouped studio.streams (map feed_told feeds) → clock ≡ clock_told state.clock → before ≡ sink_handed state.sink → earlier ≡ observer_heard state.observer
+      → HasSession studio state.engine [] [] → HaveBegun streams feeds state.readers.items → state.counts.blocks ≡ 0 → IsUnderWay feed_told clock_told sink_handed observer_heard studio all clock before earlier state
   run-begins feeds state streams streams_are all_is clock_is before_is earlier_is s begun none = record {
     rounds = [];
     datagrams = [];
@@ -67,16 +67,16 @@ module _ {F C K T : Type 0} (feed_told : F → List Answer) (clock_told : C → 
     given = subst (λ l. HaveGiven feed_told l state.readers.items [] []) (sym all_is) (given-none feed_told studio.streams feeds state.readers.items (subst (λ (l : List Stream). HaveBegun l feeds state.readers.items) streams_are begun));
     count = λ few. none;
     handed = subst (λ o. Hands o [] (sink_handed state.sink)) (sym before_is) (adds_none (sink_handed state.sink));
-    heard = subst (λ o. Hears o [] (tap_heard state.tap)) (sym earlier_is) (adds_none (tap_heard state.tap));
+    heard = subst (λ o. Hears o [] (observer_heard state.observer)) (sym earlier_is) (adds_none (observer_heard state.observer));
   }
 
   -- a run after one more clock reading
-  pub turn-more : (old new : RunState F C K T) (h : IsUnderWay feed_told clock_told sink_handed tap_heard studio all clock before earlier old) (answer now : ℤ)
+  pub turn-more : (old new : RunState F C K T) (h : IsUnderWay feed_told clock_told sink_handed observer_heard studio all clock before earlier old) (answer now : ℤ)
       → now ≡ time_with old.engine.time answer → TellsTime (clock_told old.clock) answer (clock_told new.clock)
       → HasSent studio new.engine (turned old.engine.time now (events_by studio.open_at h.rounds)) h.datagrams (sink_handed old.sink) (sink_handed new.sink) old.counts.blocks new.counts.blocks
-      → new.engine.time ≡ now → new.readers.items ≡ old.readers.items → new.tap ≡ old.tap
-      → IsTurned feed_told clock_told sink_handed tap_heard studio all clock before earlier new
-  turn-more old new h answer now now_is tells sent there readers tap =
+      → new.engine.time ≡ now → new.readers.items ≡ old.readers.items → new.observer ≡ old.observer
+      → IsTurned feed_told clock_told sink_handed observer_heard studio all clock before earlier new
+  turn-more old new h answer now now_is tells sent there readers observer =
       let round : Round = record { answer = answer; asked = false; arrivals = [] } in
       let before_it = events_by studio.open_at h.rounds in
       let turn = turned old.engine.time now before_it in
@@ -92,9 +92,9 @@ module _ {F C K T : Type 0} (feed_told : F → List Answer) (clock_told : C → 
           given = subst (λ l. HaveGiven feed_told all new.readers.items l (h.rounds ++ round ∷ [])) events (subst (λ l. HaveGiven feed_told all l turn (h.rounds ++ round ∷ [])) (sym readers) (given-turned feed_told all old.readers.items old.engine.time now before_it h.rounds answer h.given));
           count = count-more old.counts.blocks new.counts.blocks h.datagrams sent.more h.count sent.count;
           handed = adds_more before (sink_handed old.sink) (sink_handed new.sink) h.datagrams sent.more h.handed sent.handed;
-          heard = subst (λ l. Hears earlier (heard_by studio.open_at l) (tap_heard new.tap)) events
-              (subst (λ (t : T). Hears earlier (heard_by studio.open_at turn) (tap_heard t)) (sym tap)
-              (subst (λ l. Hears earlier l (tap_heard old.tap)) (sym (heard_turned studio.open_at old.engine.time now before_it)) h.heard));
+          heard = subst (λ l. Hears earlier (heard_by studio.open_at l) (observer_heard new.observer)) events
+              (subst (λ (t : T). Hears earlier (heard_by studio.open_at turn) (observer_heard t)) (sym observer)
+              (subst (λ l. Hears earlier l (observer_heard old.observer)) (sym (heard_turned studio.open_at old.engine.time now before_it)) h.heard));
         };
         front = h.rounds;
         answer = answer;
@@ -102,9 +102,9 @@ module _ {F C K T : Type 0} (feed_told : F → List Answer) (clock_told : C → 
       }
 
   -- a call of the observer that is no notification changes nothing
-  pub looked : (old : RunState F C K T) (tap : T) → IsTurned feed_told clock_told sink_handed tap_heard studio all clock before earlier old → Hears (tap_heard old.tap) [] (tap_heard tap)
-      → IsTurned feed_told clock_told sink_handed tap_heard studio all clock before earlier (record old { tap = tap })
-  looked old tap h none =
+  pub looked : (old : RunState F C K T) (observer : T) → IsTurned feed_told clock_told sink_handed observer_heard studio all clock before earlier old → Hears (observer_heard old.observer) [] (observer_heard observer)
+      → IsTurned feed_told clock_told sink_handed observer_heard studio all clock before earlier (record old { observer = observer })
+  looked old observer h none =
       let run = h.run in
       let told = heard_by studio.open_at (events_by studio.open_at run.rounds) in
       record {
@@ -118,7 +118,7 @@ module _ {F C K T : Type 0} (feed_told : F → List Answer) (clock_told : C → 
           given = run.given;
           count = run.count;
           handed = run.handed;
-          heard = subst (λ l. Hears earlier l (tap_heard tap)) (append-nil told) (adds_more earlier (tap_heard old.tap) (tap_heard tap) told [] run.heard none);
+          heard = subst (λ l. Hears earlier l (observer_heard observer)) (append-nil told) (adds_more earlier (observer_heard old.observer) (observer_heard observer) told [] run.heard none);
         };
         front = h.front;
         answer = h.answer;
@@ -126,10 +126,10 @@ module _ {F C K T : Type 0} (feed_told : F → List Answer) (clock_told : C → 
       }
 
   -- a run after the datagrams that arrived since the last clock reading
-  pub take-more : (old new : RunState F C K T) (h : IsTurned feed_told clock_told sink_handed tap_heard studio all clock before earlier old) (olds news : List (Vec (FeedReader F) Global)) (count : ℕ) → count ≡ length olds
+  pub take-more : (old new : RunState F C K T) (h : IsTurned feed_told clock_told sink_handed observer_heard studio all clock before earlier old) (olds news : List (Vec (FeedReader F) Global)) (count : ℕ) → count ≡ length olds
       → old.readers.items ≡ olds → new.readers.items ≡ news → new.clock ≡ old.clock → new.sink ≡ old.sink → new.counts ≡ old.counts
-      → TakesAll feed_told studio new.engine (events_by studio.open_at h.run.rounds) h.run.datagrams olds news (tap_heard old.tap) (tap_heard new.tap) count
-      → IsUnderWay feed_told clock_told sink_handed tap_heard studio all clock before earlier new
+      → TakesAll feed_told studio new.engine (events_by studio.open_at h.run.rounds) h.run.datagrams olds news (observer_heard old.observer) (observer_heard new.observer) count
+      → IsUnderWay feed_told clock_told sink_handed observer_heard studio all clock before earlier new
   take-more old new h olds news count all_count olds_is news_is clock_is sink_is counts_is t =
       let run = h.run in
       let last : Round = record { answer = h.answer; asked = false; arrivals = [] } in
@@ -146,19 +146,19 @@ module _ {F C K T : Type 0} (feed_told : F → List Answer) (clock_told : C → 
         bounded = rounds-more h.front round (rounds-front h.front (last ∷ []) (subst AreRounds h.last run.bounded)) (record { arrive = t.arrive; few = t.few; none = λ e. absurd (false≢true (sym e)) }, tt);
         clocked = λ later next. subst (λ l. AreNext clock (l ++ later)) answers (run.clocked later (subst (λ (c : C). AreNext (clock_told c) later) clock_is next));
         given = subst (λ l. HaveGiven feed_told all new.readers.items l (h.front ++ round ∷ [])) events (subst (λ l. HaveGiven feed_told all l (before_it ++ t.arrivals) (h.front ++ round ∷ [])) (sym news_is)
-            (given-more feed_told studio new.engine all olds news before_it run.datagrams (tap_heard old.tap) (tap_heard new.tap) count h.front h.answer all_count
+            (given-more feed_told studio new.engine all olds news before_it run.datagrams (observer_heard old.observer) (observer_heard new.observer) count h.front h.answer all_count
             (subst (HaveGiven feed_told all olds before_it) h.last (subst (λ l. HaveGiven feed_told all l before_it run.rounds) olds_is run.given)) t));
         count = λ few. ap (λ counts. counts.blocks) counts_is ∙ run.count few;
         handed = subst (λ (k : K). Hands before run.datagrams (sink_handed k)) (sym sink_is) run.handed;
-        heard = subst (λ l. Hears earlier (heard_by studio.open_at l) (tap_heard new.tap)) events
-            (hears_on studio.open_at before_it earlier (tap_heard old.tap) (tap_heard new.tap) t.arrivals run.heard t.heard);
+        heard = subst (λ l. Hears earlier (heard_by studio.open_at l) (observer_heard new.observer)) events
+            (hears_on studio.open_at before_it earlier (observer_heard old.observer) (observer_heard new.observer) t.arrivals run.heard t.heard);
       }
 
   -- a run that was closed, and whose datagrams were all sent, has come to its end
-  pub run-ends : (old new : RunState F C K T) (mid : EngineState) (h : IsUnderWay feed_told clock_told sink_handed tap_heard studio all clock before earlier old) → AllEnded old.readers.items
+  pub run-ends : (old new : RunState F C K T) (mid : EngineState) (h : IsUnderWay feed_told clock_told sink_handed observer_heard studio all clock before earlier old) → AllEnded old.readers.items
       → HasSession studio mid (shut old.engine.closed (events_by studio.open_at h.rounds)) h.datagrams
       → ((events : List TraceEvent) → HasSession studio mid events h.datagrams → HasSent studio new.engine events h.datagrams (sink_handed old.sink) (sink_handed new.sink) old.counts.blocks new.counts.blocks)
-      → Hears (tap_heard old.tap) (Closed mid.time ∷ []) (tap_heard new.tap) → new.engine.settled ≡ true → HasAllMarks new.engine → IsDone sink_handed tap_heard studio all clock before earlier new
+      → Hears (observer_heard old.observer) (Closed mid.time ∷ []) (observer_heard new.observer) → new.engine.settled ≡ true → HasAllMarks new.engine → IsDone sink_handed observer_heard studio all clock before earlier new
   run-ends old new mid h ended stands sends told settled whole =
       let open_yet : old.engine.closed ≡ false = h.stands.closed ∙ rounds-open false studio.open_at h.rounds h.bounded in
       let closed : HasSession studio mid (events_of studio h.rounds) h.datagrams = subst (λ b. HasSession studio mid (shut b (events_by studio.open_at h.rounds)) h.datagrams) open_yet stands in
@@ -183,12 +183,12 @@ module _ {F C K T : Type 0} (feed_told : F → List Answer) (clock_told : C → 
             subst (λ b. GivesByRounds stream path (until_end 0 told) h.rounds (left_by b reader.0.state.in_a_row (feed_told reader.0.feed))) over (reader.3 whole).1;
         count = count-more old.counts.blocks new.counts.blocks h.datagrams sent.more h.count sent.count;
         handed = adds_more before (sink_handed old.sink) (sink_handed new.sink) h.datagrams sent.more h.handed sent.handed;
-        heard = hears_close studio.open_at (events_by studio.open_at h.rounds) earlier (tap_heard old.tap) (tap_heard new.tap) mid.time closed.time h.heard told;
+        heard = hears_close studio.open_at (events_by studio.open_at h.rounds) earlier (observer_heard old.observer) (observer_heard new.observer) mid.time closed.time h.heard told;
       }
 
   -- the report of a run that has come to its end
-  pub run-settled : (feeds : List (List Answer)) (state : RunState F C K T) (report : WorkReport) (after : Option (List (List ℕ))) (later : Option (List Heard)) (d : IsDone sink_handed tap_heard studio all clock before earlier state)
-      → all ≡ grouped studio.streams feeds → AreCounts studio (events_of studio d.rounds) report.streams.items → report.blocks ≡ state.counts.blocks → after ≡ sink_handed state.sink → later ≡ tap_heard state.tap
+  pub run-settled : (feeds : List (List Answer)) (state : RunState F C K T) (report : WorkReport) (after : Option (List (List ℕ))) (later : Option (List Heard)) (d : IsDone sink_handed observer_heard studio all clock before earlier state)
+      → all ≡ grouped studio.streams feeds → AreCounts studio (events_of studio d.rounds) report.streams.items → report.blocks ≡ state.counts.blocks → after ≡ sink_handed state.sink → later ≡ observer_heard state.observer
       → IsSettledRun studio feeds clock report before after earlier later
   run-settled feeds state report after later d all_is counts blocks after_is later_is = record {
     rounds = d.rounds;

@@ -2,7 +2,7 @@
 use Rattle.std.proofs.Common.{◌≡◌, ℕ, Bool, true, false, List, [], ◌∷◌, ◌++◌, ℤ, Option, Some, None, if◌then◌else◌, refl, sym, ap, subst, ◌∙◌, append_assoc, append-nil}
 use Rattle.std.specs.Prelude.{IfSome, IsSomeAnd}
 use Rattle.std.specs.Ordering.{int_eq}
-use Rattle.studio_session.specs.Event.{TraceEvent, Arrival, Reading, Closing}
+use Rattle.studio_session.specs.Event.{TraceEvent, Arrival, Tick, Closing}
 use Rattle.studio_session.specs.Fault.{time_after, time_at}
 use Rattle.studio_engine.specs.Session.{turned}
 use Rattle.engine_run.specs.Observers.{Came, Closed, HasNotedTaken, Heard, Hears, heard_by, heard_of}
@@ -53,9 +53,9 @@ heard-append time (x ∷ xs) ys =
 pub heard_turned : (open_at old new : ℤ) (events : List TraceEvent) → heard_by open_at (turned old new events) ≡ heard_by open_at events
 heard_turned open_at old new events = by_test (int_eq old new)
   where
-    by_test : (b : Bool) → heard_by open_at (if b then events else events ++ Reading new ∷ []) ≡ heard_by open_at events
+    by_test : (b : Bool) → heard_by open_at (if b then events else events ++ Tick new ∷ []) ≡ heard_by open_at events
     by_test true = refl
-    by_test false = heard-append open_at events (Reading new ∷ []) ∙ append-nil (heard_by open_at events)
+    by_test false = heard-append open_at events (Tick new ∷ []) ∙ append-nil (heard_by open_at events)
 
 -- the notification of an arrival has the time after the arrival
 pub hears_one : (open_at : ℤ) (events : List TraceEvent) (o p : Option (List Heard)) (stream path : ℕ) (time : ℤ) (octets : List ℕ)

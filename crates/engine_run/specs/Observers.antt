@@ -1,6 +1,6 @@
 -- The events of a run that its observer is called with, and the changes of gains.
 use Rattle.std.specs.Prelude.{◌≡◌, ℕ, List, [], ◌∷◌, ◌++◌, ℤ, Option, IfSome, IsSomeAnd}
-use Rattle.studio_session.specs.Event.{TraceEvent, Arrival, Reading, Closing}
+use Rattle.studio_session.specs.Event.{TraceEvent, Arrival, Tick, Closing}
 use Rattle.studio_session.specs.Fault.{time_after}
 
 -- a notification: a datagram came on a path of a stream at a time, or the engine was closed at a time
@@ -11,7 +11,7 @@ pub data Heard : Type 0 where
 -- the notification of an event at this time: a clock reading has none
 abbrev pub heard_of : ℤ → TraceEvent → List Heard
 heard_of time (Arrival stream path octets) = Came stream path time octets ∷ []
-heard_of time (Reading later) = []
+heard_of time (Tick later) = []
 heard_of time Closing = Closed time ∷ []
 
 -- the notifications of events from this time on: one of each arrival and of each close, with the last reading before it

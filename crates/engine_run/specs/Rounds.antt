@@ -1,7 +1,7 @@
 -- The rounds of a run: the clock readings, and the datagrams that arrived in each round.
 use Rattle.std.specs.Prelude.{◌≡◌, ℕ, ◌≤◌, Bool, true, false, ◌&&◌, nat_eq, List, [], ◌∷◌, ◌++◌, length, map, flat_map, ℤ, if◌then◌else◌}
 use Rattle.studio_config.specs.Studio.{Studio}
-use Rattle.studio_session.specs.Event.{TraceEvent, Arrival, Reading, Closing}
+use Rattle.studio_session.specs.Event.{TraceEvent, Arrival, Tick, Closing}
 use Rattle.studio_engine.specs.Session.{turned}
 use Rattle.studio_io.specs.Answers.{Answer}
 use Rattle.studio_io.specs.Clocks.{time_with}
@@ -10,7 +10,7 @@ use Rattle.engine_run.specs.Asked.{round_datagrams, round_left}
 -- the datagram of an event, if it arrived on this path of this stream
 abbrev pub datagram_in : ℕ → ℕ → TraceEvent → List (List ℕ)
 datagram_in stream path (Arrival s p octets) = if nat_eq s stream && nat_eq p path then octets ∷ [] else []
-datagram_in stream path (Reading time) = []
+datagram_in stream path (Tick time) = []
 datagram_in stream path Closing = []
 
 -- all datagrams that arrived on this path of this stream
@@ -23,7 +23,7 @@ arrivals_on stream path datagrams = map (λ octets. Arrival stream path octets) 
 
 abbrev pub is_arrival : TraceEvent → Bool
 is_arrival (Arrival stream path octets) = true
-is_arrival (Reading time) = false
+is_arrival (Tick time) = false
 is_arrival Closing = false
 
 -- all of these events are arrivals

@@ -30,7 +30,7 @@ AreTakenByRounds all rounds = (stream path : ℕ) (own : List (List Answer)) (to
 
 module _ {F C K T : Type 0} where
   -- a run that began with these known results of its feeds and readings of its clock is under way
-  pub record IsUnderWay (feed_told : F → List Answer) (clock_told : C → List ℤ) (sink_handed : K → Option (List (List ℕ))) (tap_heard : T → Option (List Heard)) (studio : Studio) (all : List (List (List Answer))) (clock : List ℤ) (before : Option (List (List ℕ))) (earlier : Option (List Heard)) (state : RunState F C K T) : Type 0 where
+  pub record IsUnderWay (feed_told : F → List Answer) (clock_told : C → List ℤ) (sink_handed : K → Option (List (List ℕ))) (observer_heard : T → Option (List Heard)) (studio : Studio) (all : List (List (List Answer))) (clock : List ℤ) (before : Option (List (List ℕ))) (earlier : Option (List Heard)) (state : RunState F C K T) : Type 0 where
     pub rounds : List Round
     pub datagrams : List (List ℕ)
     pub stands : HasSession studio state.engine (events_by studio.open_at rounds) datagrams
@@ -40,23 +40,23 @@ module _ {F C K T : Type 0} where
     pub given : HaveGiven feed_told all state.readers.items (events_by studio.open_at rounds) rounds
     pub count : length datagrams < 2 ^ 64 → state.counts.blocks ≡ length datagrams
     pub handed : Hands before datagrams (sink_handed state.sink)
-    pub heard : Hears earlier (heard_by studio.open_at (events_by studio.open_at rounds)) (tap_heard state.tap)
+    pub heard : Hears earlier (heard_by studio.open_at (events_by studio.open_at rounds)) (observer_heard state.observer)
 
   -- a run is under way, of the studio with exactly the changes of gains that its source took from `first` to `last`
-  pub record IsUnderWayWith (feed_told : F → List Answer) (clock_told : C → List ℤ) (sink_handed : K → Option (List (List ℕ))) (tap_heard : T → Option (List Heard)) (studio : Studio) (all : List (List (List Answer))) (clock : List ℤ) (before : Option (List (List ℕ))) (earlier : Option (List Heard)) (state : RunState F C K T) (first last : List (ℤ × List ℤ)) : Type 0 where
+  pub record IsUnderWayWith (feed_told : F → List Answer) (clock_told : C → List ℤ) (sink_handed : K → Option (List (List ℕ))) (observer_heard : T → Option (List Heard)) (studio : Studio) (all : List (List (List Answer))) (clock : List ℤ) (before : Option (List (List ℕ))) (earlier : Option (List Heard)) (state : RunState F C K T) (first last : List (ℤ × List ℤ)) : Type 0 where
     pub changes : List (ℤ × List ℤ)
     pub taken : last ≡ first ++ changes
-    pub run : IsUnderWay feed_told clock_told sink_handed tap_heard (with_changes studio changes) all clock before earlier state
+    pub run : IsUnderWay feed_told clock_told sink_handed observer_heard (with_changes studio changes) all clock before earlier state
 
   -- a run is under way, and nothing has arrived since its last clock reading
-  pub record IsTurned (feed_told : F → List Answer) (clock_told : C → List ℤ) (sink_handed : K → Option (List (List ℕ))) (tap_heard : T → Option (List Heard)) (studio : Studio) (all : List (List (List Answer))) (clock : List ℤ) (before : Option (List (List ℕ))) (earlier : Option (List Heard)) (state : RunState F C K T) : Type 0 where
-    pub run : IsUnderWay feed_told clock_told sink_handed tap_heard studio all clock before earlier state
+  pub record IsTurned (feed_told : F → List Answer) (clock_told : C → List ℤ) (sink_handed : K → Option (List (List ℕ))) (observer_heard : T → Option (List Heard)) (studio : Studio) (all : List (List (List Answer))) (clock : List ℤ) (before : Option (List (List ℕ))) (earlier : Option (List Heard)) (state : RunState F C K T) : Type 0 where
+    pub run : IsUnderWay feed_told clock_told sink_handed observer_heard studio all clock before earlier state
     pub front : List Round
     pub answer : ℤ
     pub last : run.rounds ≡ front ++ record { answer = answer; asked = false; arrivals = [] } ∷ []
 
   -- a run has come to its end: the engine was closed, and all its datagrams were returned
-  pub record IsDone (sink_handed : K → Option (List (List ℕ))) (tap_heard : T → Option (List Heard)) (studio : Studio) (all : List (List (List Answer))) (clock : List ℤ) (before : Option (List (List ℕ))) (earlier : Option (List Heard)) (state : RunState F C K T) : Type 0 where
+  pub record IsDone (sink_handed : K → Option (List (List ℕ))) (observer_heard : T → Option (List Heard)) (studio : Studio) (all : List (List (List Answer))) (clock : List ℤ) (before : Option (List (List ℕ))) (earlier : Option (List Heard)) (state : RunState F C K T) : Type 0 where
     pub rounds : List Round
     pub datagrams : List (List ℕ)
     pub stands : HasSession studio state.engine (events_of studio rounds) datagrams
@@ -68,7 +68,7 @@ module _ {F C K T : Type 0} where
     pub taken : AreTakenByRounds all rounds
     pub count : length datagrams < 2 ^ 64 → state.counts.blocks ≡ length datagrams
     pub handed : Hands before datagrams (sink_handed state.sink)
-    pub heard : Hears earlier (heard_by studio.open_at (events_of studio rounds)) (tap_heard state.tap)
+    pub heard : Hears earlier (heard_by studio.open_at (events_of studio rounds)) (observer_heard state.observer)
 
 -- the result of a settled run, whose feeds are ordered by stream and then by path. Its rounds have the clock readings
 -- that were known, and all datagrams of the feeds that are known to their end, round by round. None of their events has

@@ -29,13 +29,13 @@ fn notify_change<F, T: RunObserver<F>>(
     engine: &Engine,
     answer: GainAnswer,
     gains: &[i32],
-    tap: &mut T,
+    observer: &mut T,
 )
-    ensures heard { Hears (T.heard tap.old) [] (T.heard tap.new) }
-    ensures noted { NotesChanges (T.noted tap.old) (changes_in answer gains.now) (T.noted tap.new) }
+    ensures heard { Hears (T.heard observer.old) [] (T.heard observer.new) }
+    ensures noted { NotesChanges (T.noted observer.old) (changes_in answer gains.now) (T.noted observer.new) }
 {
     if let GainAnswer::Taken(at) = answer {
-        tap.changed(engine, at, gains);
+        observer.changed(engine, at, gains);
     }
 }
 
@@ -43,26 +43,27 @@ fn notify_change<F, T: RunObserver<F>>(
 fn ask_once<F, G: GainSource, T: RunObserver<F>>(
     engine: &mut Engine,
     source: &mut G,
-    tap: &mut T,
-    room: &mut [i32],
+    observer: &mut T,
+    buffer: &mut [i32],
 ) -> bool
-    requires room { length room.old ≡ 8192 }
+    requires space { length buffer.old ≡ 8192 }
     ensures stands { (studio : Studio) (events : List TraceEvent) (datagrams : List (List ℕ))
         → HasSession studio engine.old events datagrams
         → HasTakenChanges studio engine.new events datagrams (G.taken source.old) (G.taken source.new) }
     ensures time { engine.new.time ≡ engine.old.time }
-    ensures heard { Hears (T.heard tap.old) [] (T.heard tap.new) }
-    ensures noted { HasNotedTaken (G.taken source.old) (G.taken source.new) (T.noted tap.old) (T.noted tap.new) }
+    ensures heard { Hears (T.heard observer.old) [] (T.heard observer.new) }
+    ensures noted { HasNotedTaken (G.taken source.old) (G.taken source.new) (T.noted observer.old)
+        (T.noted observer.new) }
 {
     let count = gain_count(engine);
-    let gains = &mut room[..count];
+    let gains = &mut buffer[..count];
     let Some(request) = source.next(gains) else {
         return false;
     };
     let next = engine.next_block_start();
     let answer = engine.answer_request(request, gains);
     // Before the source has its answer: whoever reads the answer finds the change noted.
-    notify_change(engine, answer, gains, tap);
+    notify_change(engine, answer, gains, observer);
     source.answer(answer, next, gains);
     true
 }
@@ -72,19 +73,20 @@ fn ask_once<F, G: GainSource, T: RunObserver<F>>(
 pub(crate) fn ask_source<F, G: GainSource, T: RunObserver<F>>(
     engine: &mut Engine,
     source: &mut G,
-    tap: &mut T,
-    room: &mut [i32],
+    observer: &mut T,
+    buffer: &mut [i32],
 )
-    requires room { length room.old ≡ 8192 }
+    requires space { length buffer.old ≡ 8192 }
     ensures stands { (studio : Studio) (events : List TraceEvent) (datagrams : List (List ℕ))
         → HasSession studio engine.old events datagrams
         → HasTakenChanges studio engine.new events datagrams (G.taken source.old) (G.taken source.new) }
     ensures time { engine.new.time ≡ engine.old.time }
-    ensures heard { Hears (T.heard tap.old) [] (T.heard tap.new) }
-    ensures noted { HasNotedTaken (G.taken source.old) (G.taken source.new) (T.noted tap.old) (T.noted tap.new) }
+    ensures heard { Hears (T.heard observer.old) [] (T.heard observer.new) }
+    ensures noted { HasNotedTaken (G.taken source.old) (G.taken source.new) (T.noted observer.old)
+        (T.noted observer.new) }
 {
     for _ in 0..MAX_REQUESTS {
-        if !ask_once(engine, source, tap, room) {
+        if !ask_once(engine, source, observer, buffer) {
             return;
         }
     }

@@ -15,13 +15,13 @@ use studio_io::{Feed, FeedAnswer};
 // A limit, so that a feed that never runs dry cannot hold up the other feeds, the clock and the sink.
 const MAX_TAKEN: u32 = 64;
 
-/// The longest rest, in sampling instants at 48 kHz: 50 ms.
+/// The longest pause, in sampling instants at 48 kHz: 50 ms.
 // A feed that has nothing is called again by then, so a run ends at most 50 ms after its feeds.
-pub(crate) const LONGEST_REST: i64 = 2_400;
+pub(crate) const LONGEST_PAUSE: i64 = 2_400;
 
-/// The longest rest after a feed failed, in sampling instants at 48 kHz: 2 ms.
+/// The longest pause after a feed failed, in sampling instants at 48 kHz: 2 ms.
 // Short, since a datagram may wait behind the fault.
-const FAULT_REST: i64 = 96;
+const FAULT_PAUSE: i64 = 96;
 
 /// The outcome of one call of a feed.
 #[derive(Clone, Copy, PartialEq, Eq)]
@@ -42,15 +42,15 @@ fn take_one<F: Feed, T: RunObserver<F>>(
     stream: usize,
     path: Path,
     reader: &mut FeedReader<F>,
-    tap: &mut T,
+    observer: &mut T,
     buf: &mut [u8],
 ) -> Result<FeedOutcome, ArriveFault>
-    requires room { length buf.old ≡ 2048 }
+    requires space { length buf.old ≡ 2048 }
     ensures takes { IfOk result (λ outcome. (studio : Studio) (events : List TraceEvent) (datagrams : List (List ℕ))
         → HasSession studio engine.old events datagrams
-        → (t : Takes F.told studio engine.new events datagrams stream path reader.old reader.new (T.heard tap.old)
-        (T.heard tap.new) 1) × GaveBy outcome t.given) }
-    ensures noted { T.noted tap.new ≡ T.noted tap.old }
+        → (t : Takes F.told studio engine.new events datagrams stream path reader.old reader.new (T.heard observer.old)
+        (T.heard observer.new) 1) × GaveBy outcome t.given) }
+    ensures noted { T.noted observer.new ≡ T.noted observer.old }
 {
     if reader.state.ended {
         return Ok(FeedOutcome::Nothing);
@@ -59,8 +59,8 @@ fn take_one<F: Feed, T: RunObserver<F>>(
     reader.state.note(answer);
     match answer {
         FeedAnswer::Datagram(count) => {
-            let receipt = engine.arrive(stream, path, &buf[..count])?;
-            tap.arrived(engine, stream, path, &buf[..count], receipt, &reader.feed);
+            let outcome = engine.arrive(stream, path, &buf[..count])?;
+            observer.arrived(engine, stream, path, &buf[..count], outcome, &reader.feed);
             Ok(FeedOutcome::Datagram)
         }
         FeedAnswer::Nothing => Ok(FeedOutcome::Nothing),
@@ -69,29 +69,29 @@ fn take_one<F: Feed, T: RunObserver<F>>(
     }
 }
 
-/// Takes the datagrams of a feed, at most 64. Returns the time that the run may rest for it, in sampling instants at
+/// Takes the datagrams of a feed, at most 64. Returns the time that the run may pause for it, in sampling instants at
 /// 48 kHz: 0 if the feed may have more.
 fn take_some<F: Feed, T: RunObserver<F>>(
     engine: &mut Engine,
     stream: usize,
     path: Path,
     reader: &mut FeedReader<F>,
-    tap: &mut T,
+    observer: &mut T,
     buf: &mut [u8],
 ) -> Result<i64, ArriveFault>
-    requires room { length buf.old ≡ 2048 }
+    requires space { length buf.old ≡ 2048 }
     ensures takes { OnOk result ((studio : Studio) (events : List TraceEvent) (datagrams : List (List ℕ))
         → HasSession studio engine.old events datagrams
-        → Takes F.told studio engine.new events datagrams stream path reader.old reader.new (T.heard tap.old)
-        (T.heard tap.new) 64) }
-    ensures noted { T.noted tap.new ≡ T.noted tap.old }
+        → Takes F.told studio engine.new events datagrams stream path reader.old reader.new (T.heard observer.old)
+        (T.heard observer.new) 64) }
+    ensures noted { T.noted observer.new ≡ T.noted observer.old }
 {
     for _ in 0..MAX_TAKEN {
-        let outcome = take_one(engine, stream, path, reader, tap, buf)?;
+        let outcome = take_one(engine, stream, path, reader, observer, buf)?;
         match outcome {
             FeedOutcome::Datagram => {}
-            FeedOutcome::Fault => return Ok(FAULT_REST),
-            FeedOutcome::Nothing => return Ok(LONGEST_REST),
+            FeedOutcome::Fault => return Ok(FAULT_PAUSE),
+            FeedOutcome::Nothing => return Ok(LONGEST_PAUSE),
         }
     }
     Ok(0)
@@ -107,26 +107,26 @@ fn path_of(number: usize) -> Result<Path, ArriveFault>
     }
 }
 
-/// Takes the datagrams of a stream's feeds. Returns the time that the run may rest for them, in sampling instants.
+/// Takes the datagrams of a stream's feeds. Returns the time that the run may pause for them, in sampling instants.
 fn take_stream<F: Feed, T: RunObserver<F>>(
     engine: &mut Engine,
     stream: usize,
     readers: &mut [FeedReader<F>],
-    tap: &mut T,
+    observer: &mut T,
     buf: &mut [u8],
 ) -> Result<i64, ArriveFault>
-    requires room { length buf.old ≡ 2048 }
+    requires space { length buf.old ≡ 2048 }
     ensures takes { OnOk result ((studio : Studio) (events : List TraceEvent) (datagrams : List (List ℕ))
         → HasSession studio engine.old events datagrams
-        → TakesStream F.told studio engine.new events datagrams stream readers.old readers.new (T.heard tap.old)
-        (T.heard tap.new) (length readers.old)) }
-    ensures noted { T.noted tap.new ≡ T.noted tap.old }
+        → TakesStream F.told studio engine.new events datagrams stream readers.old readers.new (T.heard observer.old)
+        (T.heard observer.new) (length readers.old)) }
+    ensures noted { T.noted observer.new ≡ T.noted observer.old }
 {
-    // The feed that allows the shortest rest decides.
-    let mut most = LONGEST_REST;
+    // The feed that allows the shortest pause decides.
+    let mut most = LONGEST_PAUSE;
     for number in 0..readers.len() {
         let path = path_of(number)?;
-        most = take_some(engine, stream, path, &mut readers[number], tap, buf)?.min(most);
+        most = take_some(engine, stream, path, &mut readers[number], observer, buf)?.min(most);
     }
     Ok(most)
 }
@@ -137,36 +137,37 @@ fn take_own<F: Feed, T: RunObserver<F>>(
     engine: &mut Engine,
     stream: usize,
     own: &mut Vec<FeedReader<F>>,
-    tap: &mut T,
+    observer: &mut T,
     buf: &mut [u8],
 ) -> Result<i64, ArriveFault>
-    requires room { length buf.old ≡ 2048 }
+    requires space { length buf.old ≡ 2048 }
     ensures takes { OnOk result ((studio : Studio) (events : List TraceEvent) (datagrams : List (List ℕ))
         → HasSession studio engine.old events datagrams
-        → TakesStream F.told studio engine.new events datagrams stream own.old.items own.new.items (T.heard tap.old)
-        (T.heard tap.new) (length own.old.items)) }
-    ensures noted { T.noted tap.new ≡ T.noted tap.old }
+        → TakesStream F.told studio engine.new events datagrams stream own.old.items own.new.items
+        (T.heard observer.old)
+        (T.heard observer.new) (length own.old.items)) }
+    ensures noted { T.noted observer.new ≡ T.noted observer.old }
 {
-    take_stream(engine, stream, own.as_mut_slice(), tap, buf)
+    take_stream(engine, stream, own.as_mut_slice(), observer, buf)
 }
 
-/// Takes the datagrams of all feeds. Returns the time that the run may rest for them, in sampling instants at 48 kHz.
+/// Takes the datagrams of all feeds. Returns the time that the run may pause for them, in sampling instants at 48 kHz.
 pub(crate) fn take_all<F: Feed, T: RunObserver<F>>(
     engine: &mut Engine,
     streams: &mut [Vec<FeedReader<F>>],
-    tap: &mut T,
+    observer: &mut T,
     buf: &mut [u8],
 ) -> Result<i64, ArriveFault>
-    requires room { length buf.old ≡ 2048 }
+    requires space { length buf.old ≡ 2048 }
     ensures takes { OnOk result ((studio : Studio) (events : List TraceEvent) (datagrams : List (List ℕ))
         → HasSession studio engine.old events datagrams
-        → TakesAll F.told studio engine.new events datagrams streams.old streams.new (T.heard tap.old)
-        (T.heard tap.new) (length streams.old)) }
-    ensures noted { T.noted tap.new ≡ T.noted tap.old }
+        → TakesAll F.told studio engine.new events datagrams streams.old streams.new (T.heard observer.old)
+        (T.heard observer.new) (length streams.old)) }
+    ensures noted { T.noted observer.new ≡ T.noted observer.old }
 {
-    let mut most = LONGEST_REST;
+    let mut most = LONGEST_PAUSE;
     for stream in 0..streams.len() {
-        most = take_own(engine, stream, &mut streams[stream], tap, buf)?.min(most);
+        most = take_own(engine, stream, &mut streams[stream], observer, buf)?.min(most);
     }
     Ok(most)
 }

@@ -6,7 +6,7 @@ use path_merge::Path;
 use studio_engine::Engine;
 use studio_session::ArriveOutcome;
 
-/// An observer of a run. It is notified of each datagram and each change of gains that the engine took, of each rest,
+/// An observer of a run. It is notified of each datagram and each change of gains that the engine took, of each pause,
 /// and of the close, in the order of the run.
 ///
 /// Its calls run in the run's thread, so they delay the run.
@@ -19,14 +19,14 @@ pub trait RunObserver<F>: Drop {
     /// the gains, row by row; `None` if they are not known. Once they are not known they never are again.
     ghost noted: { Self → Option (List (ℤ × List ℤ)) };
 
-    /// Notes a datagram of a path, which `feed` just returned. The engine took it at its time and returned `receipt`.
+    /// Notes a datagram of a path, which `feed` just returned. The engine took it at its time and returned `outcome`.
     fn arrived(
         &mut self,
         engine: &Engine,
         stream: usize,
         path: Path,
         octets: &[u8],
-        receipt: ArriveOutcome,
+        outcome: ArriveOutcome,
         feed: &F,
     )
         ensures heard { Hears (heard self.old) (Came stream path engine.now.time octets.now ∷ []) (heard self.new) }
@@ -38,7 +38,7 @@ pub trait RunObserver<F>: Drop {
         ensures heard { Hears (heard self.old) [] (heard self.new) }
         ensures noted { NotesChanges (noted self.old) ((at, gains.now) ∷ []) (noted self.new) };
 
-    /// Notes that the run is about to rest. The observer may look at the engine.
+    /// Notes that the run is about to pause. The observer may look at the engine.
     fn before_wait(&mut self, engine: &Engine)
         ensures heard { Hears (heard self.old) [] (heard self.new) }
         ensures noted { noted self.new ≡ noted self.old };
@@ -54,9 +54,9 @@ pub trait RunObserver<F>: Drop {
 pub struct NoObserver;
 
 impl<F> RunObserver<F> for NoObserver {
-    ghost heard = { λ tap. None };
+    ghost heard = { λ observer. None };
 
-    ghost noted = { λ tap. None };
+    ghost noted = { λ observer. None };
 
     fn arrived(
         &mut self,
@@ -64,7 +64,7 @@ impl<F> RunObserver<F> for NoObserver {
         _stream: usize,
         _path: Path,
         _octets: &[u8],
-        _receipt: ArriveOutcome,
+        _outcome: ArriveOutcome,
         _feed: &F,
     ) {}
 

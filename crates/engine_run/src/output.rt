@@ -70,12 +70,12 @@ pub(crate) fn settle<F: Feed, C: Clock, K: Sink, T: RunObserver<F>>(
         → AllEnded state.old.readers.items
         → IsUnderWay F.told C.told K.handed T.heard studio all clock before earlier state.old
         → IsDone K.handed T.heard studio all clock before earlier state.new }
-    ensures noted { T.noted state.new.tap ≡ T.noted state.old.tap }
+    ensures noted { T.noted state.new.observer ≡ T.noted state.old.observer }
 {
     if state.engine.close().is_err() {
         return false;
     }
-    state.tap.closed(&state.engine);
+    state.observer.closed(&state.engine);
     send_rest(&mut state.engine, &mut state.sink, &mut state.counts);
     state.engine.settled()
 }

@@ -29,7 +29,7 @@ pub(crate) struct ReportBuffers {
 }
 
 impl ReportBuffers {
-    /// Allocates room for the counts of these streams and the faults of their feeds.
+    /// Allocates space for the counts of these streams and the faults of their feeds.
     pub(crate) fn new(alloc: Global, specs: &[StreamSpec]) -> Result<ReportBuffers, AllocError> {
         let streams = Vec::with_capacity(alloc, specs.len())?;
         let mut paths = Vec::with_capacity(alloc, specs.len())?;
@@ -46,12 +46,12 @@ impl ReportBuffers {
     }
 }
 
-/// Returns the counts of the first `count` paths of a stream, in `room`.
+/// Returns the counts of the first `count` paths of a stream, in `buffer`.
 fn path_counts(
     engine: &Engine,
     stream: usize,
     count: u8,
-    room: Vec<PathCounts>,
+    buffer: Vec<PathCounts>,
 ) -> Result<Vec<PathCounts>, AllocError>
     requires few { count < 5 }
     ensures { IfOk result (λ counts. (studio : Studio) (events : List TraceEvent) (datagrams : List (List ℕ))
@@ -59,7 +59,7 @@ fn path_counts(
         → HasSession studio engine.now events datagrams → slice_get studio.streams stream ≡ Some spec
         → tallies_of counts.items ≡ path_tallies spec stream events count) }
 {
-    let mut counts = room;
+    let mut counts = buffer;
     counts.clear();
     for number in 0..count {
         let Some(path) = Path::new(number) else {
@@ -72,19 +72,19 @@ fn path_counts(
     Ok(counts)
 }
 
-/// Returns the counts of a stream, with those of its paths in `room`.
+/// Returns the counts of a stream, with those of its paths in `buffer`.
 fn stream_counts(
     engine: &Engine,
     stream: usize,
     spec: &StreamSpec,
-    room: Vec<PathCounts>,
+    buffer: Vec<PathCounts>,
 ) -> Result<StreamCounts, AllocError>
     ensures { IfOk result (λ counts. (studio : Studio) (events : List TraceEvent) (datagrams : List (List ℕ))
         → HasSession studio engine.now events datagrams → HasAllMarks engine.now
         → slice_get studio.streams stream ≡ Some spec.now
         → AreCountsOf spec.now stream studio.open_at events counts) }
 {
-    let paths = path_counts(engine, stream, spec.paths(), room)?;
+    let paths = path_counts(engine, stream, spec.paths(), buffer)?;
     let merge = match engine.counts(stream) {
         Some(merge) => merge,
         None => Counts::new(),
@@ -92,19 +92,19 @@ fn stream_counts(
     Ok(StreamCounts { paths, merge })
 }
 
-/// Returns the counts of these streams, in `room` and `paths`.
+/// Returns the counts of these streams, in `buffer` and `paths`.
 fn all_counts(
     alloc: Global,
     engine: &Engine,
     specs: &[StreamSpec],
-    room: Vec<StreamCounts>,
+    buffer: Vec<StreamCounts>,
     paths: Vec<Vec<PathCounts>>,
 ) -> Result<Vec<StreamCounts>, AllocError>
     ensures { IfOk result (λ counts. (studio : Studio) (events : List TraceEvent) (datagrams : List (List ℕ))
         → HasSession studio engine.now events datagrams → HasAllMarks engine.now → specs.now ≡ studio.streams
         → AreCounts studio events counts.items) }
 {
-    let mut counts = room;
+    let mut counts = buffer;
     counts.clear();
     let mut paths = paths.into_iter();
     for stream in 0..specs.len() {
@@ -124,14 +124,14 @@ fn push_faults<F: Drop>(own: Vec<FeedReader<F>>, faults: &mut Vec<u64>) -> Resul
     Ok(())
 }
 
-/// Returns the number of faults of each feed, ordered by stream and then by path, in `room`.
+/// Returns the number of faults of each feed, ordered by stream and then by path, in `buffer`.
 fn all_faults<F: Drop>(
     streams: Vec<Vec<FeedReader<F>>>,
-    room: Vec<u64>,
+    buffer: Vec<u64>,
 ) -> Result<Vec<u64>, AllocError>
     ensures { IfOk result (λ faults. faults.items ≡ fault_numbers streams.items) }
 {
-    let mut faults = room;
+    let mut faults = buffer;
     faults.clear();
     for own in streams {
         push_faults(own, &mut faults)?;
@@ -144,14 +144,14 @@ pub(crate) fn work_report<F: Drop, C: Drop, K: Drop, T: Drop>(
     alloc: Global,
     state: RunState<F, C, K, T>,
     specs: &[StreamSpec],
-    room: ReportBuffers,
+    buffer: ReportBuffers,
     settled: bool,
 ) -> Result<(WorkReport, K, T), AllocError>
     ensures balance { IfOk result (λ r. Balances r.0.blocks r.0.sent_a r.0.fault_a r.0.sent_b r.0.fault_b) }
     ensures settled { IfOk result (λ r. r.0.settled ≡ settled) }
     ensures blocks { IfOk result (λ r. r.0.blocks ≡ state.counts.blocks) }
     ensures sink { IfOk result (λ r. r.1 ≡ state.sink) }
-    ensures tap { IfOk result (λ r. r.2 ≡ state.tap) }
+    ensures observer { IfOk result (λ r. r.2 ≡ state.observer) }
     ensures faults { IfOk result (λ r. r.0.feed_faults.items ≡ fault_numbers state.readers.items) }
     ensures counts { IfOk result (λ r. (studio : Studio) (events : List TraceEvent) (datagrams : List (List ℕ))
         → HasSession studio state.engine events datagrams → HasAllMarks state.engine → specs.now ≡ studio.streams
@@ -162,16 +162,16 @@ pub(crate) fn work_report<F: Drop, C: Drop, K: Drop, T: Drop>(
         readers,
         clock: _,
         sink,
-        tap,
+        observer,
         counts,
     } = state;
     let ReportBuffers {
         streams,
         paths,
         faults,
-    } = room;
+    } = buffer;
     let streams = all_counts(alloc, &engine, specs, streams, paths)?;
     let faults = all_faults(readers, faults)?;
     let report = WorkReport::new(streams, faults, counts, settled);
-    Ok((report, sink, tap))
+    Ok((report, sink, observer))
 }

@@ -90,7 +90,7 @@ pub fn run_engine<
         gains,
     } = devices;
     let specs = studio.streams();
-    let room = ReportBuffers::new(alloc, specs)?;
+    let buffer = ReportBuffers::new(alloc, specs)?;
     let engine = Engine::new(alloc, studio)?;
     let (readers, fits) = all_readers(alloc, feeds, specs)?;
     let mut state = RunState {
@@ -98,7 +98,7 @@ pub fn run_engine<
         readers,
         clock,
         sink,
-        tap: observer,
+        observer: observer,
         counts: SendCounts::new(),
     };
     let (mut wait, mut gains) = (wait, gains);
@@ -106,7 +106,7 @@ pub fn run_engine<
     // The engine is closed also after rounds that stopped early, so that the sink gets the datagrams that are left.
     let settled = settle(&mut state) && ended;
     let whole = settled && fits;
-    let (report, sink, observer) = work_report(alloc, state, specs, room, whole)?;
+    let (report, sink, observer) = work_report(alloc, state, specs, buffer, whole)?;
     Ok((report, sink, observer, gains))
 }
 
@@ -114,7 +114,7 @@ pub fn run_engine<
 fn run_rounds<R: Wait, F: Feed, C: Clock, K: Sink, T: RunObserver<F>, P: IdleWait, G: GainSource>(
     rt: &R,
     state: &mut RunState<F, C, K, T>,
-    rest: &mut P,
+    pause: &mut P,
     gains: &mut G,
 ) -> bool
     ensures on { result ≡ true → (studio : Studio) (all : List (List (List Answer))) (clock : List ℤ)
@@ -124,15 +124,15 @@ fn run_rounds<R: Wait, F: Feed, C: Clock, K: Sink, T: RunObserver<F>, P: IdleWai
         (G.taken gains.old) (G.taken gains.new) }
     ensures ended { result ≡ true → AllEnded state.new.readers.items }
     ensures noted { HasNotedTaken (G.taken gains.old) (G.taken gains.new)
-        (T.noted state.old.tap) (T.noted state.new.tap) }
+        (T.noted state.old.observer) (T.noted state.new.observer) }
 {
-    // The first round does not rest: no feed was called yet.
+    // The first round does not pause: no feed was called yet.
     let mut most = 0;
     // The contract of `Feed::next` says what it returns for a buffer of this length only.
     let mut buf = [0u8; MAX_ARRIVAL_OCTETS];
-    let mut room = [0i32; MAX_GAINS];
+    let mut buffer = [0i32; MAX_GAINS];
     for _ in rt.forever() {
-        match state.round(gains, &mut room, rest, most, &mut buf) {
+        match state.round(gains, &mut buffer, pause, most, &mut buf) {
             Ok(Some(instants)) => most = instants,
             Ok(None) => return true,
             Err(_) => return false,

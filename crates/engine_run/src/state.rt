@@ -43,23 +43,23 @@ pub(crate) struct RunState<F, C, K, T> {
     pub(crate) readers: Vec<Vec<FeedReader<F>>>,
     pub(crate) clock: C,
     pub(crate) sink: K,
-    pub(crate) tap: T,
+    pub(crate) observer: T,
     pub(crate) counts: SendCounts,
 }
 
 impl<F: Feed, C: Clock, K: Sink, T: RunObserver<F>> RunState<F, C, K, T> {
     /// Asks the source of gains for requests, at most 64, answers each, and notifies the observer of each change.
-    fn ask<G: GainSource>(&mut self, source: &mut G, room: &mut [i32])
-        requires room { length room.old ≡ 8192 }
+    fn ask<G: GainSource>(&mut self, source: &mut G, buffer: &mut [i32])
+        requires space { length buffer.old ≡ 8192 }
         ensures on { (studio : Studio) (all : List (List (List Answer))) (clock : List ℤ)
             (before : Option (List (List ℕ))) (earlier : Option (List Heard))
             → IsUnderWay F.told C.told K.handed T.heard studio all clock before earlier self.old
             → IsUnderWayWith F.told C.told K.handed T.heard studio all clock before earlier self.new
             (G.taken source.old) (G.taken source.new) }
         ensures noted { HasNotedTaken (G.taken source.old) (G.taken source.new)
-            (T.noted self.old.tap) (T.noted self.new.tap) }
+            (T.noted self.old.observer) (T.noted self.new.observer) }
     {
-        ask_source(&mut self.engine, source, &mut self.tap, room);
+        ask_source(&mut self.engine, source, &mut self.observer, buffer);
     }
 
     /// Reads the clock and sends the datagrams that are due by then.
@@ -68,7 +68,7 @@ impl<F: Feed, C: Clock, K: Sink, T: RunObserver<F>> RunState<F, C, K, T> {
             (before : Option (List (List ℕ))) (earlier : Option (List Heard))
             → IsUnderWay F.told C.told K.handed T.heard studio all clock before earlier self.old
             → IsTurned F.told C.told K.handed T.heard studio all clock before earlier self.new) }
-        ensures tap { self.new.tap ≡ self.old.tap }
+        ensures observer { self.new.observer ≡ self.old.observer }
     {
         let answer = self.clock.now();
         let now = greatest(self.engine.time(), answer);
@@ -82,7 +82,7 @@ impl<F: Feed, C: Clock, K: Sink, T: RunObserver<F>> RunState<F, C, K, T> {
             (before : Option (List (List ℕ))) (earlier : Option (List Heard))
             → IsTurned F.told C.told K.handed T.heard studio all clock before earlier self.old
             → IsTurned F.told C.told K.handed T.heard studio all clock before earlier self.new) }
-        ensures tap { self.new.tap ≡ self.old.tap }
+        ensures observer { self.new.observer ≡ self.old.observer }
     {
         if is_new {
             return Ok(());
@@ -90,52 +90,52 @@ impl<F: Feed, C: Clock, K: Sink, T: RunObserver<F>> RunState<F, C, K, T> {
         self.turn()
     }
 
-    /// Notifies the observer that the run is about to rest.
+    /// Notifies the observer that the run is about to pause.
     fn notify_before_wait(&mut self)
         ensures on { (studio : Studio) (all : List (List (List Answer))) (clock : List ℤ)
             (before : Option (List (List ℕ))) (earlier : Option (List Heard))
             → IsTurned F.told C.told K.handed T.heard studio all clock before earlier self.old
             → IsTurned F.told C.told K.handed T.heard studio all clock before earlier self.new }
         ensures readers { self.new.readers ≡ self.old.readers }
-        ensures noted { T.noted self.new.tap ≡ T.noted self.old.tap }
+        ensures noted { T.noted self.new.observer ≡ T.noted self.old.observer }
     {
-        self.tap.before_wait(&self.engine);
+        self.observer.before_wait(&self.engine);
     }
 
-    /// Takes the datagrams of the feeds. Returns the time that the run may rest for them, in sampling instants at
+    /// Takes the datagrams of the feeds. Returns the time that the run may pause for them, in sampling instants at
     /// 48 kHz.
     fn take(&mut self, buf: &mut [u8]) -> Result<i64, EngineStopped>
-        requires room { length buf.old ≡ 2048 }
+        requires space { length buf.old ≡ 2048 }
         ensures on { OnOk result ((studio : Studio) (all : List (List (List Answer))) (clock : List ℤ)
             (before : Option (List (List ℕ))) (earlier : Option (List Heard))
             → IsTurned F.told C.told K.handed T.heard studio all clock before earlier self.old
             → IsUnderWay F.told C.told K.handed T.heard studio all clock before earlier self.new) }
-        ensures noted { T.noted self.new.tap ≡ T.noted self.old.tap }
+        ensures noted { T.noted self.new.observer ≡ T.noted self.old.observer }
     {
         let most = take_all(
             &mut self.engine,
             self.readers.as_mut_slice(),
-            &mut self.tap,
+            &mut self.observer,
             buf,
         )?;
         Ok(most)
     }
 
     /// Makes one round: answers the requests of the source of gains, reads the clock, sends the datagrams that are due,
-    /// notifies the observer, rests for at most `most` sampling instants, and takes the datagrams of the feeds. Reads
-    /// the clock again after the rest if it was long.
+    /// notifies the observer, pauses for at most `most` sampling instants, and takes the datagrams of the feeds. Reads
+    /// the clock again after the pause if it was long.
     ///
-    /// Returns the time that the next round may rest, in sampling instants at 48 kHz; `None` if all feeds had ended.
+    /// Returns the time that the next round may pause, in sampling instants at 48 kHz; `None` if all feeds had ended.
     pub(crate) fn round<G: GainSource, P: IdleWait>(
         &mut self,
         source: &mut G,
-        room: &mut [i32],
-        rest: &mut P,
+        buffer: &mut [i32],
+        pause: &mut P,
         most: i64,
         buf: &mut [u8],
     ) -> Result<Option<i64>, EngineStopped>
-        requires room { length buf.old ≡ 2048 }
-        requires gains { length room.old ≡ 8192 }
+        requires space { length buf.old ≡ 2048 }
+        requires gains { length buffer.old ≡ 8192 }
         ensures on { OnOk result ((studio : Studio) (all : List (List (List Answer))) (clock : List ℤ)
             (before : Option (List (List ℕ))) (earlier : Option (List Heard))
             → IsUnderWay F.told C.told K.handed T.heard studio all clock before earlier self.old
@@ -143,21 +143,21 @@ impl<F: Feed, C: Clock, K: Sink, T: RunObserver<F>> RunState<F, C, K, T> {
             (G.taken source.old) (G.taken source.new)) }
         ensures ended { IfOk result (λ most. most ≡ None → AllEnded self.new.readers.items) }
         ensures noted { HasNotedTaken (G.taken source.old) (G.taken source.new)
-            (T.noted self.old.tap) (T.noted self.new.tap) }
+            (T.noted self.old.observer) (T.noted self.new.observer) }
     {
         // Before the clock is read: a change that is asked for now is in force from the first block that this round
         // sends.
-        self.ask(source, room);
+        self.ask(source, buffer);
         self.turn()?;
         if have_all_ended(self.readers.as_slice()) {
             return Ok(None);
         }
         self.notify_before_wait();
         let most = until_deadline(&self.engine, most);
-        // The rest comes between the clock reading and the datagrams: a datagram that arrives in a short rest is judged
-        // by the reading before the rest, so it is not late if it came in time. After a long rest that reading is too
-        // old, and the clock is read again.
-        let is_new = rest.wait_for_input(&self.engine, most);
+        // The pause comes between the clock reading and the datagrams: a datagram that arrives in a short pause is
+        // judged by the reading before the pause, so it is not late if it came in time. After a long pause that reading
+        // is too old, and the clock is read again.
+        let is_new = pause.wait_for_input(&self.engine, most);
         self.turn_if_stale(is_new)?;
         let most = self.take(buf)?;
         Ok(Some(most))
@@ -172,7 +172,7 @@ fn greatest(time: i64, answer: i64) -> i64
     time.max(answer.min(MAX_TIME))
 }
 
-/// Returns the time that a run may rest, in sampling instants: `most`, or the time to the engine's next deadline if
+/// Returns the time that a run may pause, in sampling instants: `most`, or the time to the engine's next deadline if
 /// that is shorter.
 fn until_deadline(engine: &Engine, most: i64) -> i64 {
     match engine.next_deadline() {

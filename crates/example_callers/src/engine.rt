@@ -14,14 +14,14 @@ use studio_io::Sink;
 /// Moves an engine to a clock reading and sends each datagram that is then due.
 ///
 /// Call it when `Engine::next_deadline` is reached, and at the time of each arrival before `Engine::arrive`.
-/// `out` has room for one datagram. After an error the engine is as it was, and nothing was sent.
+/// `out` has space for one datagram. After an error the engine is as it was, and nothing was sent.
 pub fn send_due<K: Sink>(
     engine: &mut Engine,
     now: i64,
     out: &mut [u8],
     sink: &mut K,
 ) -> Result<(), ClockFault>
-    requires room { datagram_length engine.old.mixer.packer.spec ≤ length out.old }
+    requires space { datagram_length engine.old.mixer.packer.spec ≤ length out.old }
     ensures sent { OnOk result ((studio : Studio) (events : List TraceEvent) (datagrams : List (List ℕ))
         → HasSession studio engine.old events datagrams
         → HasSentReady studio engine.new (turned engine.old.time now events) datagrams
@@ -41,7 +41,7 @@ pub fn send_due<K: Sink>(
 
 /// Sends each datagram that is left after `Engine::close`.
 pub fn send_rest<K: Sink>(engine: &mut Engine, out: &mut [u8], sink: &mut K)
-    requires room { datagram_length engine.old.mixer.packer.spec ≤ length out.old }
+    requires space { datagram_length engine.old.mixer.packer.spec ≤ length out.old }
     ensures sent { (studio : Studio) (events : List TraceEvent) (datagrams : List (List ℕ))
         → HasSession studio engine.old events datagrams
         → HasSent studio engine.new events datagrams (K.handed sink.old) (K.handed sink.new) }

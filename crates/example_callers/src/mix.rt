@@ -68,7 +68,7 @@ pub fn feed_wanted(mixer: &mut Mixer, stream: usize, marks: &[Mark]) -> usize
 /// The next call goes on with the marks that were not taken.
 pub fn mix_next(mixer: &mut Mixer, first: &[Mark], second: &[Mark], out: &mut [u8]) -> Mixed
     requires streams { length mixer.old.lanes ≡ 2 }
-    requires room { datagram_length mixer.old.packer.spec ≤ length out.old }
+    requires space { datagram_length mixer.old.packer.spec ≤ length out.old }
     ensures first { result.first ≤ length first.now }
     ensures second { result.second ≤ length second.now }
     ensures taken { (studio : Studio) (a b : Feed) (number : ℕ) → HasFeeds studio mixer.old (a ∷ b ∷ []) number

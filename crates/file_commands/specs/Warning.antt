@@ -1,6 +1,6 @@
 -- When `check` warns of a window.
 use Rattle.std.specs.Prelude.{◌*◌, Bool, ◌&&◌, nat_lt}
-use Rattle.rtp_stream.specs.Standing.{is_following}
+use Rattle.rtp_stream.specs.Follow.{is_following}
 use Rattle.rtp_stream.specs.declared.stream_spec.Stream.{Stream}
 
 -- the clock follows its sender, and the window spans less than twice the latency

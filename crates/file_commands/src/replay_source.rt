@@ -178,8 +178,8 @@ fn record_by(studio: StudioSpec, args: &ReplayArgs<'_>) -> ReplaySource
 }
 
 /// Returns the rule for the changes of gains of a record: a file of gains takes their place.
-// A mix of both would be that of no desk: the changes of the file would meet gains that they were not made for. So a
-// file says what the run would have sent with its own changes and no others.
+// A mix of both would be one that nobody made: the changes of the file would meet gains that they were not made for. So
+// a file says what the run would have sent with its own changes and no others.
 fn recorded_changes(args: &ReplayArgs<'_>) -> RecordedChanges
     ensures taken { args.now.gains ≡ None → result ≡ RecordedChanges.Taken }
     ensures skipped { args.now.gains ≢ None → result ≡ RecordedChanges.Skipped }

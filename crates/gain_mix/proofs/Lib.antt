@@ -4,5 +4,5 @@ pub mod FrameLemmas
 pub mod ChangeLemmas
 pub mod SilenceLemmas
 pub mod SaturatedLemmas
-pub mod LiveLemmas
+pub mod LiveScheduleLemmas
 mod WorkedCases

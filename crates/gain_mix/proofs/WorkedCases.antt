@@ -1,8 +1,8 @@
 -- Changes that are taken while a schedule is in use, worked by hand: one output and one input.
 use Rattle.std.specs.Prelude.{◌≡◌, ℤ, pos, List, [], ◌∷◌, replicate, None, Some, refl}
 use Rattle.gain_mix.specs.Changes.{Changes, matrix_at, rest_at, with_change}
-use Rattle.gain_mix.specs.Live.{change_fault_of}
-use Rattle.gain_mix.specs.declared.live.ChangeFault.TheVariants.{Shape, Range, Time, TooMany}
+use Rattle.gain_mix.specs.LiveSchedule.{change_fault_of}
+use Rattle.gain_mix.specs.declared.live_schedule.ChangeFault.TheVariants.{Shape, Range, Time, TooMany}
 
 -- a matrix of one gain
 abbrev one : ℤ → List (List ℤ)

@@ -1,7 +1,7 @@
 pub mod Changes
 pub mod Four
 pub mod Gain
-pub mod Live
+pub mod LiveSchedule
 pub mod Matrix
 pub mod Mix
 pub mod Saturated

@@ -13,13 +13,13 @@
 #![tactic(auto)]
 
 mod four_rows;
-mod live;
+mod live_schedule;
 mod matrix;
 mod mix;
 mod saturation;
 mod schedule;
 
-pub use live::{ChangeFault, LiveSchedule};
+pub use live_schedule::{ChangeFault, LiveSchedule};
 pub use matrix::{Matrix, MatrixFault};
 pub use mix::{mix_block, mix_frame};
 pub use saturation::mix_counted;

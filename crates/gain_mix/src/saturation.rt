@@ -25,7 +25,7 @@ ghost use Rattle.gain_mix.specs.Changes.{matrix_at};
 ghost use Rattle.gain_mix.specs.Mix.{Is24Bits, IsMixed, mixed_frame, output_sample, rounded_sum, saturated_sum};
 ghost use Rattle.gain_mix.specs.Saturated.{AreAdded, is_saturated, is_saturated_sample, saturated_at, saturated_count};
 
-use crate::live::LiveSchedule;
+use crate::live_schedule::LiveSchedule;
 use crate::matrix::Matrix;
 use crate::mix::{rounded, saturated, weighted_sum};
 use crate::schedule::mix_span;

@@ -21,7 +21,7 @@ ghost use Rattle.gain_mix.specs.Changes.{last_change, matrix_at};
 ghost use Rattle.gain_mix.specs.Mix.{Is24Bits, IsMixed};
 ghost use Rattle.gain_mix.specs.Schedule.{IsChanges, schedule_fault_of, has_one_shape, has_times, is_rising};
 
-use crate::live::LiveSchedule;
+use crate::live_schedule::LiveSchedule;
 use crate::matrix::Matrix;
 use crate::mix::{is_silent, mix_frame};
 use std::alloc::{AllocError, Global};

@@ -22,7 +22,7 @@ pub frame_stored : (base : List ℤ) (channels i frames capacity : ℕ) (stored 
     → new ≡ buffer (stored.items ++ take r (take channels (replicate 64 (pos 0)))) stored.capacity
     → channels ≤ 64 → length base + frames * channels ≤ capacity → i < frames
     → new ≡ buffer (base ++ silence channels (i + 1)) capacity
-frame_stored base channels i frames capacity stored new r e k h few room lt =
+frame_stored base channels i frames capacity stored new r e k h few space lt =
     let items : stored.items ≡ base ++ silence channels i = ap (λ (b : Buffer ℤ). b.items) e in
     let cap : stored.capacity ≡ capacity = ap (λ (b : Buffer ℤ). b.capacity) e in
     let len : length stored.items ≡ length base + i * channels =
@@ -253,7 +253,7 @@ no_gap channels block lead front gap stored held short = elim (cases_lt 0 gap) [
 ]
 
 abbrev pub held_of : ℕ → ℕ → ℕ → List ℤ → Held
-held_of channels block room values = record { channels = channels; block = block; room = room; values = values }
+held_of channels block capacity values = record { channels = channels; block = block; capacity = capacity; values = values }
 
 -- silence and samples are added at the end
 pub values_added : (channels block lead front gap : ℕ) (stored : List ℤ) → IsHeld channels block lead front gap stored → (silent more capacity r end : ℕ) (samples : List ℤ) (old silenced new : Buffer ℤ)
@@ -265,7 +265,7 @@ pub values_added : (channels block lead front gap : ℕ) (stored : List ℤ) →
     → r ≡ min (length samples) (silenced.capacity - length silenced.items)
     → new ≡ buffer (silenced.items ++ take r samples) silenced.capacity
     → held_of channels block new.capacity (values_held channels lead end more new.items) ≡ held_of channels block capacity (values_held channels lead front gap stored ++ (silence channels (silent + more) ++ samples))
-values_added channels block lead front gap stored held silent more capacity r end samples old silenced new e_old within room e_silenced e_end e_r e_new =
+values_added channels block lead front gap stored held silent more capacity r end samples old silenced new e_old within space e_silenced e_end e_r e_new =
     let none : gap ≡ 0 = no_gap channels block lead front gap stored held (omega arith) in
     let plain = without_gap channels lead front gap stored none in
     let len = length_held channels lead front gap stored held.front_stored in
@@ -300,7 +300,7 @@ pub values_appended : (channels block lead front gap : ℕ) (stored : List ℤ) 
     → r ≡ min (length samples) (silenced.capacity - length silenced.items)
     → new ≡ buffer (silenced.items ++ take r samples) silenced.capacity
     → held_of channels block new.capacity (values_held channels lead front gap new.items) ≡ held_of channels block capacity (values_held channels lead front gap stored ++ (silence channels silent ++ samples))
-values_appended channels block lead front gap stored held silent capacity r samples old silenced new e_old room e_silenced e_r e_new =
+values_appended channels block lead front gap stored held silent capacity r samples old silenced new e_old space e_silenced e_r e_new =
     let len = length_held channels lead front gap stored held.front_stored in
     let items : silenced.items ≡ stored ++ silence channels silent = ap (λ (b : Buffer ℤ). b.items) e_silenced in
     let cap : silenced.capacity ≡ capacity = ap (λ (b : Buffer ℤ). b.capacity) e_silenced in

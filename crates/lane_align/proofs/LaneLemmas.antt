@@ -30,11 +30,11 @@ fed_next stream from size lane marks t mark fed =
     ∙ sym (next_is (format_of stream) marks mark fed.mark_list)
 
 abbrev pub lane_of : PacketFormat → ℤ → ℕ → ℤ → Option LastSlot → Option ℤ → Bool → ℕ → List ℤ → LaneState
-lane_of format start block position slot quiet ended room values = record { format = format; start = start; block = block; position = position; slot = slot; quiet = quiet; ended = ended; room = room; values = values }
+lane_of format start block position slot quiet ended capacity values = record { format = format; start = start; block = block; position = position; slot = slot; quiet = quiet; ended = ended; capacity = capacity; values = values }
 
 -- a lane after a block was read
 abbrev pub after_block : LaneState → List ℤ → LaneState
-after_block lane values = record { format = lane.format; start = lane.start; block = lane.block; position = lane.position +ℤ pos lane.block; slot = lane.slot; quiet = lane.quiet; ended = lane.ended; room = lane.room; values = values }
+after_block lane values = record { format = lane.format; start = lane.start; block = lane.block; position = lane.position +ℤ pos lane.block; slot = lane.slot; quiet = lane.quiet; ended = lane.ended; capacity = lane.capacity; values = values }
 
 -- the distance to a later time is its difference, and the distance to an earlier time is 0
 pub data Distance (z : ℤ) : Type 0 where
@@ -109,9 +109,9 @@ block_sound lane held next sound early e = record {
   values = refl;
   channels = ap (λ (h : Held). h.channels) e ∙ sound.channels;
   held_block = ap (λ (h : Held). h.block) e ∙ sound.held_block;
-  room = ap (λ (h : Held). h.room) e ∙ sound.room;
-  enough_room = sound.enough_room;
-  small_room = sound.small_room;
+  capacity = ap (λ (h : Held). h.capacity) e ∙ sound.capacity;
+  enough_capacity = sound.enough_capacity;
+  small_capacity = sound.small_capacity;
   left =
       let n = lane.block * lane.format.channels in
       let before = frames_left lane.format.frames lane.position lane.slot in

@@ -262,16 +262,16 @@ slot_length lane held slot body sound fits after =
     ∙ sum
     ∙ ap (λ n. n * c) total
 
--- if there is room for the frames to the slot's end, there is room for all values that are added
-pub kept_room : (lane : LaneState) (held : Held) (slot : LastSlot) (body : Body) (silent past_by skipped : ℕ)
+-- if there is space for the frames to the slot's end, there is space for all values that are added
+pub kept_space : (lane : LaneState) (held : Held) (slot : LastSlot) (body : Body) (silent past_by skipped : ℕ)
     → IsLane lane held → HasLength (payload_length lane.format) body
     → silent ≡ frames_between lane.position slot.media - frames_left lane.format.frames lane.position lane.slot
     → past_by ≡ frames_between slot.media lane.position
     → skipped ≡ min past_by lane.format.frames
     → IsAfter lane.format.frames lane.slot slot.media
-    → frames_between lane.position (slot.media +ℤ pos lane.format.frames) ≤ lane.room
-    → length held.values + silent * held.channels + (lane.format.frames * lane.format.channels - skipped * lane.format.channels) ≤ held.room
-kept_room lane held slot body silent past_by skipped sound fits gap e_past e_skipped after room =
+    → frames_between lane.position (slot.media +ℤ pos lane.format.frames) ≤ lane.capacity
+    → length held.values + silent * held.channels + (lane.format.frames * lane.format.channels - skipped * lane.format.channels) ≤ held.capacity
+kept_space lane held slot body silent past_by skipped sound fits gap e_past e_skipped after space =
     let c = lane.format.channels in
     let rest = drop (skipped * c) (body_samples lane.format body) in
     let next = record held { values = held.values ++ (silence held.channels silent ++ rest) } in
@@ -282,15 +282,15 @@ kept_room lane held slot body silent past_by skipped sound fits gap e_past e_ski
     let inner = length-append (silence held.channels silent) rest in
     let gap_len : length (silence held.channels silent) ≡ silent * held.channels = length-replicate (silent * held.channels) (pos 0) in
     let rest_len : length rest ≡ lane.format.frames * c - skipped * c = length-drop (skipped * c) (body_samples lane.format body) ∙ ap (λ n. n - skipped * c) (body_length lane.format body fits) in
-    let wide : frames_between lane.position (slot.media +ℤ pos lane.format.frames) * c ≤ lane.room * c = mul-le-mul_right c room in
-    let e_room : held.room ≡ lane.room * c = sound.room in
+    let wide : frames_between lane.position (slot.media +ℤ pos lane.format.frames) * c ≤ lane.capacity * c = mul-le-mul_right c space in
+    let e_capacity : held.capacity ≡ lane.capacity * c = sound.capacity in
     omega arith
 
 -- what holds for every lane holds for a lane after one more slot
 pub slot_sound : (lane : LaneState) (held next : Held) (slot : LastSlot) (body : Body)
     → IsLane lane held → IsSlot (Some slot) → HasLength (payload_length lane.format) body → IsAfter lane.format.frames lane.slot slot.media
     → next ≡ record held { values = (with_slot lane slot body).values } → All Is24Bits (body_samples lane.format body)
-    → IsLane (lane_of lane.format lane.start lane.block lane.position (Some slot) lane.quiet lane.ended lane.room next.values) next
+    → IsLane (lane_of lane.format lane.start lane.block lane.position (Some slot) lane.quiet lane.ended lane.capacity next.values) next
 slot_sound lane held next slot body sound small fits after e in_24_bits = record {
   some_channels = sound.some_channels;
   few_channels = sound.few_channels;
@@ -312,15 +312,15 @@ slot_sound lane held next slot body sound small fits after e in_24_bits = record
   values = refl;
   channels = ap (λ (h : Held). h.channels) e ∙ sound.channels;
   held_block = ap (λ (h : Held). h.block) e ∙ sound.held_block;
-  room = ap (λ (h : Held). h.room) e ∙ sound.room;
-  enough_room = sound.enough_room;
-  small_room = sound.small_room;
+  capacity = ap (λ (h : Held). h.capacity) e ∙ sound.capacity;
+  enough_capacity = sound.enough_capacity;
+  small_capacity = sound.small_capacity;
   left = ap (λ (h : Held). length h.values) e ∙ slot_length lane held slot body sound fits after;
 }
 
 -- the silence fits the block
-pub block_room : (len left stored block c held_c held_block : ℕ) → len ≡ left * c → held_c ≡ c → held_block ≡ block → left + stored ≤ block → len + stored * held_c ≤ held_block * held_c
-block_room len left stored block c held_c held_block e_len e_c e_block h =
+pub block_space : (len left stored block c held_c held_block : ℕ) → len ≡ left * c → held_c ≡ c → held_block ≡ block → left + stored ≤ block → len + stored * held_c ≤ held_block * held_c
+block_space len left stored block c held_c held_block e_len e_c e_block h =
     let more : (left + stored) * c ≤ block * c = mul-le-mul_right c h in
     let sum : (left + stored) * c ≡ left * c + stored * c = omega arith in
     let a : stored * held_c ≡ stored * c = ap (λ x. stored * x) e_c in
@@ -406,11 +406,11 @@ left_of frames t block false (Some s) (Some u) some h =
 pub wanted_left : (lane : LaneState) → 0 < lane.block → is_wanting lane (lane.position +ℤ pos lane.block) ≡ true → frames_left lane.format.frames lane.position lane.slot < lane.block
 wanted_left lane some h = left_of lane.format.frames lane.position lane.block lane.ended lane.slot lane.quiet some h
 
--- there is room for a block and a packet
-pub slot_room : (held_block block held_c c p room held_room skipped : ℕ) → held_block ≡ block → held_c ≡ c → block + p ≤ room → held_room ≡ room * c
-    → held_block * held_c + (p * c - skipped * c) ≤ held_room
-slot_room held_block block held_c c p room held_room skipped e_block e_held enough e_room =
+-- there is space for a block and a packet
+pub slot_space : (held_block block held_c c p capacity held_capacity skipped : ℕ) → held_block ≡ block → held_c ≡ c → block + p ≤ capacity → held_capacity ≡ capacity * c
+    → held_block * held_c + (p * c - skipped * c) ≤ held_capacity
+slot_space held_block block held_c c p capacity held_capacity skipped e_block e_held enough e_capacity =
     let a : held_block * held_c ≡ block * c = ap (λ x. x * held_c) e_block ∙ ap (λ x. block * x) e_held in
     let sum : (block + p) * c ≡ block * c + p * c = omega arith in
-    let wide : (block + p) * c ≤ room * c = mul-le-mul_right c enough in
+    let wide : (block + p) * c ≤ capacity * c = mul-le-mul_right c enough in
     omega arith

@@ -1,11 +1,11 @@
 -- The values that a lane holds from its position on.
 use Rattle.std.specs.Prelude.{◌≡◌, ℕ, ◌+◌, ◌*◌, ◌^◌, ◌<◌, ◌≤◌, List, ◌++◌, length, take, drop, replicate, ℤ, pos}
 
--- values, frame by frame; `room` is the number of values that may be stored
+-- values, frame by frame; `capacity` is the number of values that may be stored
 pub record Held : Type 0 where
   pub channels : ℕ
   pub block : ℕ
-  pub room : ℕ
+  pub capacity : ℕ
   pub values : List ℤ
 
 -- `frames` frames of silence

@@ -17,7 +17,7 @@ use Rattle.lane_align.specs.HeldValues.{Held, silence}
 use Rattle.std.specs.List.{All}
 use Rattle.rtp_wire.specs.Sample.{Is24Bits, samples_of}
 
--- a lane as contracts see it: its format and start, its block size and room, its last marks, and the values from its
+-- a lane as contracts see it: its format and start, its block size and capacity, its last marks, and the values from its
 -- position to the end of its last slot
 pub record LaneState : Type 0 where
   pub format : PacketFormat
@@ -27,7 +27,7 @@ pub record LaneState : Type 0 where
   pub slot : Option LastSlot
   pub quiet : Option ℤ
   pub ended : Bool
-  pub room : ℕ
+  pub capacity : ℕ
   pub values : List ℤ
 
 abbrev pub cover_at : LaneState → Cover
@@ -75,9 +75,9 @@ frames_to lane (Slot epoch number media body) = frames_between lane.position (me
 frames_to lane (Quiet until) = 0
 frames_to lane End = 0
 
--- there is room for the frames of a mark
-abbrev pub has_room_for : LaneState → MarkView → Bool
-has_room_for lane mark = nat_le (frames_to lane mark.kind) lane.room
+-- there is space for the frames of a mark
+abbrev pub has_space_for : LaneState → MarkView → Bool
+has_space_for lane mark = nat_le (frames_to lane mark.kind) lane.capacity
 
 -- the samples of a slot, frame by frame
 abbrev pub body_samples : PacketFormat → Body → List ℤ
@@ -106,12 +106,12 @@ pub record HasFeed (stream : Stream) (from : ℤ) (size : ℕ) (lane : LaneState
   pub values : (frame channel : ℕ) → channel < stream.channels
       → slice_index_or lane.values (frame * stream.channels + channel) (pos 0) ≡ value_at (format_of stream) marks (t +ℤ pos frame) channel
 
--- the format, the start, the block size and the room are unchanged
+-- the format, the start, the block size and the capacity are unchanged
 pub record HasSameFacts (old new : LaneState) : Type 0 where
   pub format : new.format ≡ old.format
   pub start : new.start ≡ old.start
   pub block : new.block ≡ old.block
-  pub room : new.room ≡ old.room
+  pub capacity : new.capacity ≡ old.capacity
 
 abbrev pub IsSlot : Option LastSlot → Type 0
 IsSlot None = Unit {0}
@@ -139,7 +139,7 @@ pub record IsLane (lane : LaneState) (held : Held) : Type 0 where
   pub values : lane.values ≡ held.values
   pub channels : held.channels ≡ lane.format.channels
   pub held_block : held.block ≡ lane.block
-  pub room : held.room ≡ lane.room * lane.format.channels
-  pub enough_room : lane.block + lane.format.frames ≤ lane.room
-  pub small_room : lane.room ≤ 2 ^ 24
+  pub capacity : held.capacity ≡ lane.capacity * lane.format.channels
+  pub enough_capacity : lane.block + lane.format.frames ≤ lane.capacity
+  pub small_capacity : lane.capacity ≤ 2 ^ 24
   pub left : length held.values ≡ frames_left lane.format.frames lane.position lane.slot * lane.format.channels

@@ -31,7 +31,7 @@ impl Model for FrameQueue {
 
     ghost Value = { Held };
 
-    ghost view = { λ q. record { channels = q.channels; block = q.block; room = q.stored.capacity; values = values_held q.channels q.lead q.front q.gap q.stored.items } };
+    ghost view = { λ q. record { channels = q.channels; block = q.block; capacity = q.stored.capacity; values = values_held q.channels q.lead q.front q.gap q.stored.items } };
 
     ghost invariant = { λ q. IsHeld q.channels q.block q.lead q.front q.gap q.stored.items };
 }
@@ -39,7 +39,7 @@ impl Model for FrameQueue {
 /// Stores `frames` frames of silence.
 fn store_silence(stored: &mut HeapCircularBuffer<i32>, channels: usize, frames: usize)
     requires few_channels { channels ≤ 64 }
-    requires room { length stored.old.items + frames * channels ≤ stored.old.capacity }
+    requires space { length stored.old.items + frames * channels ≤ stored.old.capacity }
     ensures { stored.new ≡ buffer (stored.old.items ++ silence channels frames) stored.old.capacity }
 {
     // The index has a name, since the loop's invariant counts by it.
@@ -49,7 +49,7 @@ fn store_silence(stored: &mut HeapCircularBuffer<i32>, channels: usize, frames: 
 }
 
 impl FrameQueue {
-    /// Returns an empty queue with room for a block and `more` frames, or an error if its allocation fails.
+    /// Returns an empty queue with space for a block and `more` frames, or an error if its allocation fails.
     pub fn new(
         alloc: Global,
         channels: usize,
@@ -61,7 +61,7 @@ impl FrameQueue {
         requires short_block { block ≤ 192 }
         requires few_more { more ≤ 2 ^ 24 }
         ensures { IfOk result
-            (λ q. q ≡ record { channels = channels; block = block; room = (block + more) * channels; values = [] }) }
+            (λ q. q ≡ record { channels = channels; block = block; capacity = (block + more) * channels; values = [] }) }
     {
         let stored = HeapCircularBuffer::with_capacity(alloc, (block + more) * channels)?;
         Ok(FrameQueue {
@@ -81,7 +81,7 @@ impl FrameQueue {
         requires block_end { 0 < gap → length self.old.values + silent * self.old.channels
             ≡ self.old.block * self.old.channels }
         requires small { gap < 2 ^ 62 }
-        requires room { self.old.block * self.old.channels + length samples.now ≤ self.old.room }
+        requires space { self.old.block * self.old.channels + length samples.now ≤ self.old.capacity }
         ensures { self.new ≡
             record self.old { values = self.old.values ++ (silence self.old.channels (silent + gap) ++ samples.now) } }
     {
@@ -93,7 +93,7 @@ impl FrameQueue {
 
     /// Adds frames of silence and then `samples`, all of them stored.
     pub fn append(&mut self, silent: usize, samples: &[i32])
-        requires room { length self.old.values + silent * self.old.channels + length samples.now ≤ self.old.room }
+        requires space { length self.old.values + silent * self.old.channels + length samples.now ≤ self.old.capacity }
         ensures { self.new ≡
             record self.old { values = self.old.values ++ (silence self.old.channels silent ++ samples.now) } }
     {

@@ -45,7 +45,7 @@ use crate::frame_queue::FrameQueue;
 use crate::last_slot::{
     LastSlot, frames_before, frames_between, frames_left, may_follow_slot, time_reached_by,
 };
-use crate::slot_samples::{EMPTY_ROOM, SlotRoom, add_slot, append_slot};
+use crate::slot_samples::{EMPTY_SLOT, SlotBuffer, add_slot, append_slot};
 use rtp_stream::{Mark, MarkKindRef, MarkRef, PacketFormat, StreamSpec};
 use rtp_wire::Enc;
 use std::alloc::{AllocError, Global};
@@ -54,7 +54,7 @@ use std::marker::Model;
 /// The values of one stream, whose marks are taken one by one and whose values are read block by block.
 ///
 /// Inputs: `feed`, with a mark that the lane `accepts`, while it `wants` one for the next block; `feed_ref` and
-/// `accepts_ref` with a borrowed mark; `keep_ref` if it `has_room`, though it wants no mark.
+/// `accepts_ref` with a borrowed mark; `keep_ref` if it `has_space`, though it wants no mark.
 /// Outputs: `read_block`, once it wants no mark for the block. Readers: `cover`, `end`, `position`.
 #[derive(Drop)]
 pub struct Lane {
@@ -66,11 +66,11 @@ pub struct Lane {
     quiet: Option<i64>,
     ended: bool,
     /// The number of frames from the position on that may be stored.
-    room: u32,
+    capacity: u32,
     values: FrameQueue,
-    /// The room into which a slot's samples are read, on their way to the values.
+    /// The buffer into which a slot's samples are read, on their way to the values.
     // Kept, so that it isn't blanked for each slot.
-    samples: SlotRoom,
+    samples: SlotBuffer,
 }
 
 impl Model for Lane {
@@ -78,7 +78,7 @@ impl Model for Lane {
 
     ghost Value = { LaneState };
 
-    ghost view = { λ l. record { format = l.format; start = l.start; block = l.block; position = l.position; slot = l.slot; quiet = l.quiet; ended = l.ended; room = l.room; values = l.values.values } };
+    ghost view = { λ l. record { format = l.format; start = l.start; block = l.block; position = l.position; slot = l.slot; quiet = l.quiet; ended = l.ended; capacity = l.capacity; values = l.values.values } };
 
     ghost invariant = { λ l. IsLane (view l) l.values };
 }
@@ -103,7 +103,7 @@ impl Lane {
       end_at,
       is_wanting,
       is_next,
-      has_room_for,
+      has_space_for,
       last_kind,
     };
     ghost use Rattle.rtp_stream.specs.MarkFacts.{IsMark};
@@ -117,32 +117,32 @@ impl Lane {
         ensures { IfOk result (λ lane. HasFeed spec start block lane [] start) }
     {
         // A lane that takes a mark only while its next block wants one never holds more than a block and a packet.
-        let room = u32::from(block) + u32::from(spec.frames());
-        Lane::with_room(alloc, spec, start, block, room)
+        let capacity = u32::from(block) + u32::from(spec.frames());
+        Lane::with_capacity(alloc, spec, start, block, capacity)
     }
 
-    /// Returns a lane as `new` does, with room for `room` frames from its position on: for marks that come before
-    /// they are wanted.
+    /// Returns a lane as `new` does, with a capacity of `capacity` frames from its position on: for marks that come
+    /// before they are wanted.
     ///
-    /// `room` is at least a block and a packet, and at most 2^24 frames.
-    pub fn with_room(
+    /// `capacity` is at least a block and a packet, and at most 2^24 frames.
+    pub fn with_capacity(
         alloc: Global,
         spec: StreamSpec,
         start: i64,
         block: u16,
-        room: u32,
+        capacity: u32,
     ) -> Result<Lane, AllocError>
         requires not_low { pos 0 ≤ℤ start }
         requires not_high { start ≤ℤ pos (2 ^ 60) }
         requires block { is_packet_time block ≡ true }
-        requires enough { block + spec.frames ≤ room }
-        requires few { room ≤ 2 ^ 24 }
+        requires enough { block + spec.frames ≤ capacity }
+        requires few { capacity ≤ 2 ^ 24 }
         ensures stands { IfOk result (λ lane. HasFeed spec start block lane [] start) }
-        ensures room { IfOk result (λ lane. lane.room ≡ room) }
+        ensures space { IfOk result (λ lane. lane.capacity ≡ capacity) }
     {
         let format = spec.format();
         let channels = usize::from(spec.channels());
-        let more = room - u32::from(block);
+        let more = capacity - u32::from(block);
         let values = FrameQueue::new(alloc, channels, usize::from(block), more as usize)?;
         Ok(Lane {
             format,
@@ -152,9 +152,9 @@ impl Lane {
             slot: None,
             quiet: None,
             ended: false,
-            room,
+            capacity,
             values,
-            samples: EMPTY_ROOM,
+            samples: EMPTY_SLOT,
         })
     }
 
@@ -301,16 +301,16 @@ impl Lane {
         self.take(mark);
     }
 
-    /// Returns true if there is room for the frames of a mark, whether or not the lane wants one.
+    /// Returns true if there is space for the frames of a mark, whether or not the lane wants one.
     ///
     /// A slot needs as many as lie between the lane's position and its end; no other mark needs any.
-    pub fn has_room(&self, mark: &MarkRef<'_>) -> bool
-        ensures value { result ≡ has_room_for self.now mark.now }
+    pub fn has_space(&self, mark: &MarkRef<'_>) -> bool
+        ensures value { result ≡ has_space_for self.now mark.now }
     {
         match mark.kind() {
             MarkKindRef::Slot { media, .. } => {
                 let end = media + i64::from(self.format.frames);
-                frames_between(self.position, end) <= u64::from(self.room)
+                frames_between(self.position, end) <= u64::from(self.capacity)
             }
             MarkKindRef::Quiet { .. } => true,
             MarkKindRef::End => true,
@@ -319,10 +319,10 @@ impl Lane {
 
     /// Takes the next mark, which is borrowed, whether or not the lane wants one.
     ///
-    /// The lane has to accept the mark and to have room for it.
+    /// The lane has to accept the mark and to have space for it.
     pub fn keep_ref(&mut self, mark: &MarkRef<'_>)
         requires accepted { is_next self.old mark.now ≡ true }
-        requires room { has_room_for self.old mark.now ≡ true }
+        requires space { has_space_for self.old mark.now ≡ true }
         ensures stands { (stream : Stream) (from : ℤ) (size : ℕ) (marks : List MarkView) (t : ℤ)
             → HasFeed stream from size self.old marks t → HasFeed stream from size self.new (marks ++ mark.now ∷ []) t }
         ensures facts { HasSameFacts self.old self.new }
@@ -331,11 +331,11 @@ impl Lane {
         self.take(mark);
     }
 
-    /// Takes the next mark. The lane has to want it or to have room for it.
+    /// Takes the next mark. The lane has to want it or to have space for it.
     fn take(&mut self, mark: &MarkRef<'_>)
         requires accepted { is_next self.old mark.now ≡ true }
         requires fits { (is_wanting self.old (self.old.position +ℤ pos self.old.block)
-            || has_room_for self.old mark.now) ≡ true }
+            || has_space_for self.old mark.now) ≡ true }
         ensures stands { (stream : Stream) (from : ℤ) (size : ℕ) (marks : List MarkView) (t : ℤ)
             → HasFeed stream from size self.old marks t → HasFeed stream from size self.new (marks ++ mark.now ∷ []) t }
         ensures facts { HasSameFacts self.old self.new }
@@ -353,7 +353,7 @@ impl Lane {
                     number,
                     media,
                 };
-                if self.has_room(mark) {
+                if self.has_space(mark) {
                     self.keep_slot(slot, payload);
                 } else {
                     self.take_slot(slot, payload);
@@ -364,13 +364,13 @@ impl Lane {
         }
     }
 
-    /// Takes a slot after the last one. There is room for it and for the silence before it.
+    /// Takes a slot after the last one. There is space for it and for the silence before it.
     fn keep_slot(&mut self, slot: LastSlot, payload: Option<&[u8]>)
         requires small { IsSlot (Some slot) }
         requires len { HasLength (payload_length self.old.format) (body_from (option_copied payload)) }
         requires after { IsAfter self.old.format.frames self.old.slot slot.media }
-        requires room { state.frames_between self.old.position (slot.media +ℤ pos self.old.format.frames)
-            ≤ self.old.room }
+        requires space { state.frames_between self.old.position (slot.media +ℤ pos self.old.format.frames)
+            ≤ self.old.capacity }
         ensures taken { self.new ≡ with_slot self.old slot (body_from (option_copied payload.entry)) }
         ensures left { length self.old.values
             ≡ state.frames_left self.old.format.frames self.old.position self.old.slot * self.old.format.channels }

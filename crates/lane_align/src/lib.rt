@@ -11,8 +11,8 @@
 //! `cover` returns the time up to which the values are final, and `end` the time at which the last
 //! mark ends.
 //!
-//! `Lane::with_room` makes a lane that also takes marks before they are wanted: `keep_ref` takes a
-//! mark if the lane `has_room` for it.
+//! `Lane::with_capacity` makes a lane that also takes marks before they are wanted: `keep_ref` takes a
+//! mark if the lane `has_space` for it.
 #![tactic(auto)]
 
 mod cover;

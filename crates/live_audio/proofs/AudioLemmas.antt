@@ -367,9 +367,9 @@ no_block octets block none some =
     let less = mod-lt octets some in
     omega (arith, whole, less)
 
--- a greater latency has more room
-pub room_more : (latency greatest frame : ℕ) → latency ≤ greatest → (latency + 96000) * frame ≤ (greatest + 96000) * frame
-room_more latency greatest frame less = mul-le-mul_right frame (let more : latency + 96000 ≤ greatest + 96000 = omega (arith, less) in more)
+-- a greater latency has more space
+pub octets_more : (latency greatest frame : ℕ) → latency ≤ greatest → (latency + 96000) * frame ≤ (greatest + 96000) * frame
+octets_more latency greatest frame less = mul-le-mul_right frame (let more : latency + 96000 ≤ greatest + 96000 = omega (arith, less) in more)
 
 -- the samples of a datagram are behind its header
 pub behind_header : (n m : ℕ) → n ≡ 12 + m → n - 12 ≡ m

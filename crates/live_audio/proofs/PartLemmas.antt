@@ -72,15 +72,15 @@ becomes_known (Some x) (Some y) xs ys is becomes = ap Some becomes
 length_one : (chunks : List (List ℕ)) (chunk : List ℕ) → length (chunks ++ chunk ∷ []) ≡ suc (length chunks)
 length_one chunks chunk = let sum = length-append chunks (chunk ∷ []) in omega (arith, sum)
 
--- a file without room has all octets of a file
+-- a file without space has all octets of a file
 full_octets : (n blocks block all : ℕ) → all + 0 * block ≡ n * (blocks * block) + blocks * block → all - n * (blocks * block) ≡ blocks * block
 full_octets n blocks block all is = omega (arith, is)
 
 full_next : (n blocks block all : ℕ) → all + 0 * block ≡ n * (blocks * block) + blocks * block → all ≡ suc n * (blocks * block)
 full_next n blocks block all is = omega (arith, is)
 
-room_next : (n blocks block all : ℕ) → all ≡ suc n * (blocks * block) → all + blocks * block ≡ suc n * (blocks * block) + blocks * block
-room_next n blocks block all is = omega (arith, is)
+blocks_next : (n blocks block all : ℕ) → all ≡ suc n * (blocks * block) → all + blocks * block ≡ suc n * (blocks * block) + blocks * block
+blocks_next n blocks block all is = omega (arith, is)
 
 -- how many octets are in closed files: no more than came
 pub begins_within : (n blocks block left all : ℕ) → left ≤ blocks → all + left * block ≡ n * (blocks * block) + blocks * block → n * (blocks * block) ≤ all
@@ -111,7 +111,7 @@ own_octets n blocks block left all few is =
 held_same : (a : Option (List ℕ)) (wav : LiveState) (head h octets o rest : List ℕ) → head ≡ h → octets ≡ o → HasData a wav head octets rest → HasData a wav h o rest
 held_same a wav head h octets o rest i j d = subst (λ x. HasData a wav h x rest) j (subst (λ x. HasData a wav x octets rest) i d)
 
--- whole blocks went to the file, which has room for them
+-- whole blocks went to the file, which has space for them
 pub parts_pushed : (past : Option (List (List ℕ))) (a b : Option (List ℕ)) (format : WavFormat) (plan : PartPlan) (block : ℕ) (old new : WavParts) (octets part : List ℕ) (n samples : ℕ) (head : List ℕ)
     → HasParts past a format plan block old octets head [] → length part ≡ n * block → n ≤ old.left → block ≡ samples * octets_per_sample format.enc → Appends a b (little_samples format.enc part)
     → new.wav ≡ record { format = old.wav.format; chunk = old.wav.chunk; count = old.wav.count + length (little_samples format.enc part) } → new.at ≡ old.at → new.left ≡ old.left - n
@@ -144,7 +144,7 @@ parts_pushed past a b format plan block old new octets part n samples head h siz
     joined : (all some more n block left then total : ℕ) → all ≡ some + more → more ≡ n * block → left * block + n * block ≡ then * block → some + then * block ≡ total → all + left * block ≡ total
     joined all some more n block left then total sum size rest is = omega (arith, sum, size, rest, is)
 
--- a file without room was closed
+-- a file without space was closed
 pub parts_closed : (past then : Option (List (List ℕ))) (a b : Option (List ℕ)) (format : WavFormat) (plan : PartPlan) (block : ℕ) (old : WavParts) (octets head : List ℕ)
     → (h : HasParts past a format plan block old octets head []) → old.left ≡ 0 → old.wav.format ≡ format
     → ((head octets : List ℕ) → HasData a old.wav head octets [] → b ≡ Some (live_octets old.wav.format old.wav.chunk octets)) → Closes past then b

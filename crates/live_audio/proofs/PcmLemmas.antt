@@ -53,7 +53,7 @@ tapped_out blocks block old new out t = record {
   left_out = (let more = left_out_more t.choices false in let was = t.left_out in let now = out.left_out in omega (arith, now, more, was));
 }
 
--- a block was left out of a tap that only looked at the room of its ring before
+-- a block was left out of a tap that only looked at the space of its ring before
 pub leaves_out : (old between new : PcmTap) → sent between.ring ≡ sent old.ring → between.left_out ≡ old.left_out → LeavesOut between new → LeavesOut old new
 leaves_out old between new ring left out = record {
   sent = out.sent ∙ ring;

@@ -2,5 +2,5 @@ pub mod AudioWriter
 pub mod Parts
 pub mod PcmTap
 pub mod PcmWriter
-pub mod Room
+pub mod RingOctets
 pub mod Tap

@@ -44,7 +44,7 @@ abbrev pub part_files : WavFormat → ℕ → List ℕ → List (List ℕ) → L
 part_files format len octets [] = []
 part_files format len octets (chunk ∷ chunks) = live_octets format chunk (little_samples format.enc (take len octets)) ∷ part_files format len (drop len octets) chunks
 
--- the first payload octets are in closed files, and the others are the data of the file that is written, which has room
+-- the first payload octets are in closed files, and the others are the data of the file that is written, which has space
 -- for `left` more blocks
 pub record HasParts (done : Option (List (List ℕ))) (contents : Option (List ℕ)) (format : WavFormat) (plan : PartPlan) (block : ℕ) (parts : WavParts) (octets head rest : List ℕ) : Type 0 where
   pub chunks : List (List ℕ)

@@ -4,7 +4,7 @@ use Rattle.rtrb.specs.Ring.{known_free, sent}
 use Rattle.rtp_stream.specs.declared.stream_spec.Stream.{Stream}
 use Rattle.studio_config.specs.Studio.{Studio}
 use Rattle.wav_file.specs.MixSamples.{output_format}
-use Rattle.live_audio.specs.Room.{room_for}
+use Rattle.live_audio.specs.RingOctets.{ring_octets_for}
 use Rattle.live_audio.specs.declared.pcm_tap.PcmTap.{PcmTap}
 
 -- the octets of the chosen blocks, in order, with a choice for each block
@@ -34,14 +34,14 @@ pub record LeavesOut (old new : PcmTap) : Type 0 where
   pub left_out : new.left_out ≡ min (old.left_out + 1) (2 ^ 64 - 1)
 
 -- the samples of a block were sent, all of them; or none, because nobody had opened the output for reading yet, or the
--- ring was not known to have room for them
+-- ring was not known to have space for them
 abbrev pub Takes : PcmTap → List ℕ → PcmTap → Type 0
 Takes old block new =
     ((sent new.ring ≡ sent old.ring ++ block) × (new.left_out ≡ old.left_out))
     ⊎ (LeavesOut old new × ((new.is_open ≡ false) ⊎ (known_free new.ring < length block)))
 
--- the tap has just begun: nothing was sent or left out, and the ring is known to have room for what each stream of the
+-- the tap has just begun: nothing was sent or left out, and the ring is known to have space for what each stream of the
 -- studio holds back at its latency, and for two seconds more
 pub record BeginsPcm (studio : Studio) (tap : PcmTap) : Type 0 where
   pub none : HasTapped [] tap
-  pub room : (place : ℕ) (stream : Stream) → slice_get studio.streams place ≡ Some stream → room_for (output_format studio.output) stream.latency ≤ known_free tap.ring
+  pub space : (place : ℕ) (stream : Stream) → slice_get studio.streams place ≡ Some stream → ring_octets_for (output_format studio.output) stream.latency ≤ known_free tap.ring

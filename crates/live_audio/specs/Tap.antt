@@ -4,7 +4,7 @@ use Rattle.rtrb.specs.Ring.{known_free, sent}
 use Rattle.rtp_stream.specs.declared.stream_spec.Stream.{Stream}
 use Rattle.studio_config.specs.Studio.{Studio}
 use Rattle.wav_file.specs.MixSamples.{output_format}
-use Rattle.live_audio.specs.Room.{room_for}
+use Rattle.live_audio.specs.RingOctets.{ring_octets_for}
 use Rattle.live_audio.specs.declared.tap.AudioTap.{AudioTap}
 
 -- the tap has ended: nothing was sent, and nothing will be sent any more
@@ -12,7 +12,7 @@ abbrev pub Ends : AudioTap → AudioTap → Type 0
 Ends old new = (new.ended ≡ true) × (sent new.ring ≡ sent old.ring)
 
 -- the samples of a block were sent, all of them; or none of them, because the tap had ended before, or the ring was not
--- known to have room for them
+-- known to have space for them
 abbrev pub Puts : AudioTap → List ℕ → AudioTap → Type 0
 Puts old block new =
     ((new.ended ≡ false) × (sent new.ring ≡ sent old.ring ++ block)) ⊎ (Ends old new × ((old.ended ≡ true) ⊎ (known_free new.ring < length block)))
@@ -21,9 +21,9 @@ Puts old block new =
 abbrev pub StaysEnded : AudioTap → AudioTap → Type 0
 StaysEnded old new = old.ended ≡ true → (new.ended ≡ true) × (new.ring ≡ old.ring)
 
--- the tap has just begun: nothing was sent, and the ring is known to have room for what each stream of the studio holds
+-- the tap has just begun: nothing was sent, and the ring is known to have space for what each stream of the studio holds
 -- back at its latency, and for two seconds more
 pub record BeginsTap (studio : Studio) (tap : AudioTap) : Type 0 where
   pub goes_on : tap.ended ≡ false
   pub none : sent tap.ring ≡ []
-  pub room : (place : ℕ) (stream : Stream) → slice_get studio.streams place ≡ Some stream → room_for (output_format studio.output) stream.latency ≤ known_free tap.ring
+  pub space : (place : ℕ) (stream : Stream) → slice_get studio.streams place ≡ Some stream → ring_octets_for (output_format studio.output) stream.latency ≤ known_free tap.ring

@@ -5,10 +5,10 @@ ghost use Rattle.rtp_stream.specs.declared.stream_spec.Stream.{Stream};
 ghost use Rattle.wav_file.specs.MixSamples.{output_format};
 ghost use Rattle.live_audio.specs.AudioWriter.{IsFresh};
 ghost use Rattle.live_audio.specs.Parts.{plan_of};
-ghost use Rattle.live_audio.specs.Room.{room_for};
+ghost use Rattle.live_audio.specs.RingOctets.{ring_octets_for};
 
 use crate::parts::AudioParts;
-use crate::room::ring_octets;
+use crate::ring_size::ring_octets;
 use crate::tap::AudioTap;
 use crate::writer::{AudioWriter, format_of};
 use rtrb::RingBuffer;
@@ -37,15 +37,15 @@ impl<'a> AudioChannel<'a> {
         ensures pair { IfOk result (λ channel. IsPair channel.tap.ring channel.writer.ring) }
         ensures open { IfOk result (λ channel. channel.tap.ended ≡ false) }
         ensures none { IfOk result (λ channel. sent channel.tap.ring ≡ []) }
-        ensures room { IfOk result (λ channel. (place : ℕ) (stream : Stream)
+        ensures space { IfOk result (λ channel. (place : ℕ) (stream : Stream)
             → slice_get studio.now.streams place ≡ Some stream
-            → room_for (output_format studio.now.output) stream.latency ≤ known_free channel.tap.ring) }
+            → ring_octets_for (output_format studio.now.output) stream.latency ≤ known_free channel.tap.ring) }
         ensures fresh { IfOk result (λ channel. IsFresh studio.now.output channel.writer) }
         ensures plan { IfOk result (λ channel. channel.writer.plan ≡ plan_of studio.now.output parts) }
     {
         let output = studio.output();
-        let room = ring_octets(format_of(output), studio.streams());
-        let (producer, consumer) = RingBuffer::new(alloc, room)?;
+        let space = ring_octets(format_of(output), studio.streams());
+        let (producer, consumer) = RingBuffer::new(alloc, space)?;
         Ok(AudioChannel {
             tap: AudioTap::new(producer, audio),
             writer: AudioWriter::new(consumer, output, parts, audio),

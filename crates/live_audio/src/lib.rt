@@ -1,10 +1,10 @@
 //! The audio of a live run: a WAV file and raw PCM of the mix, which threads of their own write while the run goes on.
 //!
 //! 1. `WavOutput` is the WAV file as an output of a run. It makes an `AudioChannel`, the two ends of a
-//!    ring, whose room follows from the studio: what its streams hold back at their latency, and two
+//!    ring, whose space follows from the studio: what its streams hold back at their latency, and two
 //!    seconds more.
 //! 2. The run passes each datagram of the mix to the `AudioTap`, which puts its samples into the ring
-//!    and never waits: a block for which the ring has no room ends the file there.
+//!    and never waits: a block for which the ring has no space ends the file there.
 //! 3. `write_audio`, in another thread, writes the samples to the file as they come, in order, from the
 //!    first block on. Each second of audio it renews the sizes in the header, so that a file that a
 //!    power failure cuts plays to its last second.
@@ -14,7 +14,7 @@
 //! 5. The last file ends with a whole block, whatever ended it.
 //!
 //! Raw PCM, a `RawPcmOutput`, goes the same way to a `PcmOutput`, by the ends of a `PcmChannel` and
-//! `write_pcm`. Its reader may be slow: a block for which the ring has no room is left out as a whole and counted, and
+//! `write_pcm`. Its reader may be slow: a block for which the ring has no space is left out as a whole and counted, and
 //! the blocks behind it go on.
 //!
 //! The ends set the `OutputProgress` of their output, which other threads read.
@@ -29,7 +29,7 @@ mod pcm_output;
 mod pcm_tap;
 mod pcm_writer;
 mod renewal;
-mod room;
+mod ring_size;
 mod tap;
 mod wav_output;
 mod writer;
@@ -41,7 +41,7 @@ pub use pcm_output::{PcmTask, RawPcmOutput};
 pub use pcm_tap::PcmTap;
 pub use pcm_writer::{PcmStop, PcmWriter, PcmWritten, write_pcm};
 pub use renewal::is_renewal_due;
-pub use room::ring_octets;
+pub use ring_size::ring_octets;
 pub use tap::AudioTap;
 pub use wav_output::{WavOutput, WavTask};
 pub use writer::{AudioFile, AudioWriter, write_audio};

@@ -5,11 +5,11 @@ ghost use Rattle.rtp_stream.specs.declared.stream_spec.Stream.{Stream};
 ghost use Rattle.wav_file.specs.MixSamples.{output_format};
 ghost use Rattle.live_audio.specs.PcmTap.{HasTapped};
 ghost use Rattle.live_audio.specs.PcmWriter.{IsFreshPcm};
-ghost use Rattle.live_audio.specs.Room.{room_for};
+ghost use Rattle.live_audio.specs.RingOctets.{ring_octets_for};
 
 use crate::pcm_tap::PcmTap;
 use crate::pcm_writer::PcmWriter;
-use crate::room::ring_octets;
+use crate::ring_size::ring_octets;
 use crate::writer::format_of;
 use rtrb::RingBuffer;
 use std::alloc::{AllocError, Global};
@@ -35,14 +35,14 @@ impl<'a> PcmChannel<'a> {
     ) -> Result<PcmChannel<'a>, AllocError>
         ensures pair { IfOk result (λ channel. IsPair channel.tap.ring channel.writer.ring) }
         ensures none { IfOk result (λ channel. HasTapped [] channel.tap) }
-        ensures room { IfOk result (λ channel. (place : ℕ) (stream : Stream)
+        ensures space { IfOk result (λ channel. (place : ℕ) (stream : Stream)
             → slice_get studio.now.streams place ≡ Some stream
-            → room_for (output_format studio.now.output) stream.latency ≤ known_free channel.tap.ring) }
+            → ring_octets_for (output_format studio.now.output) stream.latency ≤ known_free channel.tap.ring) }
         ensures fresh { IfOk result (λ channel. IsFreshPcm studio.now.output channel.writer) }
     {
         let output = studio.output();
-        let room = ring_octets(format_of(output), studio.streams());
-        let (producer, consumer) = RingBuffer::new(alloc, room)?;
+        let space = ring_octets(format_of(output), studio.streams());
+        let (producer, consumer) = RingBuffer::new(alloc, space)?;
         Ok(PcmChannel {
             tap: PcmTap::new(producer, pcm),
             writer: PcmWriter::new(consumer, output, pcm),

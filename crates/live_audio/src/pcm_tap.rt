@@ -38,7 +38,7 @@ impl<'r> PcmTap<'r> {
     }
 
     /// Puts the samples of a datagram of the mix, which are behind the twelve octets of its header. Leaves the block
-    /// out if the ring has no room for all of them, or nobody reads the output yet.
+    /// out if the ring has no space for all of them, or nobody reads the output yet.
     // Blocks before the first reader are left out, so that a reader that opens late hears the audio of that time.
     pub fn put(&mut self, datagram: &[u8])
         ensures takes { Takes self.old (drop 12 datagram.now) self.new }

@@ -23,7 +23,7 @@ use std::sync::Wait;
 use std::thread::Parker;
 use std::time::Duration;
 use studio_io::{OutputEnd, OutputProgress};
-use wav_file::{PcmOutput, PcmRoom, to_little_endian};
+use wav_file::{PcmOutput, PcmSpace, to_little_endian};
 
 /// The greatest number of octets behind which more are written.
 // With a chunk more it stays below 2^63.
@@ -105,10 +105,10 @@ impl<'a> PcmWriter<'a> {
         if self.pcm.is_writing() {
             return None;
         }
-        match output.room(0) {
-            PcmRoom::Unread => None,
-            PcmRoom::Closed => Some(PcmStop::Ended(OutputEnd::Closed)),
-            PcmRoom::Ready | PcmRoom::Full => {
+        match output.space(0) {
+            PcmSpace::Unread => None,
+            PcmSpace::Closed => Some(PcmStop::Ended(OutputEnd::Closed)),
+            PcmSpace::Ready | PcmSpace::Full => {
                 self.pcm.set_writing();
                 None
             }
@@ -247,14 +247,14 @@ impl<'a> PcmWriter<'a> {
             × Appends (D.Write.contents output.old) (D.Write.contents output.new) (take count octets.now)) }
         ensures stopped { OnErr result (Keeps (D.Write.contents output.old) (D.Write.contents output.new)) }
     {
-        match output.room(PAUSE_MS as u32) {
-            PcmRoom::Ready => match output.write(octets) {
+        match output.space(PAUSE_MS as u32) {
+            PcmSpace::Ready => match output.write(octets) {
                 Ok(0) => Err(PcmStop::Ended(OutputEnd::Write)),
                 Ok(count) => Ok(count),
                 Err(fault) => self.stop_or_retry(&fault),
             },
-            PcmRoom::Full => self.retry(),
-            PcmRoom::Unread | PcmRoom::Closed => Err(PcmStop::Ended(OutputEnd::Closed)),
+            PcmSpace::Full => self.retry(),
+            PcmSpace::Unread | PcmSpace::Closed => Err(PcmStop::Ended(OutputEnd::Closed)),
         }
     }
 

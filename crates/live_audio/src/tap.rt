@@ -33,7 +33,7 @@ impl<'r> AudioTap<'r> {
     }
 
     /// Puts the samples of a datagram of the mix, which are behind the twelve octets of its header, if the ring has
-    /// room for all of them. The first block without room ends the file.
+    /// space for all of them. The first block without space ends the file.
     pub fn put(&mut self, datagram: &[u8])
         ensures puts { Puts self.old (drop 12 datagram.now) self.new }
         ensures ended { StaysEnded self.old self.new }

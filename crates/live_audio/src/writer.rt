@@ -102,7 +102,7 @@ impl<'a> AudioWriter<'a> {
     }
 
     /// Writes the whole blocks that came, as many as fit a chunk and the file, renews the sizes if they are due, and
-    /// returns the number of these blocks. Before them it begins the next file, if the file has no room. Returns the
+    /// returns the number of these blocks. Before them it begins the next file, if the file has no space. Returns the
     /// end of the files if a write fails or the next file cannot be begun.
     fn write_some<F: WavFiles>(
         &mut self,
@@ -135,7 +135,7 @@ impl<'a> AudioWriter<'a> {
         }
     }
 
-    /// Begins the next file if the file has no room. Returns an error if it cannot be begun, with true if the file
+    /// Begins the next file if the file has no space. Returns an error if it cannot be begun, with true if the file
     /// before it is whole.
     fn begin_part_if_full<F: WavFiles>(
         &self,
@@ -146,7 +146,7 @@ impl<'a> AudioWriter<'a> {
         ensures begun { OnOk result
             (HasWritten (F.closed files.old) (F.File.Write.contents file.old) self.now parts.old
             → HasWritten (F.closed files.new) (F.File.Write.contents file.new) self.now parts.new) }
-        ensures room { OnOk result (0 < self.now.plan.blocks → 0 < parts.new.left) }
+        ensures space { OnOk result (0 < self.now.plan.blocks → 0 < parts.new.left) }
         ensures ended { IfErr result (λ is_whole.
             HasWritten (F.closed files.old) (F.File.Write.contents file.old) self.now parts.old
             → IsStopped (F.closed files.new) (F.File.Write.contents file.new) self.now parts.new
@@ -158,7 +158,7 @@ impl<'a> AudioWriter<'a> {
         self.begin_part(parts, files, file)
     }
 
-    /// Finishes the file, which has no room, and begins the next one. Returns an error as `begin_part_if_full` does.
+    /// Finishes the file, which has no space, and begins the next one. Returns an error as `begin_part_if_full` does.
     fn begin_part<F: WavFiles>(
         &self,
         parts: &mut WavParts,
@@ -168,7 +168,7 @@ impl<'a> AudioWriter<'a> {
         ensures begun { OnOk result (parts.old.left ≡ 0
             → HasWritten (F.closed files.old) (F.File.Write.contents file.old) self.now parts.old
             → HasWritten (F.closed files.new) (F.File.Write.contents file.new) self.now parts.new) }
-        ensures room { OnOk result (parts.new.left ≡ self.now.plan.blocks) }
+        ensures space { OnOk result (parts.new.left ≡ self.now.plan.blocks) }
         ensures ended { IfErr result (λ is_whole. parts.old.left ≡ 0
             → HasWritten (F.closed files.old) (F.File.Write.contents file.old) self.now parts.old
             → IsStopped (F.closed files.new) (F.File.Write.contents file.new) self.now parts.new
@@ -195,8 +195,8 @@ impl<'a> AudioWriter<'a> {
         }
     }
 
-    /// Writes this many blocks, which are known to be in the ring and to have room in the file, and renews the sizes if
-    /// they are due. Returns an error if a write fails.
+    /// Writes this many blocks, which are known to be in the ring and to have space in the file, and renews the sizes
+    /// if they are due. Returns an error if a write fails.
     fn write_chunk<D: LiveWavFile>(
         &mut self,
         parts: &mut WavParts,
@@ -204,7 +204,7 @@ impl<'a> AudioWriter<'a> {
         blocks: usize,
     ) -> Result<(), WavFault>
         requires short { blocks * self.old.block_len ≤ 1440 }
-        requires room { blocks ≤ parts.old.left }
+        requires space { blocks ≤ parts.old.left }
         ensures written { OnOk result ((closed : Option (List (List ℕ)))
             → HasWritten closed (D.Write.contents file.old) self.old parts.old
             → HasWritten closed (D.Write.contents file.new) self.new parts.new) }
@@ -237,7 +237,7 @@ impl<'a> AudioWriter<'a> {
     ) -> Result<(), WavFault>
         requires short { length chunk.old ≤ 1440 }
         requires size { length chunk.old ≡ blocks * self.old.block_len }
-        requires room { blocks ≤ parts.old.left }
+        requires space { blocks ≤ parts.old.left }
         ensures moved { OnOk result ((closed : Option (List (List ℕ)))
             → HasMoved closed (D.Write.contents file.old) self.old parts.old
             → HasMoved closed (D.Write.contents file.new) self.new parts.new) }
@@ -361,7 +361,7 @@ pub(crate) fn blocks_in(octets: usize, block_len: usize) -> usize
     octets.checked_div(block_len).unwrap_or(0)
 }
 
-/// Returns the number of blocks that are written at once: those that came, as far as a file has room for them.
+/// Returns the number of blocks that are written at once: those that came, as far as a file has space for them.
 fn blocks_that_fit(ready: usize, left: u64) -> usize
     ensures ready { result ≤ ready }
     ensures left { result ≤ left }

@@ -5,7 +5,7 @@ use Rattle.std.proofs.lemmas.List.{append-nil}
 use Rattle.studio_io.specs.Gains.{changes_in}
 use Rattle.studio_io.specs.declared.gain_source.GainAnswer.{GainAnswer}
 use Rattle.live_gains.specs.GainChannel.{changes_of, changes_sent}
-use Rattle.status_page.specs.declared.control.DeskAnswer.TheVariants.{Answered}
+use Rattle.status_page.specs.declared.control.RequestOutcome.TheVariants.{Answered}
 use Rattle.live_gains.specs.declared.messages.OutcomeMessage.{OutcomeMessage}
 
 -- the change of an answer is the one that it takes

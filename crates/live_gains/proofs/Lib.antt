@@ -1,3 +1,3 @@
 pub mod GainChangeLemmas
-pub mod GainDeskLemmas
+pub mod PageRequesterLemmas
 pub mod PlannedLemmas

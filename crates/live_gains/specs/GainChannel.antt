@@ -7,14 +7,14 @@ use Rattle.studio_io.specs.declared.gain_source.GainRequest.{GainRequest}
 use Rattle.live_gains.specs.GainMessages.{HasGains, IsReturned}
 use Rattle.live_gains.specs.Planned.{AreKept, planned_at}
 use Rattle.studio_config.specs.Studio.{Studio}
-use Rattle.status_page.specs.declared.control.DeskAnswer.{DeskAnswer}
-use Rattle.status_page.specs.declared.control.DeskAnswer.TheVariants.{Answered, NoAnswer}
+use Rattle.status_page.specs.declared.control.RequestOutcome.{RequestOutcome}
+use Rattle.status_page.specs.declared.control.RequestOutcome.TheVariants.{Answered, NoAnswer}
 use Rattle.live_gains.specs.declared.messages.RequestMessage.{RequestMessage}
 use Rattle.live_gains.specs.declared.messages.OutcomeMessage.{OutcomeMessage}
 use Rattle.live_gains.specs.declared.run_gains.RunGains.{RunGains}
 
 -- the change of gains in the outcome of a request: one, or none
-abbrev pub changes_of : DeskAnswer → List ℤ → List (ℤ × List ℤ)
+abbrev pub changes_of : RequestOutcome → List ℤ → List (ℤ × List ℤ)
 changes_of (Answered answer next) gains = changes_in answer gains
 changes_of NoAnswer gains = []
 

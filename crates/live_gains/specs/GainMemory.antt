@@ -1,6 +1,6 @@
 -- The memory for gains and times, which a message carries or does not.
 use Rattle.std.specs.Prelude.{◌≡◌, ℕ, ℤ, List, [], length, Option, Some, None}
-use Rattle.live_gains.specs.declared.page_desk.MessageMemory.{MessageMemory}
+use Rattle.live_gains.specs.declared.page_requester.MessageMemory.{MessageMemory}
 
 -- 1 if the memory is not here, and 0 if it is
 abbrev pub missing : {T : Type 0} → Option T → ℕ

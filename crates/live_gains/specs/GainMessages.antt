@@ -1,6 +1,6 @@
 -- The messages between a page that asks for gains and a run.
 use Rattle.std.specs.Prelude.{◌≡◌, ℕ, ℤ, Bool, true, false, List, Option, Some, None}
-use Rattle.status_page.specs.declared.control.DeskAnswer.TheVariants.{NoAnswer}
+use Rattle.status_page.specs.declared.control.RequestOutcome.TheVariants.{NoAnswer}
 use Rattle.live_gains.specs.declared.messages.RequestMessage.{RequestMessage}
 use Rattle.live_gains.specs.declared.messages.OutcomeMessage.{OutcomeMessage}
 use Rattle.studio_io.specs.declared.gain_source.GainAction.{GainAction}

@@ -2,4 +2,4 @@ pub mod Planned
 pub mod GainMessages
 pub mod GainMemory
 pub mod GainChannel
-pub mod GainDesk
+pub mod PageRequester

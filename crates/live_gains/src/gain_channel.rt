@@ -1,12 +1,12 @@
-//! The channel between a page that requests gains and a run: `page_desk` is the page's end, `run_gains` the run's end.
-//! They pass `messages` to each other through two rings of one place, and share a `link`. The run's end keeps the times
-//! of the changes that are still to come (`planned`).
+//! The channel between a page that requests gains and a run: `page_requester` is the page's end, `run_gains` the run's
+//! end. They pass `messages` to each other through two rings of one place, and share a `link`. The run's end keeps the
+//! times of the changes that are still to come (`planned`).
 ghost use Rattle.std.specs.Prelude.{◌≡◌, ℤ, [], IfOk, IfSome};
 ghost use Rattle.rtrb.specs.Ring.{received, sent};
 
 use crate::link::GainLink;
 use crate::messages::Numbered;
-use crate::page_desk::PageDesk;
+use crate::page_requester::PageRequester;
 use crate::planned::planned_of;
 use crate::run_gains::RunGains;
 use rtrb::RingBuffer;
@@ -20,7 +20,7 @@ use studio_config::StudioSpec;
 #[derive(Drop)]
 pub struct GainChannel<'a, R> {
     /// The end in the page's thread, which requests gains.
-    pub desk: PageDesk<'a, R>,
+    pub requester: PageRequester<'a, R>,
     /// The end in the run's thread, which answers.
     pub gains: RunGains<'a, R>,
 }
@@ -38,15 +38,15 @@ impl<'a, R: Wait + Clock> GainChannel<'a, R> {
         shape: GainShape,
         studio: &StudioSpec,
     ) -> Result<GainChannel<'a, R>, AllocError>
-        ensures asked { IfOk result (λ channel. sent channel.desk.requests ≡ []) }
-        ensures heard { IfOk result (λ channel. received channel.desk.outcomes ≡ []) }
+        ensures asked { IfOk result (λ channel. sent channel.requester.requests ≡ []) }
+        ensures heard { IfOk result (λ channel. received channel.requester.outcomes ≡ []) }
         ensures taken { IfOk result (λ channel. changes_by channel.gains ≡ []) }
         ensures planned { IfOk result (λ channel. (from : ℤ) → PlansFrom studio.now from channel.gains) }
     {
         let (requests, asked) = RingBuffer::with_protocol::<Global, Numbered>(alloc, 1)?;
         let (answers, outcomes) = RingBuffer::with_protocol::<Global, Numbered>(alloc, 1)?;
         Ok(GainChannel {
-            desk: PageDesk::new(rt, alloc, link, shape, requests, outcomes)?,
+            requester: PageRequester::new(rt, alloc, link, shape, requests, outcomes)?,
             gains: RunGains::new(rt, link, asked, answers, planned_of(alloc, studio)?),
         })
     }

@@ -3,7 +3,7 @@ ghost use Rattle.std.specs.Prelude.{◌≡◌, is_some, IfOk};
 
 use crate::gain_channel::GainChannel;
 use crate::link::GainLink;
-use crate::page_desk::PageDesk;
+use crate::page_requester::PageRequester;
 use crate::run_gains::RunGains;
 use status_page::{Control, GainShape, Token};
 use std::alloc::{AllocError, Global};
@@ -17,7 +17,7 @@ pub struct GainControl<'a, R: Wait + Clock> {
     /// The source of the run's changes of gains.
     pub gains: Option<RunGains<'a, R>>,
     /// The control that the page has.
-    pub control: Option<Control<PageDesk<'a, R>>>,
+    pub control: Option<Control<PageRequester<'a, R>>>,
 }
 
 /// Opens the control of a run's gains, if there is a token for it. Allocates all its memory, and returns `AllocError`
@@ -37,14 +37,14 @@ pub fn open_control<'a, R: Wait + Clock>(
             control: None,
         });
     };
-    // A studio has 1 to 8 output channels and 1 to 1,024 inputs. For others the channel would have no room.
+    // A studio has 1 to 8 output channels and 1 to 1,024 inputs. For others the channel would have no space.
     let Some(shape) = shape_of(studio) else {
         return Err(AllocError);
     };
-    let GainChannel { desk, gains } = GainChannel::new(rt, alloc, link, shape, studio)?;
+    let GainChannel { requester, gains } = GainChannel::new(rt, alloc, link, shape, studio)?;
     Ok(GainControl {
         gains: Some(gains),
-        control: Some(Control::new(alloc, desk, token)?),
+        control: Some(Control::new(alloc, requester, token)?),
     })
 }
 

@@ -2,7 +2,7 @@
 ghost use Rattle.std.specs.Prelude.{◌≡◌, length};
 
 use rtrb::Protocol;
-use status_page::DeskAnswer;
+use status_page::RequestOutcome;
 use studio_io::GainRequest;
 
 /// A request on its way from the page to the run.
@@ -22,7 +22,7 @@ pub(crate) struct RequestMessage {
 pub(crate) struct OutcomeMessage {
     /// The number of the request.
     pub(crate) number: u64,
-    pub(crate) outcome: DeskAnswer,
+    pub(crate) outcome: RequestOutcome,
     /// The gains that the answer shows, or those of the request if it was not taken.
     pub(crate) gains: Vec<i32>,
     /// The times of the planned changes when the answer was made, or what the memory had if the request was not taken.

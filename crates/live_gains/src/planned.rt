@@ -78,8 +78,8 @@ fn push_earlier<R: Wait>(rt: &R, times: &[i64], at: i64, memory: &mut Vec<i64>)
 }
 
 /// Appends a time.
-// Each list here has room for 64 times, so the first try succeeds without an allocation: a mixer has at most 64 changes
-// to come. `GainSource` does not limit them: more of them wait here until there is memory, as gains do.
+// Each list here has space for 64 times, so the first try succeeds without an allocation: a mixer has at most 64
+// changes to come. `GainSource` does not limit them: more of them wait here until there is memory, as gains do.
 fn push_time<R: Wait>(rt: &R, time: i64, memory: &mut Vec<i64>)
     ensures { memory.new.items ≡ memory.old.items ++ time ∷ [] }
 {

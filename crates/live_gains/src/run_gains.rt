@@ -10,7 +10,7 @@ use crate::link::GainLink;
 use crate::messages::{Numbered, OutcomeMessage, RequestMessage};
 use crate::planned::update_planned;
 use rtrb::{Consumer, Producer};
-use status_page::DeskAnswer;
+use status_page::RequestOutcome;
 use std::alloc::Global;
 use std::sync::Wait;
 use studio_io::{GainAction, GainAnswer, GainRequest, GainSource};
@@ -28,7 +28,7 @@ pub struct RunGains<'a, R> {
     pub(crate) planned: Vec<i64>,
     ghost in_turn: { length (received requests) ≡ length (sent answers) + count_of taken },
     ghost own_number: { ForSome taken (λ message. message.number ≡ length (sent answers)) },
-    ghost roomy: { ForSome taken (λ message. 0 < known_free answers) },
+    ghost has_place: { ForSome taken (λ message. 0 < known_free answers) },
 }
 
 impl<'a, R: Wait> RunGains<'a, R> {
@@ -187,7 +187,7 @@ fn returned(message: RequestMessage) -> OutcomeMessage
     } = message;
     OutcomeMessage {
         number,
-        outcome: DeskAnswer::NoAnswer,
+        outcome: RequestOutcome::NoAnswer,
         gains,
         planned,
     }
@@ -204,7 +204,7 @@ fn answered<R: Wait>(
     planned: &mut Vec<i64>,
 ) -> OutcomeMessage
     ensures own { result.number ≡ message.number }
-    ensures answer { result.outcome ≡ DeskAnswer.Answered answer next_block_start }
+    ensures answer { result.outcome ≡ RequestOutcome.Answered answer next_block_start }
     ensures shown { result.gains.items ≡ gains.now }
     ensures planned { planned.new.items ≡ planned_after answer next_block_start planned.old.items }
     ensures sent { result.planned.items ≡ planned.new.items }
@@ -221,7 +221,7 @@ fn answered<R: Wait>(
     update_planned(rt, answer, next_block_start, planned, &mut left);
     OutcomeMessage {
         number,
-        outcome: DeskAnswer::Answered {
+        outcome: RequestOutcome::Answered {
             answer,
             next_block_start,
         },
@@ -231,7 +231,7 @@ fn answered<R: Wait>(
 }
 
 /// Copies gains to memory that a message carries.
-// The memory has room for 8,192 gains, and a run passes no more, so the first copy succeeds without an allocation. The
+// The memory has space for 8,192 gains, and a run passes no more, so the first copy succeeds without an allocation. The
 // trait does not limit them: more of them wait here until there is memory, since what was taken has to be reported.
 fn copy_gains<R: Wait>(rt: &R, gains: &[i32], memory: &mut Vec<i32>)
     ensures { memory.new.items ≡ gains.now }

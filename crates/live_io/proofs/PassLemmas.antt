@@ -66,13 +66,13 @@ same_length old fresh h hl same =
     let e = length-drop h old in
     omega (arith, a, b, c, d, e, same, hl)
 
--- if nothing was taken, there was nothing, or no room
-sees_by : (b : Bool) (known : List ℕ) (len held h room taken : ℕ) → nat_lt held len ≡ b → h ≡ min held len → room ≡ len - h → (taken < room → length known ≡ 0) → taken ≡ 0
+-- if nothing was taken, there was nothing, or no space
+sees_by : (b : Bool) (known : List ℕ) (len held h space taken : ℕ) → nat_lt held len ≡ b → h ≡ min held len → space ≡ len - h → (taken < space → length known ≡ 0) → taken ≡ 0
     → (known ≡ []) ⊎ (len ≤ held)
-sees_by true known len held h room taken less least rest most none =
+sees_by true known len held h space taken less least rest most none =
     let some : held < len = grind (arith, nat_tests, less) in
     inl (nil_from_length known (most (omega (arith, some, least, rest, none))))
-sees_by false known len held h room taken less least rest most none = inr (grind (arith, nat_tests, less))
+sees_by false known len held h space taken less least rest most none = inr (grind (arith, nat_tests, less))
 
-pub sees_none : (known : List ℕ) (len held h room taken : ℕ) → h ≡ min held len → room ≡ len - h → (taken < room → length known ≡ 0) → taken ≡ 0 → (known ≡ []) ⊎ (len ≤ held)
-sees_none known len held h room taken least rest most none = sees_by (nat_lt held len) known len held h room taken refl least rest most none
+pub sees_none : (known : List ℕ) (len held h space taken : ℕ) → h ≡ min held len → space ≡ len - h → (taken < space → length known ≡ 0) → taken ≡ 0 → (known ≡ []) ⊎ (len ≤ held)
+sees_none known len held h space taken least rest most none = sees_by (nat_lt held len) known len held h space taken refl least rest most none

@@ -34,7 +34,7 @@ sends_more old mid new xs ys (inr (e, inr h)) k stays =
     let same : known_free new.ring ≡ known_free mid.ring = ap known_free (stays e).1 in
     inr ((stays e).0, inr (omega (arith, size, h, same)))
 
--- one block is sent, or there is no room for it
+-- one block is sent, or there is no space for it
 pub sends_block : (old : BlockProducer) (block : List ℕ) (new : BlockProducer) → Puts old block new → Sends old block new
 sends_block old block new (inl h) = inl h
 sends_block old block new (inr (ends, why)) = inr (ends.0, why)
@@ -53,7 +53,7 @@ opens_by is_controlled studio at begun mid described end none going first paths 
     elim (sends_more begun mid end (section_block at) (paths_are ++ gains_blocks is_controlled) (sends_block begun (section_block at) mid first) rest (stays_more mid described end stays still)) [
       | inl all ↦ inl (all.0, all.1 ∙ ap (λ l. l ++ front_blocks is_controlled studio at) none)
       | inr (e, inl before) ↦ absurd (let f : false ≡ true = sym going ∙ before in cc)
-      | inr (e, inr room) ↦ inr (e, room)
+      | inr (e, inr space) ↦ inr (e, space)
     ]
 
 -- no stream is described yet

@@ -33,7 +33,7 @@ few_datagrams paths (block ∷ blocks) every =
     let one = All-head IsBlock block blocks every in
     let more = few_datagrams paths blocks (All-tail IsBlock block blocks every) in
     let size = length-append block (joined blocks) in
-    omega (arith, one.room, more, size, one_at_most (holds_datagram paths block))
+    omega (arith, one.least, more, size, one_at_most (holds_datagram paths block))
 
 -- a file whose octets are known, after a write and after a cut
 pub holds_more : (a b : Option (List ℕ)) (xs ys : List ℕ) → a ≡ Some xs → Appends a b ys → b ≡ Some (xs ++ ys)
@@ -96,7 +96,7 @@ none_written writer none held len datagrams = record {
   blocks = [];
   every = All-nil IsBlock;
   came = none ∙ sym (ap (λ n. take n writer.octets.items) held);
-  none = λ block rest is e. omega (arith, is.room, held, length-append block rest, ap length e, ap (λ n. length (take n writer.octets.items)) held);
+  none = λ block rest is e. omega (arith, is.least, held, length-append block rest, ap length e, ap (λ n. length (take n writer.octets.items)) held);
   holds = refl;
   len = len;
   datagrams = datagrams;

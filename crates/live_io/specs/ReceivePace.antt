@@ -1,10 +1,10 @@
 -- The wait after a socket was found empty.
 use Rattle.std.specs.Prelude.{ℕ, ◌/◌, min, max, Bool, true, false, ℤ, pos, ◌+ℤ◌, ◌<ℤ◌, Option, Some, None}
 
--- the rest of a receiver of a stream with this latency while packets flow, in sampling instants: a tenth of the
+-- the pause of a receiver of a stream with this latency while packets flow, in sampling instants: a tenth of the
 -- latency, at least 10 and at most 192
-abbrev pub rest_for : ℕ → ℕ
-rest_for latency = min 192 (max 10 (latency / 10))
+abbrev pub pause_for : ℕ → ℕ
+pause_for latency = min 192 (max 10 (latency / 10))
 
 -- the sampling instants without a datagram after which a socket is quiet: 20 ms
 abbrev pub quiet_after : ℕ

@@ -21,7 +21,7 @@ use Rattle.run_outputs.specs.declared.events.DatagramOrigin.{DatagramOrigin}
 abbrev pub Ends : BlockProducer → BlockProducer → Type 0
 Ends old new = (new.ended ≡ true) × (sent new.ring ≡ sent old.ring)
 
--- the whole block was sent; or none of it, because the record had ended before, or the ring was not known to have room
+-- the whole block was sent; or none of it, because the record had ended before, or the ring was not known to have space
 abbrev pub Puts : BlockProducer → List ℕ → BlockProducer → Type 0
 Puts old block new =
     ((new.ended ≡ false) × (sent new.ring ≡ sent old.ring ++ block)) ⊎ (Ends old new × ((old.ended ≡ true) ⊎ (known_free new.ring < length block)))
@@ -39,7 +39,7 @@ pub record IsPacket (open_at time : ℤ) (origin : DatagramOrigin) (octets : Lis
   pub source : (view.source ≡ ipv4_octets origin.source.ip) × (view.source_port ≡ origin.source.port)
   pub destination : (view.destination ≡ ipv4_octets origin.destination.ip) × (view.destination_port ≡ origin.destination.port)
 
--- the format has no room for this time: 64 bits don't hold its nanoseconds after the opening
+-- the format has no space for this time: 64 bits don't hold its nanoseconds after the opening
 abbrev pub IsPast : ℤ → ℤ → Type 0
 IsPast open_at time = (instants : ℕ) → time ≡ (open_at +ℤ pos instants) → nanoseconds_in_64 instants ≡ None
 
@@ -50,7 +50,7 @@ PutsPacket open_at time origin octets old new =
     ((view : ArrivalView) × IsPacket open_at time origin octets view × Puts old (datagram_block view) new)
     ⊎ (Ends old new × ((old.ended ≡ true) ⊎ ((2048 < length octets) ⊎ IsPast open_at time)))
 
--- the format has no room for this change of gains: the record has no interface for it, there are too many gains, or 64
+-- the format has no space for this change of gains: the record has no interface for it, there are too many gains, or 64
 -- bits don't hold the nanoseconds after the opening of its time, or the sampling instants to the time from which its
 -- gains are in force
 abbrev pub IsUnfit : ℤ → Option ℕ → ℤ → ℤ → List ℤ → Type 0
@@ -62,14 +62,14 @@ abbrev pub change_from : ℤ → ℤ → ℕ → List ℤ → ChangeView
 change_from open_at at next_block gains = record { at = at -ℤ open_at; next_block = next_block; gains = gains }
 
 -- the change's block was put, on the interface for changes; or nothing was sent, because the record had ended, or the
--- format has no room for the change
+-- format has no space for the change
 abbrev pub PutsChange : ℤ → Option ℕ → ℤ → ℤ → ℕ → List ℤ → BlockProducer → BlockProducer → Type 0
 PutsChange open_at interface time at next_block gains old new =
     ((number : ℕ) × (nanoseconds : ℕ) × (interface ≡ Some number) × IsSince open_at time nanoseconds
     × Puts old (change_block number nanoseconds (change_from open_at at next_block gains)) new)
     ⊎ (Ends old new × ((old.ended ≡ true) ⊎ IsUnfit open_at interface time at gains))
 
--- the block of a close at this time was put, or nothing was sent, because the format has no room for the time
+-- the block of a close at this time was put, or nothing was sent, because the format has no space for the time
 abbrev pub PutsClose : ℤ → ℤ → BlockProducer → BlockProducer → Type 0
 PutsClose open_at time old new =
     ((nanoseconds : ℕ) × IsSince open_at time nanoseconds × Puts old (closing_block nanoseconds) new)
@@ -107,14 +107,14 @@ path_blocks number (stream ∷ streams) = stream_blocks number stream ++ path_bl
 abbrev pub StaysEnded : BlockProducer → BlockProducer → Type 0
 StaysEnded old new = old.ended ≡ true → (new.ended ≡ true) × (new.ring ≡ old.ring)
 
--- nothing will be sent any more, because the record had ended before, or the ring was not known to have room for these
+-- nothing will be sent any more, because the record had ended before, or the ring was not known to have space for these
 -- octets
-abbrev pub LacksRoom : BlockProducer → List ℕ → BlockProducer → Type 0
-LacksRoom old octets new = (new.ended ≡ true) × ((old.ended ≡ true) ⊎ (known_free new.ring < length octets))
+abbrev pub LacksSpace : BlockProducer → List ℕ → BlockProducer → Type 0
+LacksSpace old octets new = (new.ended ≡ true) × ((old.ended ≡ true) ⊎ (known_free new.ring < length octets))
 
--- these octets were sent, or not all of them, because the record has ended or there is no room
+-- these octets were sent, or not all of them, because the record has ended or there is no space
 abbrev pub Sends : BlockProducer → List ℕ → BlockProducer → Type 0
-Sends old octets new = ((new.ended ≡ false) × (sent new.ring ≡ sent old.ring ++ octets)) ⊎ LacksRoom old octets new
+Sends old octets new = ((new.ended ≡ false) × (sent new.ring ≡ sent old.ring ++ octets)) ⊎ LacksSpace old octets new
 
 -- the number of paths of all streams
 abbrev pub path_total : List Stream → ℕ
@@ -135,7 +135,7 @@ gains_interface_of false streams = None
 abbrev pub front_blocks : Bool → Studio → ℕ → List ℕ
 front_blocks is_controlled studio at = section_block at ++ (path_blocks 0 studio.streams ++ gains_blocks is_controlled)
 
--- the start of the record was sent; or nothing more will be sent, because the ring was not known to have room for all
+-- the start of the record was sent; or nothing more will be sent, because the ring was not known to have space for all
 -- of it
 abbrev pub Opens : Bool → Studio → BlockProducer → Type 0
 Opens is_controlled studio end = (at : ℕ) → studio.open_at ≡ pos at

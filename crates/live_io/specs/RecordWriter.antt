@@ -38,6 +38,6 @@ pub record FailsBehind (paths : ℕ) (contents contents_then : Option (List ℕ)
   pub cut : failed.is_cut ≡ true → (held : List ℕ) → contents ≡ Some held → len ≡ length held
       → contents_then ≡ Some (held ++ take failed.kept.len octets)
 
--- the ring was found empty, or there is no room for more octets
+-- the ring was found empty, or there is no space for more octets
 abbrev pub SeesNone : RecordWriter → RecordWriter → Type 0
 SeesNone old new = (known_items new.ring ≡ []) ⊎ (length old.octets.items ≤ old.held)

@@ -85,14 +85,14 @@ impl<R: time::Clock> Clock for SystemClock<'_, R> {
     }
 }
 
-/// A clock by which a thread can rest.
-pub trait RestClock: Clock {
-    /// Rests for this many sampling instants at 48 kHz. The system may make the rest longer.
-    fn rest(&mut self, instants: u32);
+/// A clock by which a thread can pause.
+pub trait PauseClock: Clock {
+    /// Pauses for this many sampling instants at 48 kHz. The system may make the pause longer.
+    fn pause(&mut self, instants: u32);
 }
 
-impl<R: time::Clock> RestClock for SystemClock<'_, R> {
-    fn rest(&mut self, instants: u32) {
+impl<R: time::Clock> PauseClock for SystemClock<'_, R> {
+    fn pause(&mut self, instants: u32) {
         let nanoseconds = u64::from(instants) * THREE_INSTANTS / 3;
         thread::sleep(self.rt, Duration::from_nanos(nanoseconds));
     }

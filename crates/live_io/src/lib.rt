@@ -27,7 +27,7 @@ mod record;
 mod sockets;
 mod tai;
 
-pub use clock::{RestClock, RunPeriod, SystemClock};
+pub use clock::{PauseClock, RunPeriod, SystemClock};
 pub use descriptors::{STDERR, STDIN, is_ready};
 pub use record::RecordChannel;
 pub use record::file::{CreateRecord, RecordFault, RecordFile};
@@ -40,7 +40,7 @@ pub use sockets::feed::{FeedFlags, UdpFeed, udp_feeds};
 pub use sockets::health::{RunHealth, SendHealth, SocketHealth};
 pub use sockets::inherited::{InheritedSocketFault, InheritedSockets};
 pub use sockets::names::SocketRole;
-pub use sockets::pace::{ReceivePace, ReceiveWait, common_rest, rest_of};
+pub use sockets::pace::{ReceivePace, ReceiveWait, common_pause, pause_of};
 pub use sockets::ports::LivePorts;
 pub use sockets::receiver::Receiver;
 pub use sockets::retrying::{DatagramSocket, RetryingSocket};

@@ -7,7 +7,7 @@
 use crate::sockets::addresses::{PathAddress, addresses_of};
 use crate::sockets::health::RunHealth;
 use crate::sockets::inherited::InheritedSockets;
-use crate::sockets::pace::rest_of;
+use crate::sockets::pace::pause_of;
 use crate::sockets::ports::LivePorts;
 use crate::sockets::receiver::{Receiver, inherited_socket, receiving_socket};
 use crate::sockets::sharing::{PathPlace, have_collision};
@@ -74,12 +74,12 @@ pub fn open_sockets<'a, R: Net>(
     Ok(Sockets { receiving, sink })
 }
 
-/// The places of the paths of a run, their rests in sampling instants, and the descriptors of their inherited sockets,
+/// The places of the paths of a run, their pauses in sampling instants, and the descriptors of their inherited sockets,
 /// all ordered by stream and then by path.
 #[derive(Drop)]
 struct ReceiverPlan<'a> {
     places: Vec<PathPlace>,
-    rests: Vec<u32>,
+    pauses: Vec<u32>,
     descriptors: Vec<Option<i32>>,
     config: SocketConfig<'a>,
 }
@@ -95,7 +95,7 @@ fn open_receivers<'a, R: Net>(
 ) -> io::Result<Vec<Receiver<'a>>> {
     let plan = ReceiverPlan {
         places: places_of(alloc, studio, config.ports)?,
-        rests: rests_of(alloc, studio)?,
+        pauses: pauses_of(alloc, studio)?,
         descriptors: config.inherited.descriptors(alloc, studio.streams())?,
         config,
     };
@@ -134,16 +134,16 @@ fn places_of(
     Ok(places)
 }
 
-/// Returns the rests of all paths while packets flow, in sampling instants. Returns `AllocError` if an allocation
+/// Returns the pauses of all paths while packets flow, in sampling instants. Returns `AllocError` if an allocation
 /// fails.
-fn rests_of(alloc: Global, studio: &StudioSpec) -> Result<Vec<u32>, AllocError> {
-    let mut rests = Vec::new(alloc);
+fn pauses_of(alloc: Global, studio: &StudioSpec) -> Result<Vec<u32>, AllocError> {
+    let mut pauses = Vec::new(alloc);
     for stream in studio.streams() {
         for _ in 0..stream.paths() {
-            rests.push(rest_of(stream))?;
+            pauses.push(pause_of(stream))?;
         }
     }
-    Ok(rests)
+    Ok(pauses)
 }
 
 /// Returns the place of the path at an index, or `None` if there is no such path.
@@ -190,13 +190,13 @@ impl<'a> ReceiverPlan<'a> {
 
     /// Returns the socket of the path at an index.
     fn receiver<R: Net>(&self, rt: &R, index: usize) -> io::Result<Receiver<'a>> {
-        let (Some(place), Some(rest)) = (self.places.get(index), self.rests.get(index)) else {
+        let (Some(place), Some(pause)) = (self.places.get(index), self.pauses.get(index)) else {
             return Err(io::Error::from(ErrorKind::InvalidInput));
         };
         let socket = self.socket(rt, index, place)?;
         let source = self.config.unexpected.source(index, place.from);
         let address = SocketAddrV4::new(place.at, place.port);
-        let receiver = Receiver::new(socket, *rest, source, address);
+        let receiver = Receiver::new(socket, *pause, source, address);
         if let Some(health) = self.config.health.paths().get(index) {
             receiver.show_inode(health);
         }

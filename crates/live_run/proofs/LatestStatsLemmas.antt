@@ -18,7 +18,7 @@ pub record AreRefreshedTo {W T : Type 0} (Refreshes : W → W → Option T → O
 pub refreshed-next : {W T : Type 0} (Refreshes : W → W → Option T → Option T → Type 0) (n : ℕ) (olds news : List W) (befores lasts : List (Option T)) (old new : W) (before last : Option T)
     → AreRefreshedTo Refreshes n olds news befores lasts → n < length news → n < length lasts → slice_get olds n ≡ Some old → slice_get befores n ≡ Some before → Refreshes old new before last
     → AreRefreshedTo Refreshes (n + 1) olds (set news n new) befores (set lasts n last)
-refreshed-next {W} {T} Refreshes n olds news befores lasts old new before last to within room at_old at_before refreshes = record {
+refreshed-next {W} {T} Refreshes n olds news befores lasts old new before last to within space at_old at_before refreshes = record {
   receivers_are = (let same = to.receivers_are in grind (arith, common_steps));
   places_are = (let same = to.places_are in grind (arith, common_steps));
   done = λ place x y b l below in_olds in_news in_befores in_lasts.
@@ -28,7 +28,7 @@ refreshed-next {W} {T} Refreshes n olds news befores lasts old new before last t
             let is_old : old ≡ x = cc (at_old, in_olds, same) in
             let is_new : new ≡ y = cc (get-set news n new within, in_news, same) in
             let is_before : before ≡ b = cc (at_before, in_befores, same) in
-            let is_last : last ≡ l = cc (get-set lasts n last room, in_lasts, same) in
+            let is_last : last ≡ l = cc (get-set lasts n last space, in_lasts, same) in
             subst (λ (v : W). Refreshes v y b l) is_old (subst (λ (v : W). Refreshes old v b l) is_new (subst (λ (v : Option T). Refreshes old new v l) is_before (subst (λ (v : Option T). Refreshes old new before v) is_last refreshes)))
       ];
   receivers_left = λ place above. get-set_else news n place new (omega arith) ∙ to.receivers_left place (omega arith);

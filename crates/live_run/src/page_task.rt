@@ -3,7 +3,7 @@
 use crate::status::PageLink;
 use live_status::{OpenPage, PageFault, PageThread, open_page};
 use run_outputs::SideTask;
-use status_page::{Control, GainDesk};
+use status_page::{Control, GainRequester};
 use std::alloc::Global;
 use std::net::Net;
 use std::random::RandomSource;
@@ -12,11 +12,11 @@ use std::time::Clock;
 
 /// The task that serves the page of a run. It ends once the run's end of the snapshots' ring was dropped.
 #[derive(Drop)]
-pub(crate) struct PageTask<D: GainDesk> {
+pub(crate) struct PageTask<D: GainRequester> {
     server: PageThread<D>,
 }
 
-impl<D: GainDesk> SideTask for PageTask<D> {
+impl<D: GainRequester> SideTask for PageTask<D> {
     fn complete<R: Wait + Clock>(self, rt: &R) {
         let PageTask { server } = self;
         server.serve(rt);
@@ -25,14 +25,14 @@ impl<D: GainDesk> SideTask for PageTask<D> {
 
 /// The page of a run: the run's link to it, and the task that serves it. Both are empty without a page.
 #[derive(Drop)]
-pub(crate) struct RunPage<D: GainDesk> {
+pub(crate) struct RunPage<D: GainRequester> {
     pub(crate) link: PageLink,
     pub(crate) task: Option<PageTask<D>>,
 }
 
 /// Binds the page's port, if a page is wanted, and returns the page. Returns errors as `open_page` does.
 // In a function of its own: what holds an HTTP server by name is proved along all of its fields.
-pub(crate) fn open_run_page<R: Net + RandomSource, D: GainDesk>(
+pub(crate) fn open_run_page<R: Net + RandomSource, D: GainRequester>(
     rt: &R,
     alloc: Global,
     port: Option<u16>,

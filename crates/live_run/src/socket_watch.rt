@@ -159,7 +159,7 @@ impl Line {
         }
     }
 
-    /// Appends octets, as far as there is room.
+    /// Appends octets, as far as there is space.
     fn push(&mut self, octets: &[u8]) {
         for octet in octets {
             if let Some(place) = self.octets.get_mut(self.len) {

@@ -4,9 +4,9 @@ use Rattle.rtp_stream.specs.declared.stream_spec.Stream.{Stream}
 use Rattle.rtp_stats.specs.CopyTracker.{NotesOffer}
 use Rattle.rtp_stats.specs.Tally.{HasTally}
 use Rattle.rtp_stats.specs.declared.copy_tracker.CopyTracker.{CopyTracker}
-use Rattle.studio_session.specs.declared.receipt.ArriveOutcome.{ArriveOutcome}
-use Rattle.studio_session.specs.declared.receipt.ArriveOutcome.TheVariants.{Offered, Bad, WrongType, WrongLength}
-use Rattle.studio_session.specs.declared.receipt.OfferedPacket.{OfferedPacket}
+use Rattle.studio_session.specs.declared.arrive_outcome.ArriveOutcome.{ArriveOutcome}
+use Rattle.studio_session.specs.declared.arrive_outcome.ArriveOutcome.TheVariants.{Offered, Bad, WrongType, WrongLength}
+use Rattle.studio_session.specs.declared.arrive_outcome.OfferedPacket.{OfferedPacket}
 
 -- the tracker of a stream to which nothing was offered
 abbrev pub IsNewTracker : ℕ → Stream → CopyTracker → Type 0

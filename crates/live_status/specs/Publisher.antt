@@ -21,11 +21,11 @@ pub record IsShown (watches : List StreamWatch) (statuses : List StreamStatus) (
   pub streams : ShowsStreams watches statuses now has_ended given.streams.items shown.streams.items
   pub outputs : shown.outputs ≡ given.outputs
 
--- the snapshot, with these conditions and watches, went through the ring, if there was room
+-- the snapshot, with these conditions and watches, went through the ring, if there was space
 abbrev pub GivesShown : {A P : Type 0} → List StreamWatch → List StreamStatus → ℤ → Bool → Snapshot → Producer Snapshot A P → Producer Snapshot A P → Type 0
 GivesShown watches statuses now has_ended given old new = (shown : Snapshot) × IsShown watches statuses now has_ended given shown × Gives shown old new
 
--- the snapshot goes through the page's ring, if there is a page and room; the page stays
+-- the snapshot goes through the page's ring, if there is a page and space; the page stays
 abbrev pub Shows : {A P : Type 0} → List StreamWatch → List StreamStatus → ℤ → Bool → Snapshot → Option (Producer Snapshot A P) → Option (Producer Snapshot A P) → Type 0
 Shows watches statuses now has_ended given old new = MatchOption old (IsNone new) (λ ring. IsSomeAnd new (GivesShown watches statuses now has_ended given ring))
 

@@ -4,24 +4,24 @@ use Rattle.rtp_stream.specs.declared.stream_spec.Stream.{Stream}
 use Rattle.status_page.specs.declared.snapshot.StreamState.{StreamState}
 use Rattle.live_status.specs.Conditions.{SetsCondition}
 use Rattle.live_status.specs.Each.{AreEach}
-use Rattle.live_status.specs.Watch.{NotesPath, ShowsPath, any_in_time, most_left, new_path_watch}
+use Rattle.live_status.specs.Watch.{NotesPath, ShowsPath, any_in_time, most_left, new_arrival_watch}
 use Rattle.live_status.specs.declared.reception_watch.stream_watch.StreamWatch.{StreamWatch}
 use Rattle.live_status.specs.declared.stream_status.StreamStatus.{StreamStatus}
 
--- the watch of a stream if nothing was taken by this time; its room is the window in sampling instants
+-- the watch of a stream if nothing was taken by this time; its `window_span` is the window in sampling instants
 pub record IsNewWatch (now : ℤ) (stream : Stream) (watch : StreamWatch) : Type 0 where
-  pub room_is : watch.room ≡ stream.window * stream.frames
+  pub window_span_is : watch.window_span ≡ stream.window * stream.frames
   pub restarts_are : watch.restarts ≡ 0
-  pub paths_are : watch.paths ≡ new_path_watch now ∷ new_path_watch now ∷ new_path_watch now ∷ new_path_watch now ∷ []
+  pub paths_are : watch.paths ≡ new_arrival_watch now ∷ new_arrival_watch now ∷ new_arrival_watch now ∷ new_arrival_watch now ∷ []
 
 abbrev pub IsNewWatchAt : ℤ → ℕ → Stream → StreamWatch → Type 0
 IsNewWatchAt now place stream watch = IsNewWatch now stream watch
 
 -- the state of a stream was noted: an epoch began if the number of restarts changed
 pub record NotesStream (now : ℤ) (stream : StreamState) (old new : StreamWatch) : Type 0 where
-  pub room_is : new.room ≡ old.room
+  pub window_span_is : new.window_span ≡ old.window_span
   pub restarts_are : new.restarts ≡ stream.counts.restarts
-  pub paths_are : AreEach (NotesPath now old.room (not (stream.counts.restarts == old.restarts)) stream.paths.items) old.paths new.paths
+  pub paths_are : AreEach (NotesPath now old.window_span (not (stream.counts.restarts == old.restarts)) stream.paths.items) old.paths new.paths
 
 -- the watch at a place noted the stream at that place, if there is one
 abbrev pub NotesStreamAt : ℤ → List StreamState → ℕ → StreamWatch → StreamWatch → Type 0

@@ -4,11 +4,11 @@ use Rattle.std.specs.Prelude.{◌≡◌, ℕ, ◌+◌, ◌-◌, ◌^◌, max, mi
 use Rattle.rtp_stats.specs.Drift.{MinuteState, drift_of, minute_after, minute_from}
 use Rattle.rtp_stats.specs.Margins.{second_of}
 use Rattle.rtp_stats.specs.declared.drift.Drift.{Drift}
-use Rattle.rtp_stats.specs.declared.spare.ArrivalMargin.{ArrivalMargin}
+use Rattle.rtp_stats.specs.declared.arrival_margin.ArrivalMargin.{ArrivalMargin}
 use Rattle.status_page.specs.declared.snapshot.CopyCounts.{CopyCounts}
 use Rattle.status_page.specs.declared.snapshot.PathState.{PathState}
 use Rattle.live_status.specs.declared.reception_watch.count_watch.CountWatch.{CountWatch}
-use Rattle.live_status.specs.declared.reception_watch.path_watch.PathWatch.{PathWatch}
+use Rattle.live_status.specs.declared.reception_watch.arrival_watch.ArrivalWatch.{ArrivalWatch}
 
 -- a count, with the time since which it has not changed
 abbrev pub count_after : ℕ → ℤ → CountWatch → CountWatch
@@ -45,8 +45,8 @@ minute_with None minute = minute
 minute_with (Some margin) minute = minute_after margin minute
 
 -- the watch of a path on which nothing has arrived by this time
-abbrev pub new_path_watch : ℤ → PathWatch
-new_path_watch now = record {
+abbrev pub new_arrival_watch : ℤ → ArrivalWatch
+new_arrival_watch now = record {
   minute = record { next = 0; margins = [] };
   in_time = record { count = 0; since = now };
   astray = record { count = 0; since = now };
@@ -64,16 +64,16 @@ abbrev pub is_astray : CountWatch → CountWatch → ℤ → Bool
 is_astray in_time astray now = if is_still in_time now then not (is_still astray now) else false
 
 -- the watch of a path, after its state was noted
-pub record IsNoted (now : ℤ) (room : ℕ) (begins : Bool) (path : PathState) (old new : PathWatch) : Type 0 where
+pub record IsNoted (now : ℤ) (window_span : ℕ) (begins : Bool) (path : PathState) (old new : ArrivalWatch) : Type 0 where
   pub minute_is : new.minute ≡ minute_noted (second_of now) begins path.spare old.minute
   pub in_time_is : new.in_time ≡ in_time_count path.copies path.first now old.in_time
   pub astray_is : new.astray ≡ astray_count path.copies now old.astray
-  pub drift_is : new.drift ≡ drift_of (second_of now) room new.minute.margins
+  pub drift_is : new.drift ≡ drift_of (second_of now) window_span new.minute.margins
   pub in_time : new.is_in_time ≡ not (is_still new.in_time now)
   pub astray : new.is_astray ≡ is_astray new.in_time new.astray now
 
 -- some path is in time
-abbrev pub any_in_time : List PathWatch → Bool
+abbrev pub any_in_time : List ArrivalWatch → Bool
 any_in_time watches = fold (λ found watch. if watch.is_in_time then true else found) false watches
 
 -- the last 64 packets repeat numbers that were received in time, and no path is in time
@@ -85,7 +85,7 @@ abbrev pub is_repeating : Bool → Bool → Option CopyCounts → Bool
 is_repeating has_ended others copies = if has_ended then false else (if others then false else repeats copies)
 
 -- the path in a snapshot, by its watch
-abbrev pub shown_path : Bool → Bool → PathWatch → PathState → PathState
+abbrev pub shown_path : Bool → Bool → ArrivalWatch → PathState → PathState
 shown_path has_ended others watch path = record path {
   drift = option_map (λ drift. drift.ppm) watch.drift;
   is_astray = not has_ended && watch.is_astray;
@@ -101,17 +101,17 @@ abbrev pub with_left : Option ℕ → Option Drift → Option ℕ
 with_left most None = most
 with_left most (Some drift) = Some (greater most drift.left)
 
-abbrev pub left_with : Option ℕ → PathWatch → Option ℕ
+abbrev pub left_with : Option ℕ → ArrivalWatch → Option ℕ
 left_with most watch = with_left most watch.drift
 
 -- the time left of the path that has the most
-abbrev pub most_left : List PathWatch → Option ℕ
+abbrev pub most_left : List ArrivalWatch → Option ℕ
 most_left watches = fold left_with None watches
 
 -- the watch at a place noted the path at that place, if there is one
-abbrev pub NotesPath : ℤ → ℕ → Bool → List PathState → ℕ → PathWatch → PathWatch → Type 0
-NotesPath now room begins paths place old new = MatchOption (slice_get paths place) (new ≡ old) (λ path. IsNoted now room begins path old new)
+abbrev pub NotesPath : ℤ → ℕ → Bool → List PathState → ℕ → ArrivalWatch → ArrivalWatch → Type 0
+NotesPath now window_span begins paths place old new = MatchOption (slice_get paths place) (new ≡ old) (λ path. IsNoted now window_span begins path old new)
 
 -- the path at a place has what the watch at that place shows, if there is one
-abbrev pub ShowsPath : Bool → Bool → List PathWatch → ℕ → PathState → PathState → Type 0
+abbrev pub ShowsPath : Bool → Bool → List ArrivalWatch → ℕ → PathState → PathState → Type 0
 ShowsPath has_ended others watches place old new = MatchOption (slice_get watches place) (new ≡ old) (λ watch. new ≡ shown_path has_ended others watch old)

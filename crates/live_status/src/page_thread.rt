@@ -2,7 +2,7 @@
 
 use rtrb::{Producer, RingBuffer};
 use status_page::{
-    Control, ControlPage, GainDesk, Page, PageServer, RingSource, Snapshot, serve_page,
+    Control, ControlPage, GainRequester, Page, PageServer, RingSource, Snapshot, serve_page,
 };
 use std::alloc::{AllocError, AllocFailed, Global};
 use std::hash::RandomState;
@@ -15,7 +15,7 @@ use std::time::Clock;
 use thiserror::Error;
 
 /// The greatest number of snapshots that wait for the page.
-// Few are enough: the page uses only the newest, and the run drops one that finds no room.
+// Few are enough: the page uses only the newest, and the run drops one that finds no space.
 const MAX_SNAPSHOTS: usize = 4;
 
 /// The error of a page that cannot be opened.
@@ -44,14 +44,14 @@ impl<T: Drop> From<AllocFailed<T>> for PageFault {
 /// The server of a run's page, with the page, the ring from which its snapshots come, and the control of the run's
 /// gains, if the page has it.
 #[derive(Drop)]
-pub struct PageThread<D: GainDesk> {
+pub struct PageThread<D: GainRequester> {
     server: PageServer,
     page: Page,
     source: RingSource,
     control: Option<Control<D>>,
 }
 
-impl<D: GainDesk> PageThread<D> {
+impl<D: GainRequester> PageThread<D> {
     /// Binds a port of 127.0.0.1, and returns the page's server and the end of the ring for its snapshots. At port 0
     /// the system picks one. Returns `PageFault::Page` if the port cannot be bound.
     pub(crate) fn bind<R: Net + RandomSource>(

@@ -180,7 +180,7 @@ fn add_streams(snapshot: &mut Snapshot, statuses: &[StreamStatus])
     ensures outputs { snapshot.new.outputs ≡ snapshot.old.outputs }
 {
     for status in statuses {
-        // A snapshot has room for 16 streams, as many as a studio has at most.
+        // A snapshot has space for 16 streams, as many as a studio has at most.
         let _ = snapshot.streams.try_push(status.blank());
     }
 }
@@ -193,7 +193,7 @@ fn add_outputs(snapshot: &mut Snapshot, channels: usize)
     ensures streams { snapshot.new.streams ≡ snapshot.old.streams }
 {
     for _ in 0..channels {
-        // A snapshot has room for eight channels.
+        // A snapshot has space for eight channels.
         let _ = snapshot.outputs.try_push(ChannelState::default());
     }
 }

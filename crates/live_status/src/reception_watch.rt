@@ -10,8 +10,8 @@ use rtp_stream::StreamSpec;
 use status_page::StreamState;
 use std::alloc::{AllocError, Global};
 
+mod arrival_watch;
 mod count_watch;
-mod path_watch;
 pub(crate) mod stream_watch;
 
 /// Returns the watch of each of these streams. No packet arrived by the time `now`, in sampling instants.

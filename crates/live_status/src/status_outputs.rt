@@ -5,7 +5,7 @@ use crate::meter::Meter;
 use crate::page_thread::{PageFault, PageThread};
 use crate::publisher::{PublisherOutputs, StatusPublisher};
 use rtrb::Producer;
-use status_page::{Control, GainDesk, Snapshot, StreamName};
+use status_page::{Control, GainRequester, Snapshot, StreamName};
 use std::alloc::{AllocError, Global};
 use std::io::Write;
 use std::net::Net;
@@ -32,7 +32,7 @@ pub struct StatusOutputs<'a, E> {
 
 /// The page of a run and the end of the ring for its snapshots. Both are `None` without a page.
 #[derive(Drop)]
-pub struct OpenPage<D: GainDesk> {
+pub struct OpenPage<D: GainRequester> {
     /// The page's server. The caller runs it in a thread of its own.
     pub thread: Option<PageThread<D>>,
     /// The end of the ring into which the publisher puts snapshots.
@@ -41,7 +41,7 @@ pub struct OpenPage<D: GainDesk> {
 
 /// Binds the page's port, if a page is wanted, which gets this control of the run's gains, if there is one. Returns
 /// `PageFault::Memory` if an allocation fails, and `PageFault::Page` if the port cannot be bound.
-pub fn open_page<R: Net + RandomSource, D: GainDesk>(
+pub fn open_page<R: Net + RandomSource, D: GainRequester>(
     rt: &R,
     alloc: Global,
     port: Option<u16>,

@@ -62,7 +62,7 @@ impl StreamStatus {
         stream.name = self.name;
         stream.latency = u64::from(self.latency);
         for _ in 0..self.paths {
-            // There is room for four paths, as many as a stream has at most.
+            // There is space for four paths, as many as a stream has at most.
             let _ = stream.paths.try_push(PathState::default());
         }
         stream

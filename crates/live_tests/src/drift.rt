@@ -19,7 +19,7 @@ struct Margins {
     less: u32,
     /// The second in which the drift is wanted, and the time that the window holds.
     now: u64,
-    room: u32,
+    window_span: u32,
     /// The drift in parts per million, and the time left in seconds.
     wanted: Option<(i64, u64)>,
 }
@@ -27,14 +27,14 @@ struct Margins {
 /// A second has 48,000 sampling instants, so a change of 48 in each second is a drift of 1,000 parts per million.
 const MARGINS: [Margins; 9] = [
     Margins {
-        shows: "48 more in each second: 1,000 ppm, and the room above the greatest margin is used up",
+        shows: "48 more in each second: 1,000 ppm, and the time above the greatest margin is used up",
         count: 20,
         step: 1,
         start: 480,
         more: 48,
         less: 0,
         now: 20,
-        room: 3_072,
+        window_span: 3_072,
         // The greatest margin is 480 + 19 * 48 = 1,392, so 1,680 are left, and 35 s.
         wanted: Some((1_000, 35)),
     },
@@ -46,7 +46,7 @@ const MARGINS: [Margins; 9] = [
         more: 0,
         less: 24,
         now: 20,
-        room: 3_072,
+        window_span: 3_072,
         // The least margin is 960 - 19 * 24 = 504, and 504 / 24 = 21 s.
         wanted: Some((-500, 21)),
     },
@@ -58,7 +58,7 @@ const MARGINS: [Margins; 9] = [
         more: 1,
         less: 0,
         now: 10,
-        room: 3_072,
+        window_span: 3_072,
         // 3,072 - 109.
         wanted: Some((21, 2_963)),
     },
@@ -70,7 +70,7 @@ const MARGINS: [Margins; 9] = [
         more: 1,
         less: 0,
         now: 9,
-        room: 3_072,
+        window_span: 3_072,
         wanted: None,
     },
     Margins {
@@ -81,7 +81,7 @@ const MARGINS: [Margins; 9] = [
         more: 48,
         less: 0,
         now: 34,
-        room: 3_072,
+        window_span: 3_072,
         // The greatest margin is 480 + 11 * 48 = 1,008; 2,064 / 16 = 129 s.
         wanted: Some((333, 129)),
     },
@@ -93,7 +93,7 @@ const MARGINS: [Margins; 9] = [
         more: 0,
         less: 0,
         now: 60,
-        room: 3_072,
+        window_span: 3_072,
         wanted: Some((0, 31_536_000)),
     },
     Margins {
@@ -104,7 +104,7 @@ const MARGINS: [Margins; 9] = [
         more: 0,
         less: 1,
         now: 100,
-        room: 3_072,
+        window_span: 3_072,
         // The least margin is 901.
         wanted: Some((-21, 901)),
     },
@@ -116,18 +116,18 @@ const MARGINS: [Margins; 9] = [
         more: 48,
         less: 0,
         now: 71,
-        room: 3_072,
+        window_span: 3_072,
         wanted: None,
     },
     Margins {
-        shows: "margins that are past the room of the window leave no time",
+        shows: "margins that are past the span of the window leave no time",
         count: 20,
         step: 1,
         start: 480,
         more: 48,
         less: 0,
         now: 20,
-        room: 1_000,
+        window_span: 1_000,
         wanted: Some((1_000, 0)),
     },
 ];
@@ -152,7 +152,7 @@ fn drift_of(margins: &Margins) -> Option<(i64, u64)> {
             .saturating_add(margins.more)
             .saturating_sub(margins.less);
     }
-    shown(minute.drift(margins.now, margins.room))
+    shown(minute.drift(margins.now, margins.window_span))
 }
 
 /// Returns the two numbers of a drift.

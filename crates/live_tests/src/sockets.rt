@@ -4,7 +4,7 @@
 ghost use Rattle.std.specs.Prelude.{[]};
 
 use live_io::{
-    DatagramSocket, PathPlace, ReceivePace, RestClock, RetryingSocket, SocketHealth, TaiOffset,
+    DatagramSocket, PathPlace, PauseClock, ReceivePace, RetryingSocket, SocketHealth, TaiOffset,
     drops_in, have_collision, tai_now,
 };
 use std::cell::Cell;
@@ -76,8 +76,8 @@ impl Clock for TestClock {
     }
 }
 
-impl RestClock for TestClock {
-    fn rest(&mut self, instants: u32) {
+impl PauseClock for TestClock {
+    fn pause(&mut self, instants: u32) {
         self.now = self.now.saturating_add(i64::from(instants));
     }
 }
@@ -120,7 +120,7 @@ fn a_failing_socket_is_tried_less_often_until_it_ends(rt: HostRuntime) {
             "fault {fault}"
         );
         assert_eq!(rt; health.faults(), fault);
-        assert!(rt; health.is_resting());
+        assert!(rt; health.is_pausing());
         if fault == 1000 {
             break;
         }
@@ -167,7 +167,7 @@ fn a_datagram_ends_the_back_off(rt: HostRuntime) {
         }
         retrying.socket.set_result(result);
         assert_eq!(rt; retrying.next(&mut buf), answer, "{result:?}");
-        assert_eq!(rt; health.is_resting(), result == Receive::Fault, "{result:?}");
+        assert_eq!(rt; health.is_pausing(), result == Receive::Fault, "{result:?}");
         // Without a rest the socket is read once its flag is set, and not before.
         if result != Receive::Fault {
             assert_eq!(rt;

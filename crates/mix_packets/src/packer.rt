@@ -61,7 +61,7 @@ impl Packer {
     pub fn next(&mut self, block: &[i32], out: &mut [u8]) -> usize
         requires whole { length block.now ≡ sample_total self.old.spec }
         requires fit { All (FitsEncoding self.old.spec.enc) block.now }
-        requires room { datagram_length self.old.spec ≤ length out.old }
+        requires space { datagram_length self.old.spec ≤ length out.old }
         requires number { self.old.number < 2 ^ 60 }
         ensures written { out.new ≡ block_datagram self.old.spec self.old.number block.now
             ++ drop (datagram_length self.old.spec) out.old }

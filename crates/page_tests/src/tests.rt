@@ -1,7 +1,7 @@
 //! Requests and their responses, and both texts of a snapshot.
 mod client;
 mod controls;
-mod desk;
+mod memory_requester;
 mod requests;
 mod sample;
 mod sockets;

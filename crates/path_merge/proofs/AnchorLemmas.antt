@@ -4,7 +4,7 @@ use Rattle.std.specs.Prelude.{nat_eq, nat_le, nat_lt}
 use Rattle.std.proofs.Math.Nat.{mod-lt}
 use Rattle.std.proofs.lemmas.Bool.Decides.{nat_tests}
 use Rattle.std.proofs.lemmas.Int.{ints}
-use Rattle.path_merge.proofs.EpochLemmas.{WithinLength, heard_of-push, no_anchors, place_within, room_made}
+use Rattle.path_merge.proofs.EpochLemmas.{WithinLength, heard_of-push, no_anchors, place_within, width_made}
 use Rattle.path_merge.proofs.FirstLemmas.{is_first}
 use Rattle.path_merge.proofs.HistoryLemmas.{IsNextEpoch, anchors_of-push, by_last_event, or_else}
 use Rattle.path_merge.proofs.MarkGrowthLemmas.{limit_of}
@@ -13,8 +13,8 @@ use Rattle.path_merge.proofs.AnewLemmas.{GoesOn, in_reach, itself_eq, own_copy}
 use Rattle.rtp_stream.specs.Anchor.{anchor_from, can_anchor, is_source_wanted, media_time_of, next_number, restart_from, restart_media_time}
 use Rattle.rtp_stream.specs.EpochLaws.{anchor_with, epochs_in}
 use Rattle.rtp_stream.specs.Epochs.{anchor_in, anchors_after, anchors_at, anchors_of, can_restart, copies_since, continues_media_time, copies_under_at, is_all_given, last_of, placed}
-use Rattle.rtp_stream.specs.Grid.{copies_under, end_of_copies, in_room}
-use Rattle.rtp_stream.specs.Standing.{is_following, is_slip}
+use Rattle.rtp_stream.specs.Grid.{copies_under, end_of_copies, of_width}
+use Rattle.rtp_stream.specs.Follow.{is_following, is_slip}
 use Rattle.rtp_stream.specs.History.{is_counting, time_of}
 use Rattle.rtp_stream.specs.Laws.{numbers_from}
 use Rattle.rtp_stream.specs.PathProbation.{is_complete, probation_after, probation_of}
@@ -159,7 +159,7 @@ module _ (stream : Stream) (open_at : ℤ) (some : 0 < stream.frames) where
             follows = record {
               not_back = on.not_back;
               all_given = grind (arith, nat_tests, given);
-              own = ap (λ room. copies_under (in_room stream room) (time_of open_at events) (is_counting events) (Some (restart_from stream (time_of open_at events) a (next_number stream a (time_of open_at events)) packet)) packet) (room_made stream open_at (restart_from stream (time_of open_at events) a (next_number stream a (time_of open_at events)) packet) events) ∙ rw counts (own_copy (in_room stream stream.window) (time_of open_at events) packet (a.epoch + 1) (restart_media_time stream.clock packet.ts (time_of open_at events) (media_time_of stream a (next_number stream a (time_of open_at events)))) some (wide stream.window stream.frames _ _ on.after on.before) small.0 small.1 on.after);
+              own = ap (λ width. copies_under (of_width stream width) (time_of open_at events) (is_counting events) (Some (restart_from stream (time_of open_at events) a (next_number stream a (time_of open_at events)) packet)) packet) (width_made stream open_at (restart_from stream (time_of open_at events) a (next_number stream a (time_of open_at events)) packet) events) ∙ rw counts (own_copy (of_width stream stream.window) (time_of open_at events) packet (a.epoch + 1) (restart_media_time stream.clock packet.ts (time_of open_at events) (media_time_of stream a (next_number stream a (time_of open_at events)))) some (wide stream.window stream.frames _ _ on.after on.before) small.0 small.1 on.after);
             };
           }
       by_tests false c w go given wanted e = cc

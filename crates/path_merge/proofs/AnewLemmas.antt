@@ -20,8 +20,8 @@ use Rattle.rtp_stream.specs.Nearest.{IsNearest}
 use Rattle.path_merge.specs.Steps.{IsRestartStep}
 use Rattle.rtp_stream.specs.PathProbation.{no_probation, probation_at}
 use Rattle.rtp_stream.specs.declared.probation.Probation.{Probation}
-use Rattle.rtp_stream.specs.declared.track.Track.{Track}
-use Rattle.rtp_stream.specs.PathTrack.{no_track, track_at}
+use Rattle.rtp_stream.specs.declared.follow.Track.{Track}
+use Rattle.rtp_stream.specs.FollowTrack.{no_track, track_at}
 use Rattle.rtp_stream.specs.StreamSpec.{Fits}
 use Rattle.rtp_stream.specs.declared.stream_spec.Stream.{Stream}
 use Rattle.path_merge.specs.Window.{IsEmpty}
@@ -159,9 +159,9 @@ sound_anew m media media' packet epoch g h counts probations' tracks' s fits seq
 
 -- a merge that holds nothing, and begins again at a packet, stays sound
 pub sound_restart : (m : MergeState) (media media' : ℤ) (path : ℕ) (packet : Packet) (a b : Anchor) (g h : FinMap nat_cmp Packet) (base' size' : ℕ) (counts' : Tally) (probations' : List Probation) (tracks' : List Track) → IsSound m media → m.anchor ≡ Some a → m.closed ≡ false → m.counts.arrived < 2 ^ 62 → Fits m.spec packet → packet.seq < 65536 → packet.ts < 2 ^ 32 → IsEmpty m.held → GoesOn m.spec m.time media media' → b ≡ made_by packet (a.epoch + 1) media' → IsEmpty g → ((n : ℕ) → get h n ≡ (if nat_eq n (65536 + packet.seq) then Some packet else get g n)) → base' ≡ 65536 + packet.seq → size' ≡ m.size → counts' ≡ with_fate m.counts path Restarted → IsSound (record m { anchor = Some b; base = base'; size = size'; held = h; counts = counts'; probations = probations'; tracks = tracks' }) media'
-sound_restart m media media' path packet a b g h base' size' counts' probations' tracks' s is_a open_yet room fits seq ts none_held first is_b empty put is_base is_size is_counts =
+sound_restart m media media' path packet a b g h base' size' counts' probations' tracks' s is_a open_yet space fits seq ts none_held first is_b empty put is_base is_size is_counts =
     rw (is_b, is_base, is_size, is_counts) (sound_anew m media media' packet (a.epoch + 1) g h (with_fate m.counts path Restarted) probations' tracks' s fits seq ts first.after first.before empty put (omega (arith, counts.restarts, an.epoch_is)) (record {
-      few_arrived = omega (arith, counts.arrived, room);
+      few_arrived = omega (arith, counts.arrived, space);
       few_epochs = omega (arith, counts.arrived, counts.restarts, an.epoch_is, an.few_epochs);
       slots_given = omega (arith, ints, counts.got, counts.lost, an.slots_given, first.not_back);
       taken_are = omega (arith, counts.taken, counts.got, an.taken_are, none_before);

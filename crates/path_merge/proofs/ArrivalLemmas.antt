@@ -3,8 +3,8 @@ use Rattle.std.proofs.Common.{◌≡◌, ℕ, ◌^◌, ◌<◌, ◌≤◌, Bool,
 use Rattle.std.specs.Prelude.{nat_eq, nat_lt}
 use Rattle.path_merge.proofs.StepLemmas.{take_all}
 use Rattle.path_merge.specs.Merge.{HasHistory, IsBaseOf, heard_of, standings_of}
-use Rattle.rtp_stream.specs.PathTrack.{track_at, track_of}
-use Rattle.rtp_stream.specs.Standing.{standings_on}
+use Rattle.rtp_stream.specs.FollowTrack.{track_at, track_of}
+use Rattle.rtp_stream.specs.Follow.{standings_on}
 use Rattle.path_merge.specs.MergeState.{MergeState}
 use Rattle.rtp_stream.specs.PathProbation.{probation_at, probation_of}
 use Rattle.std.specs.FinMap.{get}
@@ -12,9 +12,9 @@ use Rattle.std.proofs.lemmas.Bool.Decides.{nat_tests}
 use Rattle.path_merge.proofs.HistoryLemmas.{IsNextEpoch, anchor_made, made_next, or_else, anchor_of-push, copies_of_all-push, events_until_close-open, is_closed-append, is_well_timed_from-append, marks_in, marks_in-push, marks_of-in, time_of-append}
 use Rattle.path_merge.proofs.MarkGrowthLemmas.{AllLater, AllLaterThan, marks_in-more}
 use Rattle.rtp_stream.specs.Anchor.{next_number}
-use Rattle.rtp_stream.specs.Epochs.{anchor_of, anchors_of, last_of, room_in_force}
+use Rattle.rtp_stream.specs.Epochs.{anchor_of, anchors_of, last_of, width_in_force}
 use Rattle.rtp_stream.specs.Copies.{copies_at, copies_of_all, first_copy, copies_under_with, with_epoch}
-use Rattle.rtp_stream.specs.Grid.{extended_number, in_room, is_on_grid}
+use Rattle.rtp_stream.specs.Grid.{extended_number, of_width, is_on_grid}
 use Rattle.rtp_stream.specs.Counts.{counts_of}
 use Rattle.rtp_stream.specs.History.{arrival_count, is_closed, is_counting, is_well_timed, time_of}
 use Rattle.rtp_stream.specs.Marks.{marks_of}
@@ -26,14 +26,14 @@ use Rattle.rtp_stream.specs.declared.packet.Packet.{Packet}
 
 module _ (stream : Stream) (open_at : ℤ) (some : 0 < stream.frames) (events : List Event) (well_timed : is_well_timed open_at events ≡ true) (open_yet : is_closed events ≡ false) (path : ℕ) (packet : Packet) where
   -- a copy is of a number that has had no slot, or of a new epoch
-  copies_under-later : (room : ℕ) (time : ℤ) (hearing : Bool) (o made : Option Anchor) → IsNextEpoch stream open_at o made → AllLater stream o time (copies_under_with (in_room stream room) time hearing (or_else made o) packet)
-  copies_under-later room time hearing None None next = tt
-  copies_under-later room time hearing None (Some a) next = by_test (extended_number packet (next_number stream a time)) _
+  copies_under-later : (width : ℕ) (time : ℤ) (hearing : Bool) (o made : Option Anchor) → IsNextEpoch stream open_at o made → AllLater stream o time (copies_under_with (of_width stream width) time hearing (or_else made o) packet)
+  copies_under-later width time hearing None None next = tt
+  copies_under-later width time hearing None (Some a) next = by_test (extended_number packet (next_number stream a time)) _
     where
       by_test : (n : ℕ) (b : Bool) → AllLater stream None time (with_epoch (Some a) (if b then (n, packet) ∷ [] else []))
       by_test n true = (tt, tt)
       by_test n false = tt
-  copies_under-later room time hearing (Some a) None next = by_test (extended_number packet (next_number stream a time)) hearing (nat_eq packet.ssrc a.source) (is_on_grid stream a (extended_number packet (next_number stream a time)) packet.ts) _ (λ le. grind (arith, nat_tests, le))
+  copies_under-later width time hearing (Some a) None next = by_test (extended_number packet (next_number stream a time)) hearing (nat_eq packet.ssrc a.source) (is_on_grid stream a (extended_number packet (next_number stream a time)) packet.ts) _ (λ le. grind (arith, nat_tests, le))
     where
       by_test : (n : ℕ) (h s g w : Bool) → (w ≡ true → next_number stream a time ≤ n) → AllLater stream (Some a) time (with_epoch (Some a) (if h && (s && (g && w)) then (n, packet) ∷ [] else []))
       by_test n true true true true e = ((omega arith, λ same. e refl), tt)
@@ -41,14 +41,14 @@ module _ (stream : Stream) (open_at : ℤ) (some : 0 < stream.frames) (events : 
       by_test n true true false w e = tt
       by_test n true false g w e = tt
       by_test n false s g w e = tt
-  copies_under-later room time hearing (Some a) (Some b) next = by_test (extended_number packet (next_number stream b time)) _
+  copies_under-later width time hearing (Some a) (Some b) next = by_test (extended_number packet (next_number stream b time)) _
     where
       by_test : (n : ℕ) (c : Bool) → AllLater stream (Some a) time (with_epoch (Some b) (if c then (n, packet) ∷ [] else []))
       by_test n true = ((omega (arith, next), λ same. absurd (omega (arith, next, same))), tt)
       by_test n false = tt
 
   copies_at-later : AllLaterThan stream open_at events (copies_at stream open_at events (Arrive path packet))
-  copies_at-later = rw (anchor_of-push stream open_at events (Arrive path packet)) (copies_under-later (room_in_force stream open_at (last_of (anchors_of stream open_at (events ++ Arrive path packet ∷ []))) events) (time_of open_at events) (is_counting events) (anchor_of stream open_at events) (anchor_made stream open_at events (Arrive path packet)) (made_next stream open_at events (Arrive path packet)))
+  copies_at-later = rw (anchor_of-push stream open_at events (Arrive path packet)) (copies_under-later (width_in_force stream open_at (last_of (anchors_of stream open_at (events ++ Arrive path packet ∷ []))) events) (time_of open_at events) (is_counting events) (anchor_of stream open_at events) (anchor_made stream open_at events (Arrive path packet)) (made_next stream open_at events (Arrive path packet)))
 
   -- an arrival changes no mark, even if it opens an epoch
   pub marks_of-arrive : marks_of stream open_at (events ++ Arrive path packet ∷ []) ≡ marks_of stream open_at events

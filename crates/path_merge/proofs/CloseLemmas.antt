@@ -1,8 +1,8 @@
 -- The start of a merge, its close, and the marks that are left then.
 use Rattle.path_merge.proofs.EpochLemmas.{anchor_is, copies_of-since, heard_of-close, no_anchors, standings_of-close}
-use Rattle.rtp_stream.specs.PathTrack.{no_track, track_at, track_of}
-use Rattle.rtp_stream.specs.Standing.{standings_on}
-use Rattle.rtp_stream.specs.declared.track.Track.{Track}
+use Rattle.rtp_stream.specs.FollowTrack.{no_track, track_at, track_of}
+use Rattle.rtp_stream.specs.Follow.{standings_on}
+use Rattle.rtp_stream.specs.declared.follow.Track.{Track}
 use Rattle.path_merge.proofs.HistoryLemmas.{copies_of_all-close, anchor_of-close, copies_of-close, events_until_close-close, events_until_close-closed, fates_of-close, is_closed-append, is_well_timed_from-append, marks_in, marks_in-none, marks_in-push, marks_of-in, time_of-append}
 use Rattle.rtp_stream.specs.Copies.{copies_of_all, copies_of}
 use Rattle.rtp_stream.specs.Epochs.{anchors_of, last_of, anchor_of}

@@ -11,17 +11,17 @@ use Rattle.path_merge.proofs.FirstLemmas.{is_first}
 use Rattle.path_merge.proofs.HistoryLemmas.{by_last_event, or_else}
 use Rattle.rtp_stream.specs.Anchor.{anchor_from, can_anchor, first_media_time, is_first_in_reach, is_source_wanted, media_time_of, next_number, restart_from, restart_media_time}
 use Rattle.rtp_stream.specs.Epochs.{anchors_after, anchors_at, anchors_of, can_restart, continues_media_time, copies_since, copies_under_at, is_all_given, last_of, placed}
-use Rattle.rtp_stream.specs.Grid.{end_of_copies, extended_number, in_room, is_in_time}
+use Rattle.rtp_stream.specs.Grid.{end_of_copies, extended_number, of_width, is_in_time}
 use Rattle.rtp_stream.specs.History.{is_counting, time_of}
 use Rattle.rtp_stream.specs.Probation.{completes_probation, heard_since}
-use Rattle.rtp_stream.specs.Standing.{end_of_standings, end_since, is_following, is_slip, room_since, standing_after, standings_at, standings_on, standings_since}
+use Rattle.rtp_stream.specs.Follow.{end_of_standings, end_since, is_following, is_slip, width_since, standing_after, standings_at, standings_on, standings_since}
 use Rattle.path_merge.specs.HeardOnce.{HasFewPaths}
 use Rattle.rtp_stream.specs.declared.stream_spec.Stream.{Stream}
 use Rattle.rtp_stream.specs.declared.anchor.Anchor.{Anchor}
 use Rattle.rtp_stream.specs.declared.event.Event.{Event}
 use Rattle.rtp_stream.specs.declared.event.Event.TheVariants.{Arrive, Close, Tick}
 use Rattle.rtp_stream.specs.declared.packet.Packet.{Packet}
-use Rattle.rtp_stream.specs.declared.track.Standing.{Standing}
+use Rattle.rtp_stream.specs.declared.follow.Standing.{Standing}
 
 pub both : (a b : Bool) → (a && b) ≡ true → (a ≡ true) × (b ≡ true)
 both true b e = (refl, e)
@@ -179,7 +179,7 @@ module _ (stream : Stream) (open_at : ℤ) (some : 0 < stream.frames) where
         by_event (Arrive path packet) few =
             subst (λ f. end_of_copies (copies_since stream open_at place a events ++ copies_under_at stream place a open_at events (Arrive path packet)) ≤ end_since a (λ on. end_of_standings (standings_on on (standings_since stream open_at place a events ++ (if f && (is_counting events && is_source_wanted stream.ssrc packet.ssrc) then standing_after stream a (next_number stream a (time_of open_at events)) (standings_since stream open_at place a events) path packet ∷ [] else []))))) (sym follows)
             (one_more a (standings_since stream open_at place a events) (copies_since stream open_at place a events) (is_counting events) (is_source_wanted stream.ssrc packet.ssrc)
-            (is_in_time (in_room stream (room_since stream open_at place a events)) a (next_number stream a (time_of open_at events)) packet)
+            (is_in_time (of_width stream (width_since stream open_at place a events)) a (next_number stream a (time_of open_at events)) packet)
             (standing_after stream a (next_number stream a (time_of open_at events)) (standings_since stream open_at place a events) path packet)
             (extended_number packet (next_number stream a (time_of open_at events))) packet refl (few_last events path packet few) wanted ends.1)
           where
@@ -187,7 +187,7 @@ module _ (stream : Stream) (open_at : ℤ) (some : 0 < stream.frames) where
             same_source true c is e = grind (arith, nat_tests, is)
             same_source false c is e = cc
 
-            wanted : is_in_time (in_room stream (room_since stream open_at place a events)) a (next_number stream a (time_of open_at events)) packet ≡ true → is_source_wanted stream.ssrc packet.ssrc ≡ true
+            wanted : is_in_time (of_width stream (width_since stream open_at place a events)) a (next_number stream a (time_of open_at events)) packet ≡ true → is_source_wanted stream.ssrc packet.ssrc ≡ true
             wanted e = ap (is_source_wanted stream.ssrc) (same_source (nat_eq packet.ssrc a.source) _ refl e) ∙ ends.0
 
     -- the packet that opens one
@@ -195,7 +195,7 @@ module _ (stream : Stream) (open_at : ℤ) (some : 0 < stream.frames) where
     opened events path packet old b made = (
       ap (is_source_wanted stream.ssrc) made.source ∙ made.wanted,
       subst (λ l. end_of_copies l ≤ end_since b (λ on. end_of_standings (standings_on on (standings_since stream open_at (length events) b (events ++ Arrive path packet ∷ []))))) (sym (copies_since-made stream open_at events (Arrive path packet) b))
-          (by_test (is_counting events && is_in_time (in_room stream (room_since stream open_at (length events) b events)) b (next_number stream b (time_of open_at events)) packet) (extended_number packet (next_number stream b (time_of open_at events))) itself (λ on. end_of_standings (standings_on on (standings_since stream open_at (length events) b (events ++ Arrive path packet ∷ []))))),
+          (by_test (is_counting events && is_in_time (of_width stream (width_since stream open_at (length events) b events)) b (next_number stream b (time_of open_at events)) packet) (extended_number packet (next_number stream b (time_of open_at events))) itself (λ on. end_of_standings (standings_on on (standings_since stream open_at (length events) b (events ++ Arrive path packet ∷ []))))),
     )
       where
         itself : extended_number packet (next_number stream b (time_of open_at events)) ≡ b.number

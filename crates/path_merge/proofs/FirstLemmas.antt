@@ -1,6 +1,6 @@
 -- The first arrival that anchors a stream.
 use Rattle.rtp_stream.specs.Epochs.{anchor_in, anchor_of, anchors_of, last_of, placed}
-use Rattle.rtp_stream.specs.Grid.{copies_under, first_with, in_room}
+use Rattle.rtp_stream.specs.Grid.{copies_under, first_with, of_width}
 use Rattle.std.proofs.Common.{◌≡◌, ℕ, ◌+◌, ◌*◌, ◌^◌, ◌<◌, Bool, true, false, not, ◌&&◌, List, [], ◌∷◌, ◌++◌, length, Option, Some, None, ℤ, pos, ◌+ℤ◌, ◌-ℤ◌, ◌<ℤ◌, refl, sym, ap, subst, ◌∙◌, arith, if◌then◌else◌}
 use Rattle.std.specs.Prelude.{int_lt, int_le, nat_lt, nat_eq}
 use Rattle.std.proofs.lemmas.Bool.Decides.{nat_tests}
@@ -10,9 +10,9 @@ use Rattle.std.specs.Ordering.{nat_cmp}
 use Rattle.path_merge.proofs.ArrivalLemmas.{marks_of-arrive, stands_after_arrival}
 use Rattle.path_merge.proofs.HeldCountLemmas.{FateCounts, with_fate-counts}
 use Rattle.path_merge.proofs.HistoryLemmas.{marks_of-in, or_else}
-use Rattle.path_merge.proofs.EpochLemmas.{anchor_is, copies_of-since, copies_since-made, heard_of-made, last-push, room_made, since_of, standings_of-made}
-use Rattle.rtp_stream.specs.PathTrack.{no_track, track_at, track_of}
-use Rattle.rtp_stream.specs.Standing.{standings_on}
+use Rattle.path_merge.proofs.EpochLemmas.{anchor_is, copies_of-since, copies_since-made, heard_of-made, last-push, width_made, since_of, standings_of-made}
+use Rattle.rtp_stream.specs.FollowTrack.{no_track, track_at, track_of}
+use Rattle.rtp_stream.specs.Follow.{standings_on}
 use Rattle.path_merge.proofs.PlaceLemmas.{first_counts}
 use Rattle.path_merge.proofs.MarkGrowthLemmas.{AllSlotsBelow, limit_of, slots_below}
 use Rattle.path_merge.proofs.AnewLemmas.{own_copy, sound_anew}
@@ -80,7 +80,7 @@ is_first stream time packet can = by_tests (is_source_wanted stream.ssrc packet.
 some_inj : {x y : Packet} → Some x ≡ Some y → x ≡ y
 some_inj e = cc
 
-module _ (stream : Stream) (open_at : ℤ) (m : MergeState) (media : ℤ) (s : IsSound m media) (open_yet : m.closed ≡ false) (events : List Event) (k : ℕ) (at : HasHistory stream open_at m events k) (unanchored : m.anchor ≡ None) (room : m.counts.arrived < 2 ^ 62) (path : ℕ) (packet : Packet) (few_paths : path < 4) (seq : packet.seq < 65536) (ts : packet.ts < 2 ^ 32) where
+module _ (stream : Stream) (open_at : ℤ) (m : MergeState) (media : ℤ) (s : IsSound m media) (open_yet : m.closed ≡ false) (events : List Event) (k : ℕ) (at : HasHistory stream open_at m events k) (unanchored : m.anchor ≡ None) (space : m.counts.arrived < 2 ^ 62) (path : ℕ) (packet : Packet) (few_paths : path < 4) (seq : packet.seq < 65536) (ts : packet.ts < 2 ^ 32) where
   frames_some : 0 < stream.frames
   frames_some = rw at.spec at s.spec_ok.some_frames
 
@@ -95,7 +95,7 @@ module _ (stream : Stream) (open_at : ℤ) (m : MergeState) (media : ℤ) (s : I
   none_held = subst (λ o. IsAnchoredOrNot m media o) unanchored s.anchored
 
   hearing : is_counting events ≡ true
-  hearing = hears stream open_at m media s open_yet events k at room
+  hearing = hears stream open_at m media s open_yet events k at space
 
   no_last : last_of (anchors_of stream open_at events) ≡ None
   no_last = by_last (last_of (anchors_of stream open_at events)) (sym (anchor_is stream open_at events) ∙ sym at.anchor ∙ unanchored)
@@ -105,7 +105,7 @@ module _ (stream : Stream) (open_at : ℤ) (m : MergeState) (media : ℤ) (s : I
       by_last (Some (place, a)) e = cc
 
   pub fate_first : (new : MergeState) (fate : Fate) → IsFirstStep stream m new path packet fate → fate ≡ fate_of stream open_at events path packet
-  fate_first new answer step = step.fate_is ∙ sym (rw (still_open, no_last, sym at.anchor ∙ unanchored, ← at.time) (by_count (arrival_count events) (few stream open_at m media s open_yet events k at room)))
+  fate_first new answer step = step.fate_is ∙ sym (rw (still_open, no_last, sym at.anchor ∙ unanchored, ← at.time) (by_count (arrival_count events) (few stream open_at m media s open_yet events k at space)))
     where
       by_count : (n : ℕ) → n < 2 ^ 62 → (if not (nat_lt n (2 ^ 62)) then CountersFull else first_fate stream m.time packet) ≡ first_fate stream m.time packet
       by_count n h = let yes : nat_lt n (2 ^ 62) ≡ true = grind (arith, nat_tests, h) in rw yes refl
@@ -130,7 +130,7 @@ module _ (stream : Stream) (open_at : ℤ) (m : MergeState) (media : ℤ) (s : I
     where
       by_test : (b : Bool) → can_anchor stream m.time packet ≡ b → since_of stream open_at (if b then Some (length events, anchor_from stream m.time packet) else None) (events ++ Arrive path packet ∷ []) ≡ (if b then (65536 + packet.seq, packet) ∷ [] else [])
       by_test false e = refl
-      by_test true e = copies_since-made stream open_at events (Arrive path packet) (anchor_from stream m.time packet) ∙ ap (λ r. copies_under (in_room stream r) (time_of open_at events) (is_counting events) (Some (anchor_from stream m.time packet)) packet) (room_made stream open_at (anchor_from stream m.time packet) events) ∙ rw (← at.time, hearing) (own_copy (in_room stream stream.window) m.time packet 0 (first_media_time stream.clock packet.ts m.time) frames_some window_some seq ts (is_first stream m.time packet e).after)
+      by_test true e = copies_since-made stream open_at events (Arrive path packet) (anchor_from stream m.time packet) ∙ ap (λ r. copies_under (of_width stream r) (time_of open_at events) (is_counting events) (Some (anchor_from stream m.time packet)) packet) (width_made stream open_at (anchor_from stream m.time packet) events) ∙ rw (← at.time, hearing) (own_copy (of_width stream stream.window) m.time packet 0 (first_media_time stream.clock packet.ts m.time) frames_some window_some seq ts (is_first stream m.time packet e).after)
 
   heard_after : (on : ℕ) → heard_of stream open_at (last_of (anchors_of stream open_at (events ++ Arrive path packet ∷ []))) (events ++ Arrive path packet ∷ []) on ≡ []
   heard_after on = ap (λ o. heard_of stream open_at o (events ++ Arrive path packet ∷ []) on) last_after ∙ by_test (can_anchor stream m.time packet)
@@ -177,7 +177,7 @@ module _ (stream : Stream) (open_at : ℤ) (m : MergeState) (media : ℤ) (s : I
       by_test true e = rw (sym (taken_is new fate step) ∙ e, step.base e) (sym (one_held n (65536 + packet.seq) packet))
 
   pub stands_first : (new : MergeState) (fate : Fate) → IsFirstStep stream m new path packet fate → HasHistory stream open_at new (events ++ Arrive path packet ∷ []) k
-  stands_first new fate step = stands_after_arrival stream open_at frames_some m new events k path packet at open_yet (few stream open_at m media s open_yet events k at room) (record {
+  stands_first new fate step = stands_after_arrival stream open_at frames_some m new events k path packet at open_yet (few stream open_at m media s open_yet events k at space) (record {
     spec = ap (λ (x : MergeState). x.spec) step.changed;
     time = ap (λ (x : MergeState). x.time) step.changed;
     anchor = step.anchor ∙ ap (λ b. if b then Some (anchor_from stream m.time packet) else None) (taken_is new fate step) ∙ sym anchor_after;
@@ -186,19 +186,19 @@ module _ (stream : Stream) (open_at : ℤ) (m : MergeState) (media : ℤ) (s : I
     tracks = λ on few_on. ap (λ (x : MergeState). track_at x.tracks on) step.changed ∙ was_untracked on few_on ∙ ap (λ l. track_of (standings_on on l)) (sym standings_after);
     held = held_after new fate step;
     quiet = ap (λ (x : MergeState). x.quiet) step.changed;
-    counts = ap (λ (x : MergeState). x.counts) step.changed ∙ ap (λ t. with_fate t path fate) (at.counts ∙ ap (counts_of stream open_at events) (all stream open_at m media s open_yet events k at)) ∙ sym (counts_heard stream open_at m media s open_yet events k at path packet room fate (fate_first new fate step) (ap is_counted_fate step.fate_is ∙ first_counts stream m.time packet) few_paths);
+    counts = ap (λ (x : MergeState). x.counts) step.changed ∙ ap (λ t. with_fate t path fate) (at.counts ∙ ap (counts_of stream open_at events) (all stream open_at m media s open_yet events k at)) ∙ sym (counts_heard stream open_at m media s open_yet events k at path packet space fate (fate_first new fate step) (ap is_counted_fate step.fate_is ∙ first_counts stream m.time packet) few_paths);
     closed = ap (λ (x : MergeState). x.closed) step.changed;
     ended = ap (λ (x : MergeState). x.ended) step.changed;
   })
 
 -- a merge that takes its first packet, or refuses it, stays sound
 pub sound_refused : (m : MergeState) (media : ℤ) (path : ℕ) (fate : Fate) (counts' : Tally) (probations' : List Probation) → IsSound m media → m.counts.arrived < 2 ^ 62 → is_taken_fate fate ≡ false → counts' ≡ with_fate m.counts path fate → IsSound (record m { counts = counts'; probations = probations' }) media
-sound_refused m media path fate counts' probations' s room untaken is_counts = rw is_counts (record {
+sound_refused m media path fate counts' probations' s space untaken is_counts = rw is_counts (record {
   spec_ok = s.spec_ok;
   time_low = s.time_low;
   time_high = s.time_high;
   size_is = s.size_is;
-  few_arrived = omega (arith, counts.arrived, room);
+  few_arrived = omega (arith, counts.arrived, space);
   anchored = by_anchor m.anchor s.anchored;
 })
   where
@@ -247,9 +247,9 @@ sound_refused m media path fate counts' probations' s room untaken is_counts = r
     }
 
 pub sound_first : (m : MergeState) (media media' : ℤ) (path : ℕ) (packet : Packet) (a : Anchor) (g h : FinMap nat_cmp Packet) (base' size' : ℕ) (counts' : Tally) → IsSound m media → m.anchor ≡ None → m.closed ≡ false → m.counts.arrived < 2 ^ 62 → Fits m.spec packet → packet.seq < 65536 → packet.ts < 2 ^ 32 → can_anchor m.spec m.time packet ≡ true → a ≡ anchor_from m.spec m.time packet → IsEmpty g → ((n : ℕ) → get h n ≡ (if nat_eq n (65536 + packet.seq) then Some packet else get g n)) → base' ≡ 65536 + packet.seq → size' ≡ m.size → counts' ≡ with_fate m.counts path Taken → media' ≡ a.media → IsSound (record m { anchor = Some a; base = base'; size = size'; held = h; counts = counts' }) media'
-sound_first m media media' path packet a g h base' size' counts' s is_none open_yet room fits seq ts can is_a empty put is_base is_size is_counts is_media =
+sound_first m media media' path packet a g h base' size' counts' s is_none open_yet space fits seq ts can is_a empty put is_base is_size is_counts is_media =
     rw (is_media, is_a, is_base, is_size, is_counts) (sound_anew m media (first_media_time m.spec.clock packet.ts m.time) packet 0 g h (with_fate m.counts path Taken) m.probations m.tracks s fits seq ts first.after first.before empty put (omega (arith, counts.restarts, none.none_restarted)) (record {
-      few_arrived = omega (arith, counts.arrived, room);
+      few_arrived = omega (arith, counts.arrived, space);
       few_epochs = omega (arith, counts.arrived, counts.restarts, none.none_restarted);
       slots_given = omega (arith, ints, counts.got, counts.lost, none.none_got, none.none_lost, first.after, s.time_low, s.spec_ok.small_latency);
       taken_are = omega (arith, counts.taken, counts.got, none.none_taken, none.none_got);
@@ -305,11 +305,11 @@ first_put packet number g h p is_number empty answer put n =
 
 -- an offer to a merge with no anchor
 pub offers_first : (stream : Stream) (open_at : ℤ) (m : MergeState) (media : ℤ) → IsSound m media → m.closed ≡ false → (events : List Event) (k : ℕ) → HasHistory stream open_at m events k → m.anchor ≡ None → m.counts.arrived < 2 ^ 62 → (path : ℕ) (packet : Packet) → path < 4 → packet.seq < 65536 → packet.ts < 2 ^ 32 → (new : MergeState) (answer : Fate) → IsFirstStep m.spec m new path packet answer → Offers stream open_at new events k path packet answer
-offers_first stream open_at m media s open_yet events k at is_none room path packet few_paths seq ts new answer step =
+offers_first stream open_at m media s open_yet events k at is_none space path packet few_paths seq ts new answer step =
     let step_s : IsFirstStep stream m new path packet answer = subst (λ x. IsFirstStep x m new path packet answer) at.spec step in
     record {
-      fate_is = fate_first stream open_at m media s open_yet events k at is_none room path packet few_paths seq ts new answer step_s;
-      stands = stands_first stream open_at m media s open_yet events k at is_none room path packet few_paths seq ts new answer step_s;
+      fate_is = fate_first stream open_at m media s open_yet events k at is_none space path packet few_paths seq ts new answer step_s;
+      stands = stands_first stream open_at m media s open_yet events k at is_none space path packet few_paths seq ts new answer step_s;
       kept = marks_of-arrive stream open_at (rw at.spec at s.spec_ok.some_frames) events at.well_timed (sym at.closed ∙ open_yet) path packet;
     }
 

@@ -5,14 +5,14 @@ use Rattle.path_merge.specs.MergeState.{MergeState}
 use Rattle.path_merge.specs.Steps.{IsHeardStep, epoch_media, opening_of}
 use Rattle.rtp_stream.specs.Anchor.{is_source_wanted}
 use Rattle.rtp_stream.specs.PathProbation.{is_complete, probation_at, probation_heard}
-use Rattle.rtp_stream.specs.PathTrack.{is_often, is_slip_by, room_by, track_at, track_heard}
+use Rattle.rtp_stream.specs.FollowTrack.{is_often, is_slip_by, width_by, track_at, track_heard}
 use Rattle.rtp_stream.specs.Probation.{is_off}
-use Rattle.rtp_stream.specs.Standing.{empties, is_following}
+use Rattle.rtp_stream.specs.Follow.{empties, is_following}
 use Rattle.rtp_stream.specs.declared.stream_spec.Stream.{Stream}
 use Rattle.rtp_stream.specs.declared.anchor.Anchor.{Anchor}
 use Rattle.rtp_stream.specs.declared.packet.Packet.{Packet}
 use Rattle.rtp_stream.specs.declared.probation.Probation.{Probation}
-use Rattle.rtp_stream.specs.declared.track.Track.{Track}
+use Rattle.rtp_stream.specs.declared.follow.Track.{Track}
 
 pub heard_step : (m : MergeState) (a : Anchor) (path : ℕ) (packet : Packet) (off : Bool) (probations' : List Probation) (tracks' : List Track)
     → off ≡ is_off m.spec a m.base packet → probation_at probations' path ≡ probation_heard m.spec (probation_at m.probations path) off packet
@@ -55,9 +55,9 @@ module _ (m : MergeState) (a : Anchor) (path : ℕ) (packet : Packet) where
   pub opening_none : (either : Bool) → either ≡ (is_source_wanted m.spec.ssrc packet.ssrc && (is_complete (probation_heard m.spec (probation_at m.probations path) (is_off m.spec a m.base packet) packet) || is_slip_by m.spec a m.base m.tracks path packet)) → either ≡ false → None ≡ opening_of m a path packet
   opening_none either is stays = sym (ap (λ b. if b then epoch_media m a packet else None) (sym is ∙ stays))
 
--- the room is never more than the window
-pub room_few : (stream : Stream) (a : Anchor) (next : ℕ) (tracks : List Track) → room_by stream a next tracks ≤ stream.window
-room_few stream a next tracks = by_test (is_following stream.clock && empties a next (λ path. is_often (track_at tracks path).early) (λ path. (track_at tracks path).end))
+-- the width is never more than the window
+pub width_few : (stream : Stream) (a : Anchor) (next : ℕ) (tracks : List Track) → width_by stream a next tracks ≤ stream.window
+width_few stream a next tracks = by_test (is_following stream.clock && empties a next (λ path. is_often (track_at tracks path).early) (λ path. (track_at tracks path).end))
   where
     by_test : (b : Bool) → (if b then 0 else stream.window) ≤ stream.window
     by_test true = omega arith

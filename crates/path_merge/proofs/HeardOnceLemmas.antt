@@ -17,8 +17,8 @@ use Rattle.rtp_stream.proofs.ProbationLemmas.{last_of-some}
 use Rattle.rtp_stream.specs.Anchor.{next_number}
 use Rattle.rtp_stream.specs.Copies.{copies_at, copies_in, copies_of_all, copies_with, with_epoch}
 use Rattle.rtp_stream.specs.EpochLaws.{AllSlotsAmong, HasSpans, IsSlotAmong, IsSlotUnder, anchor_with, epochs_in, spans_of}
-use Rattle.rtp_stream.specs.Epochs.{anchor_in, anchor_of, anchors_at, anchors_of, can_restart, copies_since, last_of, room_in_force}
-use Rattle.rtp_stream.specs.Grid.{copies_under, end_of_copies, extended_number, first_with, in_room, is_on_grid}
+use Rattle.rtp_stream.specs.Epochs.{anchor_in, anchor_of, anchors_at, anchors_of, can_restart, copies_since, last_of, width_in_force}
+use Rattle.rtp_stream.specs.Grid.{copies_under, end_of_copies, extended_number, first_with, of_width, is_on_grid}
 use Rattle.rtp_stream.specs.History.{is_counting, is_well_timed, time_of}
 use Rattle.rtp_stream.specs.Laws.{names_from, names_in, numbers_from, slot_names}
 use Rattle.rtp_stream.specs.MarkFacts.{MarkView}
@@ -103,7 +103,7 @@ module _ (stream : Stream) (open_at : ℤ) (some : 0 < stream.frames) where
         none : (event : Event) → suc (suc epoch) ≤ limit_of stream (anchor_of stream open_at (events ++ event ∷ [])) → copies_in epoch (copies_at stream open_at events event) ≡ []
         none (Tick u) le = refl
         none Close le = refl
-        none (Arrive path packet) le = by_anchor (anchor_of stream open_at (events ++ Arrive path packet ∷ [])) (copies_under (in_room stream (room_in_force stream open_at (last_of (anchors_of stream open_at (events ++ Arrive path packet ∷ []))) events)) (time_of open_at events) (is_counting events) (anchor_of stream open_at (events ++ Arrive path packet ∷ [])) packet) le
+        none (Arrive path packet) le = by_anchor (anchor_of stream open_at (events ++ Arrive path packet ∷ [])) (copies_under (of_width stream (width_in_force stream open_at (last_of (anchors_of stream open_at (events ++ Arrive path packet ∷ []))) events)) (time_of open_at events) (is_counting events) (anchor_of stream open_at (events ++ Arrive path packet ∷ [])) packet) le
 
     pub due_stays : (a : Anchor) (place : ℕ) → place ≤ length events → due_at stream open_at (events ++ event ∷ []) a place ≡ due_at stream open_at events a place
     due_stays a place le = ap (λ l. next_number stream a (time_of open_at l)) (take-append-le place events (event ∷ []) le)

@@ -5,11 +5,11 @@ use Rattle.path_merge.specs.MergeState.{MergeState}
 use Rattle.path_merge.specs.Steps.{epoch_media, opens_epoch}
 use Rattle.rtp_stream.specs.Anchor.{is_source_wanted}
 use Rattle.rtp_stream.specs.Fate.{place_of}
-use Rattle.rtp_stream.specs.Grid.{extended_number, in_room, is_on_grid}
+use Rattle.rtp_stream.specs.Grid.{extended_number, of_width, is_on_grid}
 use Rattle.rtp_stream.specs.PathProbation.{is_complete, probation_at, probation_heard}
-use Rattle.rtp_stream.specs.PathTrack.{is_slip_by, room_by}
+use Rattle.rtp_stream.specs.FollowTrack.{is_slip_by, width_by}
 use Rattle.rtp_stream.specs.Probation.{is_off}
-use Rattle.rtp_stream.specs.Standing.{is_following}
+use Rattle.rtp_stream.specs.Follow.{is_following}
 use Rattle.rtp_stream.specs.declared.stream_spec.Stream.{Stream}
 use Rattle.rtp_stream.specs.declared.anchor.Anchor.{Anchor}
 use Rattle.rtp_stream.specs.declared.fate.Fate.{Fate}
@@ -17,8 +17,8 @@ use Rattle.rtp_stream.specs.declared.fate.Fate.TheVariants.{Ahead, Late, OffGrid
 use Rattle.rtp_stream.specs.declared.packet.Packet.{Packet}
 
 -- a packet with a place is in step
-pub placed_in_step : (stream : Stream) (room : ℕ) (a : Anchor) (next : ℕ) (packet : Packet) (number : ℕ) → Ok number ≡ place_of (in_room stream room) a next packet → is_off stream a next packet ≡ false
-placed_in_step stream room a next packet number is = by_tests (nat_eq packet.ssrc a.source) (is_on_grid stream a (extended_number packet next) packet.ts) (nat_lt (extended_number packet next) next) (nat_lt (extended_number packet next) (next + room)) is
+pub placed_in_step : (stream : Stream) (width : ℕ) (a : Anchor) (next : ℕ) (packet : Packet) (number : ℕ) → Ok number ≡ place_of (of_width stream width) a next packet → is_off stream a next packet ≡ false
+placed_in_step stream width a next packet number is = by_tests (nat_eq packet.ssrc a.source) (is_on_grid stream a (extended_number packet next) packet.ts) (nat_lt (extended_number packet next) next) (nat_lt (extended_number packet next) (next + width)) is
   where
     by_tests : (t g l h : Bool) → ◌≡◌ {A = Result ℕ Fate} (Ok number) (if not t then Err WrongSource else if not g then Err OffGrid else if l then Err Late else if not h then Err Ahead else Ok (extended_number packet next)) → (not t || not g) ≡ false
     by_tests true true l h e = refl
@@ -26,9 +26,9 @@ placed_in_step stream room a next packet number is = by_tests (nat_eq packet.ssr
     by_tests false g l h e = cc
 
 module _ (m : MergeState) (a : Anchor) (path : ℕ) (packet : Packet) (plain : is_following m.spec.clock ≡ false) where
-  -- the window has its room
-  pub room_whole : room_by m.spec a m.base m.tracks ≡ m.spec.window
-  room_whole = rw plain refl
+  -- the window has its width
+  pub width_whole : width_by m.spec a m.base m.tracks ≡ m.spec.window
+  width_whole = rw plain refl
 
   module _ (on : is_off m.spec a m.base packet ≡ false) where
     -- a packet in step opens no epoch

@@ -1,7 +1,7 @@
 -- A reading to a deadline on the way to a later reading changes nothing.
 use Rattle.path_merge.proofs.EpochLemmas.{heard_of-tick, standings_of-tick}
-use Rattle.rtp_stream.specs.PathTrack.{track_of}
-use Rattle.rtp_stream.specs.Standing.{standings_on}
+use Rattle.rtp_stream.specs.FollowTrack.{track_of}
+use Rattle.rtp_stream.specs.Follow.{standings_on}
 use Rattle.rtp_stream.specs.PathProbation.{probation_of}
 use Rattle.rtp_stream.specs.Epochs.{anchor_of}
 use Rattle.rtp_stream.specs.Grid.{first_with}

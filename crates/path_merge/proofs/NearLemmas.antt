@@ -12,7 +12,7 @@ use Rattle.rtp_stream.specs.History.{arrival_count, is_closed, is_counting, time
 use Rattle.rtp_stream.specs.Marks.{marks_of}
 use Rattle.rtp_stream.specs.PathProbation.{is_complete}
 use Rattle.rtp_stream.specs.Probation.{completes_probation, heard_since, is_off}
-use Rattle.rtp_stream.specs.Standing.{is_following, is_slip}
+use Rattle.rtp_stream.specs.Follow.{is_following, is_slip}
 use Rattle.rtp_stream.specs.Sent.{Arrives, BeginsWith, Closes, IsNear, IsOneEpoch, IsWithinReach, SentEvent, SentPacket, Ticks, marks_by_number, wire_history, wire_packet}
 use Rattle.rtp_stream.specs.declared.stream_spec.Stream.{Stream}
 use Rattle.rtp_stream.specs.declared.anchor.Anchor.{Anchor}

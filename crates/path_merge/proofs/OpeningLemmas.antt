@@ -9,7 +9,7 @@ use Rattle.path_merge.proofs.SoundLemmas.{anchored_at}
 use Rattle.rtp_stream.specs.Anchor.{is_restart_in_reach, is_source_wanted, media_time_of, restart_media_time}
 use Rattle.path_merge.specs.MergeState.{IsAnchored, IsSound, MergeState, held_count, holds_nothing}
 use Rattle.rtp_stream.specs.PathProbation.{is_complete, probation_at, probation_heard}
-use Rattle.rtp_stream.specs.PathTrack.{is_slip_by}
+use Rattle.rtp_stream.specs.FollowTrack.{is_slip_by}
 use Rattle.rtp_stream.specs.Probation.{is_off}
 use Rattle.path_merge.specs.Steps.{epoch_media, opening_of}
 use Rattle.path_merge.specs.Window.{IsEmpty}

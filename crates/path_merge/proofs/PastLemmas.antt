@@ -8,14 +8,14 @@ use Rattle.path_merge.proofs.EpochLemmas.{WithinLength, anchor_is, copies_of-sin
 use Rattle.rtp_stream.proofs.ProbationLemmas.{complete_is, probation_of-push}
 use Rattle.rtp_stream.specs.Anchor.{first_media_time, is_source_wanted, next_number}
 use Rattle.rtp_stream.specs.Copies.{copies_of}
-use Rattle.rtp_stream.specs.Epochs.{anchor_in, anchor_of, anchors_of, can_restart, continues_media_time, copies_since, is_all_given, last_of, room_in_force}
+use Rattle.rtp_stream.specs.Epochs.{anchor_in, anchor_of, anchors_of, can_restart, continues_media_time, copies_since, is_all_given, last_of, width_in_force}
 use Rattle.rtp_stream.specs.Fate.{counted_fate, fate_at, fate_of, fate_of_put, fault_or, is_restart}
-use Rattle.rtp_stream.specs.Grid.{end_of_copies, extended_number, first_with, in_room, is_on_grid}
+use Rattle.rtp_stream.specs.Grid.{end_of_copies, extended_number, first_with, of_width, is_on_grid}
 use Rattle.rtp_stream.specs.History.{arrival_count, is_closed, is_counting, time_of}
 use Rattle.rtp_stream.specs.PathProbation.{is_complete}
 use Rattle.rtp_stream.specs.Probation.{completes_probation, heard_since, is_off}
 use Rattle.rtp_stream.specs.Put.{put_answer}
-use Rattle.rtp_stream.specs.Standing.{are_many, end_of_standings, end_since, has_wire_size, is_astray, is_following, is_slip, room_after, standing_after, standings_on, standings_since}
+use Rattle.rtp_stream.specs.Follow.{are_many, end_of_standings, end_since, has_wire_size, is_astray, is_following, is_slip, width_after, standing_after, standings_on, standings_since}
 use Rattle.path_merge.specs.HeardOnce.{HasFewPaths}
 use Rattle.rtp_stream.specs.declared.stream_spec.Stream.{Stream}
 use Rattle.rtp_stream.specs.declared.anchor.Anchor.{Anchor}
@@ -34,15 +34,15 @@ put_never (Some first) packet e = by_same (bytes_eq first.payload.items packet.p
     by_same true e = cc
     by_same false e = cc
 
-counted_never : (stream : Stream) (room : ℕ) (time : ℤ) (o : Option Anchor) (copies : List (ℕ × Packet)) (packet : Packet) → counted_fate stream room time o copies packet ≡ Restarted → ⊥
-counted_never stream room time None copies packet = by_tests (is_source_wanted stream.ssrc packet.ssrc) (int_le (first_media_time stream.clock packet.ts time) (time -ℤ pos stream.latency)) (int_le (time -ℤ pos stream.latency +ℤ pos (stream.window * stream.frames)) (first_media_time stream.clock packet.ts time))
+counted_never : (stream : Stream) (width : ℕ) (time : ℤ) (o : Option Anchor) (copies : List (ℕ × Packet)) (packet : Packet) → counted_fate stream width time o copies packet ≡ Restarted → ⊥
+counted_never stream width time None copies packet = by_tests (is_source_wanted stream.ssrc packet.ssrc) (int_le (first_media_time stream.clock packet.ts time) (time -ℤ pos stream.latency)) (int_le (time -ℤ pos stream.latency +ℤ pos (stream.window * stream.frames)) (first_media_time stream.clock packet.ts time))
   where
     by_tests : (w l h : Bool) → (if not w then WrongSource else fault_or (if l then Some Late else if h then Some Ahead else None) Taken) ≡ Restarted → ⊥
     by_tests false l h e = cc
     by_tests true true h e = cc
     by_tests true false true e = cc
     by_tests true false false e = cc
-counted_never stream room time (Some a) copies packet = by_tests (nat_eq packet.ssrc a.source) (is_on_grid (in_room stream room) a (extended_number packet (next_number (in_room stream room) a time)) packet.ts) (nat_lt (extended_number packet (next_number (in_room stream room) a time)) (next_number (in_room stream room) a time)) (nat_lt (extended_number packet (next_number (in_room stream room) a time)) (next_number (in_room stream room) a time + room)) (extended_number packet (next_number (in_room stream room) a time))
+counted_never stream width time (Some a) copies packet = by_tests (nat_eq packet.ssrc a.source) (is_on_grid (of_width stream width) a (extended_number packet (next_number (of_width stream width) a time)) packet.ts) (nat_lt (extended_number packet (next_number (of_width stream width) a time)) (next_number (of_width stream width) a time)) (nat_lt (extended_number packet (next_number (of_width stream width) a time)) (next_number (of_width stream width) a time + width)) (extended_number packet (next_number (of_width stream width) a time))
   where
     by_tests : (t g l h : Bool) (n : ℕ) → fate_at (if not t then Err WrongSource else if not g then Err OffGrid else if l then Err Late else if not h then Err Ahead else Ok n) (λ number. first_with number copies) packet ≡ Restarted → ⊥
     by_tests false g l h n e = cc
@@ -54,9 +54,9 @@ counted_never stream room time (Some a) copies packet = by_tests (nat_eq packet.
 pub opens_by_fate : (stream : Stream) (open_at : ℤ) (events : List Event) (path : ℕ) (packet : Packet) → fate_of stream open_at events path packet ≡ Restarted → (is_counting events ≡ true) × (is_restart stream open_at (last_of (anchors_of stream open_at events)) events path packet ≡ true)
 opens_by_fate stream open_at events path packet = by_tests (is_closed events) (nat_lt (arrival_count events) (2 ^ 62)) (is_restart stream open_at (last_of (anchors_of stream open_at events)) events path packet)
   where
-    by_tests : (s r o : Bool) → (if s then Closed else if not r then CountersFull else if o then Restarted else counted_fate stream (room_in_force stream open_at (last_of (anchors_of stream open_at events)) events) (time_of open_at events) (anchor_of stream open_at events) (copies_of stream open_at events) packet) ≡ Restarted → ((not s && r) ≡ true) × (o ≡ true)
+    by_tests : (s r o : Bool) → (if s then Closed else if not r then CountersFull else if o then Restarted else counted_fate stream (width_in_force stream open_at (last_of (anchors_of stream open_at events)) events) (time_of open_at events) (anchor_of stream open_at events) (copies_of stream open_at events) packet) ≡ Restarted → ((not s && r) ≡ true) × (o ≡ true)
     by_tests false true true e = (refl, refl)
-    by_tests false true false e = absurd (counted_never stream (room_in_force stream open_at (last_of (anchors_of stream open_at events)) events) (time_of open_at events) (anchor_of stream open_at events) (copies_of stream open_at events) packet e)
+    by_tests false true false e = absurd (counted_never stream (width_in_force stream open_at (last_of (anchors_of stream open_at events)) events) (time_of open_at events) (anchor_of stream open_at events) (copies_of stream open_at events) packet e)
     by_tests false false o e = cc
     by_tests true r o e = cc
 
@@ -116,7 +116,7 @@ module _ (stream : Stream) (open_at : ℤ) (some : 0 < stream.frames) (events : 
           (nat_lt (extended_number packet (next_number stream a (time_of open_at events))) (next_number stream a (time_of open_at events)))
           (nat_le (end_since a (λ on. end_of_standings (standings_on on (standings_since stream open_at place a events)))) (extended_number packet (next_number stream a (time_of open_at events))))
           (nat_le (next_number stream a (time_of open_at events)) (extended_number packet (next_number stream a (time_of open_at events))))
-          (nat_le (next_number stream a (time_of open_at events) + room_after stream a (next_number stream a (time_of open_at events)) (standings_since stream open_at place a events)) (extended_number packet (next_number stream a (time_of open_at events))))
+          (nat_le (next_number stream a (time_of open_at events) + width_after stream a (next_number stream a (time_of open_at events)) (standings_since stream open_at place a events)) (extended_number packet (next_number stream a (time_of open_at events))))
           refl refl low high is
 
 -- the same, by the fate of the arrival

@@ -11,7 +11,7 @@ use Rattle.rtp_stream.specs.Anchor.{next_number}
 use Rattle.rtp_stream.specs.Counts.{is_restarted, is_taken_fate}
 use Rattle.rtp_stream.specs.CountsFacts.{Tally, with_fate}
 use Rattle.rtp_stream.specs.Fate.{fate_at, fate_of_put, place_of}
-use Rattle.rtp_stream.specs.Grid.{in_room}
+use Rattle.rtp_stream.specs.Grid.{of_width}
 use Rattle.path_merge.specs.MergeState.{IsSound, MergeState, held_count}
 use Rattle.path_merge.specs.Steps.{IsPutStep}
 use Rattle.rtp_stream.specs.declared.probation.Probation.{Probation}
@@ -25,19 +25,19 @@ use Rattle.rtp_stream.specs.declared.fate.Put.{Put}
 use Rattle.rtp_stream.specs.declared.fate.Put.TheVariants.{Double as PutDouble, Taken as PutTaken, Unlike as PutUnlike}
 
 -- the steps that the code makes
-pub put_step_fault : (m : MergeState) (room : ℕ) (a : Anchor) (path : ℕ) (packet : Packet) (fate : Fate) (counts' : Tally) → place_of (in_room m.spec room) a m.base packet ≡ Err fate → counts' ≡ with_fate m.counts path fate → IsPutStep m.spec room m (record m { counts = counts' }) a path packet fate
-put_step_fault m room a path packet fate counts' is is_counts =
-    let untaken = (has_no_place (in_room m.spec room) a m.base packet fate is).untaken in
+pub put_step_fault : (m : MergeState) (width : ℕ) (a : Anchor) (path : ℕ) (packet : Packet) (fate : Fate) (counts' : Tally) → place_of (of_width m.spec width) a m.base packet ≡ Err fate → counts' ≡ with_fate m.counts path fate → IsPutStep m.spec width m (record m { counts = counts' }) a path packet fate
+put_step_fault m width a path packet fate counts' is is_counts =
+    let untaken = (has_no_place (of_width m.spec width) a m.base packet fate is).untaken in
     record {
       fate_is = rw is refl;
       held = λ n. rw untaken refl;
       changed = rw is_counts refl;
     }
 
-pub put_step_put : (m : MergeState) (room : ℕ) (a : Anchor) (path : ℕ) (packet : Packet) (h : FinMap nat_cmp Packet) (base' size' number : ℕ) (counts' : Tally) (p : Put) (fate : Fate) → place_of (in_room m.spec room) a m.base packet ≡ Ok number → fate ≡ fate_of_put p → p ≡ put_answer (get m.held number) packet → ((n : ℕ) → get h n ≡ (if is_taken p && nat_eq n number then Some packet else get m.held n)) → base' ≡ m.base → size' ≡ m.size → counts' ≡ with_fate m.counts path fate → IsPutStep m.spec room m (record m { base = base'; size = size'; held = h; counts = counts' }) a path packet fate
-put_step_put m room a path packet h base' size' number counts' p fate is is_fate answer held is_base is_size is_counts = record {
+pub put_step_put : (m : MergeState) (width : ℕ) (a : Anchor) (path : ℕ) (packet : Packet) (h : FinMap nat_cmp Packet) (base' size' number : ℕ) (counts' : Tally) (p : Put) (fate : Fate) → place_of (of_width m.spec width) a m.base packet ≡ Ok number → fate ≡ fate_of_put p → p ≡ put_answer (get m.held number) packet → ((n : ℕ) → get h n ≡ (if is_taken p && nat_eq n number then Some packet else get m.held n)) → base' ≡ m.base → size' ≡ m.size → counts' ≡ with_fate m.counts path fate → IsPutStep m.spec width m (record m { base = base'; size = size'; held = h; counts = counts' }) a path packet fate
+put_step_put m width a path packet h base' size' number counts' p fate is is_fate answer held is_base is_size is_counts = record {
   fate_is = is_fate ∙ ap fate_of_put answer ∙ sym (ap (λ o. fate_at o (get m.held) packet) is);
-  held = λ n. held n ∙ ap (λ b. if b && nat_eq n number then Some packet else get m.held n) (sym (ap is_taken_fate is_fate ∙ taken_put p)) ∙ ap (λ x. if is_taken_fate fate && nat_eq n x then Some packet else get m.held n) (has_place (in_room m.spec room) a m.base packet number is).is;
+  held = λ n. held n ∙ ap (λ b. if b && nat_eq n number then Some packet else get m.held n) (sym (ap is_taken_fate is_fate ∙ taken_put p)) ∙ ap (λ x. if is_taken_fate fate && nat_eq n x then Some packet else get m.held n) (has_place (of_width m.spec width) a m.base packet number is).is;
   changed = rw (is_base, is_size, is_counts) refl;
 }
 
@@ -59,7 +59,7 @@ pub record PutCounts (m : MergeState) (h : FinMap nat_cmp Packet) (counts : Tall
   pub taken_are : m.counts.taken ≡ m.counts.got + held_count m.held m.base m.spec.window → counts.taken ≡ counts.got + held_count h m.base m.spec.window
 
 put_counts : (m : MergeState) (packet : Packet) (h : FinMap nat_cmp Packet) (number path : ℕ) (p : Put) → m.counts.arrived < 2 ^ 62 → m.base ≤ number → number < m.base + m.spec.window → p ≡ put_answer (get m.held number) packet → ((n : ℕ) → get h n ≡ (if is_taken p && nat_eq n number then Some packet else get m.held n)) → PutCounts m h (with_fate m.counts path (fate_of_put p))
-put_counts m packet h number path p room low high answer held = by_put p refl
+put_counts m packet h number path p space low high answer held = by_put p refl
   where
     counts : FateCounts m.counts (with_fate m.counts path (fate_of_put p)) (fate_of_put p)
     counts = with_fate-counts m.counts path (fate_of_put p)
@@ -74,18 +74,18 @@ put_counts m packet h number path p room low high answer held = by_put p refl
     by_put PutTaken is =
         let one = taken_is (ap is_taken is) in
         let more = ap {B = ℕ} (λ q. if is_taken_fate (fate_of_put q) then 1 else 0) is in
-        record { few_arrived = omega (arith, counts.arrived, room); slots_given = omega (arith, counts.got, counts.lost); restarts = omega (arith, counts.restarts, ap {B = ℕ} (λ q. if is_restarted (fate_of_put q) then 1 else 0) is); more = counts.more; taken_are = λ are. omega (arith, counts.taken, counts.got, one, more, are) }
+        record { few_arrived = omega (arith, counts.arrived, space); slots_given = omega (arith, counts.got, counts.lost); restarts = omega (arith, counts.restarts, ap {B = ℕ} (λ q. if is_restarted (fate_of_put q) then 1 else 0) is); more = counts.more; taken_are = λ are. omega (arith, counts.taken, counts.got, one, more, are) }
     by_put PutDouble is =
         let same = not_taken (ap is_taken is) in
         let none = ap {B = ℕ} (λ q. if is_taken_fate (fate_of_put q) then 1 else 0) is in
-        record { few_arrived = omega (arith, counts.arrived, room); slots_given = omega (arith, counts.got, counts.lost); restarts = omega (arith, counts.restarts, ap {B = ℕ} (λ q. if is_restarted (fate_of_put q) then 1 else 0) is); more = counts.more; taken_are = λ are. omega (arith, counts.taken, counts.got, same, none, are) }
+        record { few_arrived = omega (arith, counts.arrived, space); slots_given = omega (arith, counts.got, counts.lost); restarts = omega (arith, counts.restarts, ap {B = ℕ} (λ q. if is_restarted (fate_of_put q) then 1 else 0) is); more = counts.more; taken_are = λ are. omega (arith, counts.taken, counts.got, same, none, are) }
     by_put PutUnlike is =
         let same = not_taken (ap is_taken is) in
         let none = ap {B = ℕ} (λ q. if is_taken_fate (fate_of_put q) then 1 else 0) is in
-        record { few_arrived = omega (arith, counts.arrived, room); slots_given = omega (arith, counts.got, counts.lost); restarts = omega (arith, counts.restarts, ap {B = ℕ} (λ q. if is_restarted (fate_of_put q) then 1 else 0) is); more = counts.more; taken_are = λ are. omega (arith, counts.taken, counts.got, same, none, are) }
+        record { few_arrived = omega (arith, counts.arrived, space); slots_given = omega (arith, counts.got, counts.lost); restarts = omega (arith, counts.restarts, ap {B = ℕ} (λ q. if is_restarted (fate_of_put q) then 1 else 0) is); more = counts.more; taken_are = λ are. omega (arith, counts.taken, counts.got, same, none, are) }
 
 pub sound_put : (m : MergeState) (media : ℤ) (a : Anchor) (path : ℕ) (packet : Packet) (h : FinMap nat_cmp Packet) (base' size' number : ℕ) (counts' : Tally) (p : Put) (probations' : List Probation) → IsSound m media → m.anchor ≡ Some a → m.closed ≡ false → m.counts.arrived < 2 ^ 62 → Fits m.spec packet → m.base ≤ number → number < m.base + m.spec.window → p ≡ put_answer (get m.held number) packet → ((n : ℕ) → get h n ≡ (if is_taken p && nat_eq n number then Some packet else get m.held n)) → base' ≡ m.base → size' ≡ m.size → counts' ≡ with_fate m.counts path (fate_of_put p) → IsSound (record m { probations = probations'; base = base'; size = size'; held = h; counts = counts' }) media
-sound_put m media a path packet h base' size' number counts' p probations' s is_a open_yet room fits low high answer held is_base is_size is_counts = rw (is_base, is_size, is_counts) (record {
+sound_put m media a path packet h base' size' number counts' p probations' s is_a open_yet space fits low high answer held is_base is_size is_counts = rw (is_base, is_size, is_counts) (record {
   spec_ok = s.spec_ok;
   time_low = s.time_low;
   time_high = s.time_high;
@@ -108,7 +108,7 @@ sound_put m media a path packet h base' size' number counts' p probations' s is_
 })
   where
     counts : PutCounts m h (with_fate m.counts path (fate_of_put p))
-    counts = put_counts m packet h number path p room low high answer held
+    counts = put_counts m packet h number path p space low high answer held
 
     by_packet : (n : ℕ) (q : Packet) (b : Bool) → get h n ≡ (if b then Some packet else get m.held n) → get h n ≡ Some q → (get m.held n ≡ Some q → Fits m.spec q) → Fits m.spec q
     by_packet n q true e is other = let same : packet ≡ q = some_inj (sym e ∙ is) in subst (λ x. Fits m.spec x) same fits

@@ -4,12 +4,12 @@ use Rattle.std.specs.Prelude.{IsSome, is_some, nat_eq, nat_le, nat_lt, ◌-◌}
 use Rattle.std.specs.FinMap.{get}
 use Rattle.std.proofs.lemmas.Bool.Decides.{nat_tests}
 use Rattle.path_merge.proofs.ArrivalLemmas.{marks_of-arrive, stands_after_arrival}
-use Rattle.path_merge.proofs.EpochLemmas.{WithinLength, anchor_is, copies_of-since, copies_since-made, heard_of-made, heard_of-push, last-push, place_within, room_made, since_of, standings_of-made, standings_since-push}
-use Rattle.rtp_stream.proofs.TrackLemmas.{astray_is, early_is, end_is, track_of-push}
-use Rattle.rtp_stream.specs.PathTrack.{is_often, is_slip_by, room_by, standing_by, track_after, track_at, track_of}
-use Rattle.rtp_stream.specs.Standing.{are_many, empties, end_of_standings, end_since, has_wire_size, is_astray, is_beyond, is_following, is_slip, room_after, room_since, standing_after, standing_of, standings_on, standings_since}
-use Rattle.rtp_stream.specs.declared.track.Standing.{Standing}
-use Rattle.rtp_stream.specs.declared.track.Track.{Track}
+use Rattle.path_merge.proofs.EpochLemmas.{WithinLength, anchor_is, copies_of-since, copies_since-made, heard_of-made, heard_of-push, last-push, place_within, width_made, since_of, standings_of-made, standings_since-push}
+use Rattle.rtp_stream.proofs.FollowLemmas.{astray_is, early_is, end_is, track_of-push}
+use Rattle.rtp_stream.specs.FollowTrack.{is_often, is_slip_by, width_by, standing_by, track_after, track_at, track_of}
+use Rattle.rtp_stream.specs.Follow.{are_many, empties, end_of_standings, end_since, has_wire_size, is_astray, is_beyond, is_following, is_slip, width_after, width_since, standing_after, standing_of, standings_on, standings_since}
+use Rattle.rtp_stream.specs.declared.follow.Standing.{Standing}
+use Rattle.rtp_stream.specs.declared.follow.Track.{Track}
 use Rattle.path_merge.proofs.HistoryLemmas.{arrival_count-append, by_last_event, fates_of-push, fates_of-tick, is_closed-append, marks_of-in, or_else}
 use Rattle.path_merge.proofs.MarkGrowthLemmas.{AllSlotsBelow, IsSlotBelow, limit_of, slots_below}
 use Rattle.rtp_stream.proofs.ProbationLemmas.{complete_is, probation_of-push}
@@ -23,7 +23,7 @@ use Rattle.rtp_stream.specs.Counts.{counts_of, fates_of, is_counted_fate, tally_
 use Rattle.rtp_stream.specs.CountsFacts.{Tally, with_fate}
 use Rattle.rtp_stream.specs.Epochs.{anchor_in, anchor_of, anchors_at, anchors_of, can_restart, copies_since, continues_media_time, is_all_given, last_of}
 use Rattle.rtp_stream.specs.Fate.{fate_of}
-use Rattle.rtp_stream.specs.Grid.{copies_under, end_of_copies, first_with, in_room}
+use Rattle.rtp_stream.specs.Grid.{copies_under, end_of_copies, first_with, of_width}
 use Rattle.rtp_stream.specs.History.{arrival_count, at_places, is_closed, is_counting, time_of}
 use Rattle.rtp_stream.specs.MarkFacts.{MarkView}
 use Rattle.rtp_stream.specs.Marks.{marks_of}
@@ -160,7 +160,7 @@ module _ (stream : Stream) (open_at : ℤ) (m : MergeState) (media : ℤ) (s : I
       ap (λ f. tally_of_fates f (marks_of stream open_at events)) one ∙ tally-fate (fates_of stream open_at events) (marks_of stream open_at events) path fate few_paths counted
 
   -- an arrival that opens an epoch
-  module _ (room : m.counts.arrived < 2 ^ 62) (a : Anchor) (is_a : m.anchor ≡ Some a) (place : ℕ) (last : last_of (anchors_of stream open_at events) ≡ Some (place, a)) (path : ℕ) (packet : Packet) (few_paths : path < 4) where
+  module _ (space : m.counts.arrived < 2 ^ 62) (a : Anchor) (is_a : m.anchor ≡ Some a) (place : ℕ) (last : last_of (anchors_of stream open_at events) ≡ Some (place, a)) (path : ℕ) (packet : Packet) (few_paths : path < 4) where
     pub next_is : m.base ≡ next_number stream a m.time
     next_is = rw at.spec at (anchored_at m media m.anchor a is_a s.anchored).next_open open_yet
 
@@ -168,7 +168,7 @@ module _ (stream : Stream) (open_at : ℤ) (m : MergeState) (media : ℤ) (s : I
     pub heard_here : is_source_wanted stream.ssrc packet.ssrc ≡ true → heard_since stream open_at place a (events ++ Arrive path packet ∷ []) path ≡ heard_since stream open_at place a events path ++ (is_off stream a m.base packet, packet) ∷ []
     heard_here wanted =
         heard_of-push stream open_at (Some (place, a)) events (Arrive path packet) path (subst (WithinLength (length events)) last (place_within stream open_at events))
-        ∙ ap (λ l. heard_since stream open_at place a events path ++ l) (rw (hears room, itself_eq path, wanted, next_is, at.time) refl)
+        ∙ ap (λ l. heard_since stream open_at place a events path ++ l) (rw (hears space, itself_eq path, wanted, next_is, at.time) refl)
 
     completes_is : is_source_wanted stream.ssrc packet.ssrc ≡ true → completes_probation stream (heard_since stream open_at place a (events ++ Arrive path packet ∷ []) path) ≡ is_complete (probation_heard stream (probation_at m.probations path) (is_off stream a m.base packet) packet)
     completes_is wanted =
@@ -188,25 +188,25 @@ module _ (stream : Stream) (open_at : ℤ) (m : MergeState) (media : ℤ) (s : I
     next_then : m.base ≡ next_number stream a (time_of open_at events)
     next_then = next_is ∙ ap (next_number stream a) at.time
 
-    room_here : room_by stream a m.base m.tracks ≡ room_after stream a m.base (standings_since stream open_at place a events)
-    room_here = ap (λ b. if is_following stream.clock && b then 0 else stream.window) (empties_same a m.base (λ on. is_often (track_at m.tracks on).early) (λ on. are_many is_beyond (standings_on on (standings_since stream open_at place a events))) (λ on. (track_at m.tracks on).end) (λ on. end_of_standings (standings_on on (standings_since stream open_at place a events)))
+    width_here : width_by stream a m.base m.tracks ≡ width_after stream a m.base (standings_since stream open_at place a events)
+    width_here = ap (λ b. if is_following stream.clock && b then 0 else stream.window) (empties_same a m.base (λ on. is_often (track_at m.tracks on).early) (λ on. are_many is_beyond (standings_on on (standings_since stream open_at place a events))) (λ on. (track_at m.tracks on).end) (λ on. end_of_standings (standings_on on (standings_since stream open_at place a events)))
         (λ on few_on. ap (λ (t : Track). is_often t.early) (was_track on few_on) ∙ early_is (standings_on on (standings_since stream open_at place a events)))
         (λ on few_on. ap (λ (t : Track). t.end) (was_track on few_on) ∙ end_is (standings_on on (standings_since stream open_at place a events))))
 
-    pub room_is : room_by stream a m.base m.tracks ≡ room_since stream open_at place a events
-    room_is = room_here ∙ ap (λ b. room_after stream a b (standings_since stream open_at place a events)) next_then
+    pub width_is : width_by stream a m.base m.tracks ≡ width_since stream open_at place a events
+    width_is = width_here ∙ ap (λ b. width_after stream a b (standings_since stream open_at place a events)) next_then
 
     pub stands_is : standing_by stream a m.base m.tracks path packet ≡ standing_after stream a (next_number stream a (time_of open_at events)) (standings_since stream open_at place a events) path packet
     stands_is =
-        ap (λ r. standing_of stream a m.base r (end_since a (λ on. (track_at m.tracks on).end)) path packet) room_here
-        ∙ ap (λ e. standing_of stream a m.base (room_after stream a m.base (standings_since stream open_at place a events)) e path packet) (end_same a (λ on. (track_at m.tracks on).end) (λ on. end_of_standings (standings_on on (standings_since stream open_at place a events))) (λ on few_on. ap (λ (t : Track). t.end) (was_track on few_on) ∙ end_is (standings_on on (standings_since stream open_at place a events))))
+        ap (λ r. standing_of stream a m.base r (end_since a (λ on. (track_at m.tracks on).end)) path packet) width_here
+        ∙ ap (λ e. standing_of stream a m.base (width_after stream a m.base (standings_since stream open_at place a events)) e path packet) (end_same a (λ on. (track_at m.tracks on).end) (λ on. end_of_standings (standings_on on (standings_since stream open_at place a events))) (λ on few_on. ap (λ (t : Track). t.end) (was_track on few_on) ∙ end_is (standings_on on (standings_since stream open_at place a events))))
         ∙ ap (λ b. standing_after stream a b (standings_since stream open_at place a events) path packet) next_then
 
     -- an arrival that is judged
     pub judged_here : is_following stream.clock ≡ true → is_source_wanted stream.ssrc packet.ssrc ≡ true → standings_on path (standings_since stream open_at place a (events ++ Arrive path packet ∷ [])) ≡ standings_on path (standings_since stream open_at place a events) ++ standing_by stream a m.base m.tracks path packet ∷ []
     judged_here follows wanted =
         ap (standings_on path) (standings_since-push stream open_at a place events (Arrive path packet) (subst (WithinLength (length events)) last (place_within stream open_at events))
-        ∙ ap (λ l. standings_since stream open_at place a events ++ l) (one (is_following stream.clock) (is_counting events) (is_source_wanted stream.ssrc packet.ssrc) (standing_after stream a (next_number stream a (time_of open_at events)) (standings_since stream open_at place a events) path packet) follows (hears room) wanted
+        ∙ ap (λ l. standings_since stream open_at place a events ++ l) (one (is_following stream.clock) (is_counting events) (is_source_wanted stream.ssrc packet.ssrc) (standing_after stream a (next_number stream a (time_of open_at events)) (standings_since stream open_at place a events) path packet) follows (hears space) wanted
         ∙ ap (λ s. s ∷ []) (sym stands_is)))
         ∙ standings_on-own path (standings_since stream open_at place a events) (standing_by stream a m.base m.tracks path packet) refl
       where
@@ -279,7 +279,7 @@ module _ (stream : Stream) (open_at : ℤ) (m : MergeState) (media : ℤ) (s : I
 
       made_then : last_of (anchors_of stream open_at (events ++ Arrive path packet ∷ [])) ≡ Some (length events, restart_from stream m.time a m.base packet)
       made_then =
-          let made : last_of (anchors_at stream open_at (anchors_of stream open_at events) events (Arrive path packet)) ≡ Some (length events, restart_from stream m.time a m.base packet) = rw (hears room, last, opens, next_is, at.time) refl in
+          let made : last_of (anchors_at stream open_at (anchors_of stream open_at events) events (Arrive path packet)) ≡ Some (length events, restart_from stream m.time a m.base packet) = rw (hears space, last, opens, next_is, at.time) refl in
           last-push stream open_at events (Arrive path packet) ∙ ap (λ o. or_else o (last_of (anchors_of stream open_at events))) made
 
       anchor_then : anchor_of stream open_at (events ++ Arrive path packet ∷ []) ≡ Some (restart_from stream m.time a m.base packet)
@@ -290,22 +290,22 @@ module _ (stream : Stream) (open_at : ℤ) (m : MergeState) (media : ℤ) (s : I
           copies_of-since stream open_at (events ++ Arrive path packet ∷ [])
           ∙ ap (λ o. since_of stream open_at o (events ++ Arrive path packet ∷ [])) made_then
           ∙ copies_since-made stream open_at events (Arrive path packet) (restart_from stream m.time a m.base packet)
-          ∙ ap (λ r. copies_under (in_room stream r) (time_of open_at events) (is_counting events) (Some (restart_from stream m.time a m.base packet)) packet) (room_made stream open_at (restart_from stream m.time a m.base packet) events)
-          ∙ rw (← at.time, hears room) (own_copy (in_room stream stream.window) m.time packet (a.epoch + 1) (restart_media_time stream.clock packet.ts m.time (media_time_of stream a m.base)) some_frames (rw at.spec at (some_window m.spec s.spec_ok)) seq ts first.after)
+          ∙ ap (λ r. copies_under (of_width stream r) (time_of open_at events) (is_counting events) (Some (restart_from stream m.time a m.base packet)) packet) (width_made stream open_at (restart_from stream m.time a m.base packet) events)
+          ∙ rw (← at.time, hears space) (own_copy (of_width stream stream.window) m.time packet (a.epoch + 1) (restart_media_time stream.clock packet.ts m.time (media_time_of stream a m.base)) some_frames (rw at.spec at (some_window m.spec s.spec_ok)) seq ts first.after)
 
       -- the new epoch has no slot yet
       none_yet : slot_count (a.epoch + 1) (marks_of stream open_at events) ≡ 0
       none_yet = none_above (a.epoch + 1) (marks_of stream open_at events) (subst (λ o. AllSlotsBelow (limit_of stream o) (marks_of stream open_at events)) (sym at.anchor ∙ is_a) (rw (marks_of-in stream open_at events) (slots_below stream open_at some_frames (copies_of_all stream open_at events) events at.well_timed shut)))
 
       pub fate_restart : Restarted ≡ fate_of stream open_at events path packet
-      fate_restart = sym (rw (shut, last, opens) (by_count (arrival_count events) (few room)))
+      fate_restart = sym (rw (shut, last, opens) (by_count (arrival_count events) (few space)))
         where
           by_count : (n : ℕ) → n < 2 ^ 62 → (if not (nat_lt n (2 ^ 62)) then CountersFull else Restarted) ≡ Restarted
           by_count n h = let yes : nat_lt n (2 ^ 62) ≡ true = grind (arith, nat_tests, h) in rw yes refl
 
       -- the merge has the history with the arrival, in the new epoch
       pub stands_restart : (new : MergeState) (fate : Fate) → IsRestartStep stream m new a path packet fate → HasHistory stream open_at new (events ++ Arrive path packet ∷ []) k
-      stands_restart new fate step = stands_after_arrival stream open_at some_frames m new events k path packet at open_yet (few room) (record {
+      stands_restart new fate step = stands_after_arrival stream open_at some_frames m new events k path packet at open_yet (few space) (record {
         spec = ap (λ (x : MergeState). x.spec) step.changed;
         time = ap (λ (x : MergeState). x.time) step.changed;
         anchor = ap (λ (x : MergeState). x.anchor) step.changed ∙ sym anchor_then;
@@ -314,7 +314,7 @@ module _ (stream : Stream) (open_at : ℤ) (m : MergeState) (media : ℤ) (s : I
         probation = λ other few_others. step.probations other ∙ sym (ap (λ o. probation_of stream (heard_of stream open_at o (events ++ Arrive path packet ∷ []) other)) made_then ∙ ap (probation_of stream) (heard_of-made stream open_at (restart_from stream m.time a m.base packet) events (Arrive path packet) other));
         tracks = λ other few_others. step.tracks other ∙ sym (ap (λ o. track_of (standings_on other (standings_of stream open_at o (events ++ Arrive path packet ∷ [])))) made_then ∙ ap (λ l. track_of (standings_on other l)) (standings_of-made stream open_at (restart_from stream m.time a m.base packet) events (Arrive path packet)));
         quiet = ap (λ (x : MergeState). x.quiet) step.changed;
-        counts = ap (λ (x : MergeState). x.counts) step.changed ∙ ap (λ t. with_fate t path Restarted) (at.counts ∙ ap (counts_of stream open_at events) all) ∙ sym (counts_heard path packet room Restarted fate_restart refl few_paths);
+        counts = ap (λ (x : MergeState). x.counts) step.changed ∙ ap (λ t. with_fate t path Restarted) (at.counts ∙ ap (counts_of stream open_at events) all) ∙ sym (counts_heard path packet space Restarted fate_restart refl few_paths);
         closed = ap (λ (x : MergeState). x.closed) step.changed;
         ended = ap (λ (x : MergeState). x.ended) step.changed;
       })

@@ -2,21 +2,21 @@
 use Rattle.std.proofs.Common.{◌≡◌, ℕ, zero, suc, ◌+◌, ◌-◌, ◌^◌, Bool, true, false, not, ◌&&◌, ◌||◌, List, [], ◌∷◌, ◌++◌, length, take, drop, reverse, count_by, Option, Some, None, ℤ, pos, ◌-ℤ◌, refl, sym, ap, subst, ◌∙◌, arith, append_assoc, append-nil, if◌then◌else◌}
 use Rattle.std.specs.Prelude.{nat_le, nat_lt, nat_eq}
 use Rattle.std.proofs.lemmas.List.{reverse-append}
-use Rattle.path_merge.proofs.EpochLemmas.{MadeAt, WithinLength, anchor_is, copies_of-since, last-push, made_at, no_anchors, place_within, room_made, room_plain, since_of, standings_of-close, standings_of-made, standings_of-push, standings_of-tick}
+use Rattle.path_merge.proofs.EpochLemmas.{MadeAt, WithinLength, anchor_is, copies_of-since, last-push, made_at, no_anchors, place_within, width_made, width_plain, since_of, standings_of-close, standings_of-made, standings_of-push, standings_of-tick}
 use Rattle.path_merge.proofs.HistoryLemmas.{anchors_of-push, by_last_event, copies_of-with, copies_of_all-close, copies_of_all-push, copies_of_all-tick, fates_of-close, fates_of-push, fates_of-tick, marks_in, marks_in-none, marks_in-push, marks_of-in, or_else}
 use Rattle.path_merge.specs.Merge.{standings_of}
 use Rattle.rtp_stream.specs.Anchor.{is_source_wanted, next_number, restart_from, anchor_from, can_anchor}
 use Rattle.rtp_stream.specs.Copies.{copies_at, copies_of, copies_of_all, copies_under_with, copies_with}
 use Rattle.rtp_stream.specs.Counts.{fates_at, fates_of}
-use Rattle.rtp_stream.specs.Epochs.{anchor_in, anchor_of, anchors_after, anchors_at, anchors_of, can_restart, copies_since, continues_media_time, is_all_given, last_of, placed, room_in_force}
+use Rattle.rtp_stream.specs.Epochs.{anchor_in, anchor_of, anchors_after, anchors_at, anchors_of, can_restart, copies_since, continues_media_time, is_all_given, last_of, placed, width_in_force}
 use Rattle.rtp_stream.specs.Fate.{counted_fate, fate_of, is_restart}
 use Rattle.path_merge.specs.FollowLaws.{IsNeverAstray, NoneAstray, by_clock, standings_under}
-use Rattle.rtp_stream.specs.Grid.{end_of_copies, first_with, in_room}
+use Rattle.rtp_stream.specs.Grid.{end_of_copies, first_with, of_width}
 use Rattle.rtp_stream.specs.History.{arrival_count, at_places, is_closed, is_counting, time_of}
 use Rattle.rtp_stream.specs.MarkFacts.{MarkView}
 use Rattle.rtp_stream.specs.Marks.{body_of, end_mark, marks_at, marks_of, marks_under, slot_mark, slots_at_close, slots_between, slots_from, slots_or_quiet}
 use Rattle.rtp_stream.specs.Probation.{completes_probation, heard_at, heard_since, is_next_of, is_sequence, last_few}
-use Rattle.rtp_stream.specs.Standing.{are_many, has_wire_size, is_astray, is_beyond, is_following, is_slip, room_after, room_since, standing_after, standings_at, standings_on, standings_since}
+use Rattle.rtp_stream.specs.Follow.{are_many, has_wire_size, is_astray, is_beyond, is_following, is_slip, width_after, width_since, standing_after, standings_at, standings_on, standings_since}
 use Rattle.rtp_stream.specs.declared.stream_spec.Stream.{Stream}
 use Rattle.rtp_stream.specs.declared.stream_spec.StreamClock.TheVariants.{Arrival, Follow}
 use Rattle.rtp_stream.specs.declared.anchor.Anchor.{Anchor}
@@ -25,7 +25,7 @@ use Rattle.rtp_stream.specs.declared.event.Event.TheVariants.{Arrive, Close, Tic
 use Rattle.rtp_stream.specs.declared.fate.Fate.{Fate}
 use Rattle.rtp_stream.specs.declared.fate.Fate.TheVariants.{Closed, CountersFull, Restarted}
 use Rattle.rtp_stream.specs.declared.packet.Packet.{Packet}
-use Rattle.rtp_stream.specs.declared.track.Standing.{Standing}
+use Rattle.rtp_stream.specs.declared.follow.Standing.{Standing}
 
 -- no standing of a list is astray; so it is with its parts, and with the list in reverse
 none-append : (xs ys : List Standing) → NoneAstray xs → NoneAstray ys → NoneAstray (xs ++ ys)
@@ -62,9 +62,9 @@ count_none (x ∷ xs) p =
 few_early : (path : ℕ) (xs : List Standing) → NoneAstray xs → are_many is_beyond (standings_on path xs) ≡ false
 few_early path xs p = ap (nat_le 8) (count_none (take 64 (reverse (standings_on path xs))) (none-take 64 (reverse (standings_on path xs)) (none-reverse (standings_on path xs) (none-on path xs p))))
 
--- if none is astray, the window has its room
-room_calm : (stream : Stream) (a : Anchor) (next : ℕ) (xs : List Standing) → NoneAstray xs → room_after stream a next xs ≡ stream.window
-room_calm stream a next xs p =
+-- if none is astray, the window has its width
+width_calm : (stream : Stream) (a : Anchor) (next : ℕ) (xs : List Standing) → NoneAstray xs → width_after stream a next xs ≡ stream.window
+width_calm stream a next xs p =
     let e0 = few_early 0 xs p in
     let e1 = few_early 1 xs p in
     let e2 = few_early 2 xs p in
@@ -102,9 +102,9 @@ module _ (stream : Stream) (open_at : ℤ) where
   sequence_same : (heard : List (Bool × Packet)) → (completes_probation (by_clock Follow stream) heard || false) ≡ (completes_probation (by_clock Arrival stream) heard || false)
   sequence_same heard = ap (λ b. (nat_le 8 (length heard) && b) || false) (is_sequence-same (last_few 8 heard))
 
-  under_same : (room : ℕ) (time : ℤ) (counts : Bool) (o : Option Anchor) (packet : Packet) → copies_under_with (in_room (by_clock Follow stream) room) time counts o packet ≡ copies_under_with (in_room (by_clock Arrival stream) room) time counts o packet
-  under_same room time counts None packet = refl
-  under_same room time counts (Some a) packet = refl
+  under_same : (width : ℕ) (time : ℤ) (counts : Bool) (o : Option Anchor) (packet : Packet) → copies_under_with (of_width (by_clock Follow stream) width) time counts o packet ≡ copies_under_with (of_width (by_clock Arrival stream) width) time counts o packet
+  under_same width time counts None packet = refl
+  under_same width time counts (Some a) packet = refl
 
   record IsSame (events : List Event) : Type 0 where
     anchors : anchors_of (by_clock Follow stream) open_at events ≡ anchors_of (by_clock Arrival stream) open_at events
@@ -170,14 +170,14 @@ module _ (stream : Stream) (open_at : ℤ) where
         by_counting true counts None last = refl
         by_counting true counts (Some (place, a)) last = ap (λ b. placed (length events) (if b then restart_from (by_clock Arrival stream) (time_of open_at events) a (next_number stream a (time_of open_at events)) packet ∷ [] else [])) (can_same place a last counts)
 
-    -- the room is the window, by both
-    room_same : room_in_force (by_clock Follow stream) open_at (last_of (anchors_of (by_clock Follow stream) open_at (events ++ Arrive path packet ∷ []))) events ≡ stream.window
-    room_same = ap (λ o. room_in_force (by_clock Follow stream) open_at o events) (last-push (by_clock Follow stream) open_at events (Arrive path packet)) ∙ by_made (last_of (anchors_at (by_clock Follow stream) open_at (anchors_of (by_clock Follow stream) open_at events) events (Arrive path packet))) (last_of (anchors_of (by_clock Follow stream) open_at events)) (made_at (by_clock Follow stream) open_at (anchors_of (by_clock Follow stream) open_at events) events (Arrive path packet)) same.calm
+    -- the width is the window, by both
+    width_same : width_in_force (by_clock Follow stream) open_at (last_of (anchors_of (by_clock Follow stream) open_at (events ++ Arrive path packet ∷ []))) events ≡ stream.window
+    width_same = ap (λ o. width_in_force (by_clock Follow stream) open_at o events) (last-push (by_clock Follow stream) open_at events (Arrive path packet)) ∙ by_made (last_of (anchors_at (by_clock Follow stream) open_at (anchors_of (by_clock Follow stream) open_at events) events (Arrive path packet))) (last_of (anchors_of (by_clock Follow stream) open_at events)) (made_at (by_clock Follow stream) open_at (anchors_of (by_clock Follow stream) open_at events) events (Arrive path packet)) same.calm
       where
-        by_made : (made old : Option (ℕ × Anchor)) → MadeAt (length events) made → NoneAstray (standings_of (by_clock Follow stream) open_at old events) → room_in_force (by_clock Follow stream) open_at (or_else made old) events ≡ stream.window
+        by_made : (made old : Option (ℕ × Anchor)) → MadeAt (length events) made → NoneAstray (standings_of (by_clock Follow stream) open_at old events) → width_in_force (by_clock Follow stream) open_at (or_else made old) events ≡ stream.window
         by_made None None at none = refl
-        by_made None (Some (place, a)) at none = room_calm (by_clock Follow stream) a (next_number stream a (time_of open_at events)) (standings_since (by_clock Follow stream) open_at place a events) none
-        by_made (Some (place, a)) old at none = ap (λ n. room_since (by_clock Follow stream) open_at n a events) at ∙ room_made (by_clock Follow stream) open_at a events
+        by_made None (Some (place, a)) at none = width_calm (by_clock Follow stream) a (next_number stream a (time_of open_at events)) (standings_since (by_clock Follow stream) open_at place a events) none
+        by_made (Some (place, a)) old at none = ap (λ n. width_since (by_clock Follow stream) open_at n a events) at ∙ width_made (by_clock Follow stream) open_at a events
 
     anchors_then : anchors_of (by_clock Follow stream) open_at (events ++ Arrive path packet ∷ []) ≡ anchors_of (by_clock Arrival stream) open_at (events ++ Arrive path packet ∷ [])
     anchors_then = anchors_of-push (by_clock Follow stream) open_at events (Arrive path packet) ∙ ap (λ l. anchors_of (by_clock Follow stream) open_at events ++ l) made_same ∙ ap (λ l. l ++ anchors_at (by_clock Arrival stream) open_at (anchors_of (by_clock Arrival stream) open_at events) events (Arrive path packet)) same.anchors ∙ sym (anchors_of-push (by_clock Arrival stream) open_at events (Arrive path packet))
@@ -190,14 +190,14 @@ module _ (stream : Stream) (open_at : ℤ) where
 
     copy_same : copies_at (by_clock Follow stream) open_at events (Arrive path packet) ≡ copies_at (by_clock Arrival stream) open_at events (Arrive path packet)
     copy_same =
-        ap (λ r. copies_under_with (in_room (by_clock Follow stream) r) (time_of open_at events) (is_counting events) (anchor_of (by_clock Follow stream) open_at (events ++ Arrive path packet ∷ [])) packet) room_same
-        ∙ ap (λ o. copies_under_with (in_room (by_clock Follow stream) stream.window) (time_of open_at events) (is_counting events) o packet) anchor_then
+        ap (λ r. copies_under_with (of_width (by_clock Follow stream) r) (time_of open_at events) (is_counting events) (anchor_of (by_clock Follow stream) open_at (events ++ Arrive path packet ∷ [])) packet) width_same
+        ∙ ap (λ o. copies_under_with (of_width (by_clock Follow stream) stream.window) (time_of open_at events) (is_counting events) o packet) anchor_then
         ∙ under_same stream.window (time_of open_at events) (is_counting events) (anchor_of (by_clock Arrival stream) open_at (events ++ Arrive path packet ∷ [])) packet
-        ∙ sym (ap (λ r. copies_under_with (in_room (by_clock Arrival stream) r) (time_of open_at events) (is_counting events) (anchor_of (by_clock Arrival stream) open_at (events ++ Arrive path packet ∷ [])) packet) (room_plain (by_clock Arrival stream) open_at refl (last_of (anchors_of (by_clock Arrival stream) open_at (events ++ Arrive path packet ∷ []))) events))
+        ∙ sym (ap (λ r. copies_under_with (of_width (by_clock Arrival stream) r) (time_of open_at events) (is_counting events) (anchor_of (by_clock Arrival stream) open_at (events ++ Arrive path packet ∷ [])) packet) (width_plain (by_clock Arrival stream) open_at refl (last_of (anchors_of (by_clock Arrival stream) open_at (events ++ Arrive path packet ∷ []))) events))
 
-    room_now : (o : Option (ℕ × Anchor)) → NoneAstray (standings_of (by_clock Follow stream) open_at o events) → room_in_force (by_clock Follow stream) open_at o events ≡ stream.window
-    room_now None none = refl
-    room_now (Some (place, a)) none = room_calm (by_clock Follow stream) a (next_number stream a (time_of open_at events)) (standings_since (by_clock Follow stream) open_at place a events) none
+    width_now : (o : Option (ℕ × Anchor)) → NoneAstray (standings_of (by_clock Follow stream) open_at o events) → width_in_force (by_clock Follow stream) open_at o events ≡ stream.window
+    width_now None none = refl
+    width_now (Some (place, a)) none = width_calm (by_clock Follow stream) a (next_number stream a (time_of open_at events)) (standings_since (by_clock Follow stream) open_at place a events) none
 
     restart_same : is_counting events ≡ true → is_restart (by_clock Follow stream) open_at (last_of (anchors_of (by_clock Follow stream) open_at events)) events path packet ≡ is_restart (by_clock Arrival stream) open_at (last_of (anchors_of (by_clock Arrival stream) open_at events)) events path packet
     restart_same counts = by_last (last_of (anchors_of (by_clock Follow stream) open_at events)) refl ∙ ap (λ l. is_restart (by_clock Arrival stream) open_at (last_of l) events path packet) same.anchors
@@ -212,13 +212,13 @@ module _ (stream : Stream) (open_at : ℤ) where
 
     fate_same : is_counting events ≡ true → fate_of (by_clock Follow stream) open_at events path packet ≡ fate_of (by_clock Arrival stream) open_at events path packet
     fate_same counts =
-        ap (λ b. if is_closed events then Closed else if not (nat_lt (arrival_count events) (2 ^ 62)) then CountersFull else if b then Restarted else counted_fate (by_clock Follow stream) (room_in_force (by_clock Follow stream) open_at (last_of (anchors_of (by_clock Follow stream) open_at events)) events) (time_of open_at events) (anchor_of (by_clock Follow stream) open_at events) (copies_of (by_clock Follow stream) open_at events) packet) (restart_same counts)
+        ap (λ b. if is_closed events then Closed else if not (nat_lt (arrival_count events) (2 ^ 62)) then CountersFull else if b then Restarted else counted_fate (by_clock Follow stream) (width_in_force (by_clock Follow stream) open_at (last_of (anchors_of (by_clock Follow stream) open_at events)) events) (time_of open_at events) (anchor_of (by_clock Follow stream) open_at events) (copies_of (by_clock Follow stream) open_at events) packet) (restart_same counts)
         ∙ ap (λ f. if is_closed events then Closed else if not (nat_lt (arrival_count events) (2 ^ 62)) then CountersFull else if is_restart (by_clock Arrival stream) open_at (last_of (anchors_of (by_clock Arrival stream) open_at events)) events path packet then Restarted else f)
-        (ap (λ r. counted_fate (by_clock Follow stream) r (time_of open_at events) (anchor_of (by_clock Follow stream) open_at events) (copies_of (by_clock Follow stream) open_at events) packet) (room_now (last_of (anchors_of (by_clock Follow stream) open_at events)) same.calm)
+        (ap (λ r. counted_fate (by_clock Follow stream) r (time_of open_at events) (anchor_of (by_clock Follow stream) open_at events) (copies_of (by_clock Follow stream) open_at events) packet) (width_now (last_of (anchors_of (by_clock Follow stream) open_at events)) same.calm)
         ∙ counted_same (anchor_of (by_clock Follow stream) open_at events) (copies_of (by_clock Follow stream) open_at events)
         ∙ ap (λ o. counted_fate (by_clock Arrival stream) stream.window (time_of open_at events) o (copies_of (by_clock Follow stream) open_at events) packet) (anchor_same events same)
         ∙ ap (λ l. counted_fate (by_clock Arrival stream) stream.window (time_of open_at events) (anchor_of (by_clock Arrival stream) open_at events) l packet) (copies_same events same)
-        ∙ sym (ap (λ r. counted_fate (by_clock Arrival stream) r (time_of open_at events) (anchor_of (by_clock Arrival stream) open_at events) (copies_of (by_clock Arrival stream) open_at events) packet) (room_plain (by_clock Arrival stream) open_at refl (last_of (anchors_of (by_clock Arrival stream) open_at events)) events)))
+        ∙ sym (ap (λ r. counted_fate (by_clock Arrival stream) r (time_of open_at events) (anchor_of (by_clock Arrival stream) open_at events) (copies_of (by_clock Arrival stream) open_at events) packet) (width_plain (by_clock Arrival stream) open_at refl (last_of (anchors_of (by_clock Arrival stream) open_at events)) events)))
 
     fates_same : fates_at (by_clock Follow stream) open_at events (Arrive path packet) ≡ fates_at (by_clock Arrival stream) open_at events (Arrive path packet)
     fates_same = by_counting (is_counting events) refl

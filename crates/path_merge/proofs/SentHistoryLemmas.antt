@@ -5,15 +5,15 @@ use Rattle.std.proofs.lemmas.Bool.Decides.{nat_tests}
 use Rattle.std.proofs.lemmas.Int.{ints}
 use Rattle.path_merge.proofs.AliasLemmas.{size_is}
 use Rattle.path_merge.proofs.AfterCloseLemmas.{closed_stays}
-use Rattle.path_merge.proofs.EpochLemmas.{anchor_is, deaf_anchors, last-push, no_anchors, room_plain}
-use Rattle.rtp_stream.specs.Standing.{is_following}
+use Rattle.path_merge.proofs.EpochLemmas.{anchor_is, deaf_anchors, last-push, no_anchors, width_plain}
+use Rattle.rtp_stream.specs.Follow.{is_following}
 use Rattle.path_merge.proofs.HistoryLemmas.{anchors_of-push, arrival_count-append, at_places-append, by_last_event, is_closed-append, or_else, time_of-append}
 use Rattle.path_merge.proofs.CopiesLemmas.{first_with-append}
 use Rattle.path_merge.proofs.FullNumberLemmas.{CountsAsSent, far_counts, near_counts, one_copy}
 use Rattle.rtp_stream.specs.Anchor.{anchor_from, can_anchor, next_number, restart_from}
 use Rattle.rtp_stream.specs.Copies.{copies_at, copies_in, copies_of, copies_of_all, copies_under_with, copies_with, first_copy, with_epoch}
-use Rattle.rtp_stream.specs.Epochs.{anchor_in, anchor_of, anchors_after, anchors_at, anchors_of, can_restart, last_of, placed, room_in_force}
-use Rattle.rtp_stream.specs.Grid.{copies_under, extended_number, first_with, in_room, is_in_time}
+use Rattle.rtp_stream.specs.Epochs.{anchor_in, anchor_of, anchors_after, anchors_at, anchors_of, can_restart, last_of, placed, width_in_force}
+use Rattle.rtp_stream.specs.Grid.{copies_under, extended_number, first_with, of_width, is_in_time}
 use Rattle.rtp_stream.specs.History.{arrival_count, at_places, is_closed, is_counting, time_of}
 use Rattle.rtp_stream.specs.Marks.{marks_at, marks_from, marks_of, marks_under}
 use Rattle.rtp_stream.specs.MarkFacts.{MarkView}
@@ -157,11 +157,11 @@ module _ (stream : Stream) (anchor : Anchor) (open_at : ℤ) where
   closed_first before Closes shut = refl
   closed_first before (Arrives path packet) shut =
       let deaf : is_counting before ≡ false = rw shut refl in
-      rw deaf (by_anchor (room_in_force stream open_at (last_of (anchors_of stream open_at (before ++ Arrive path (wire_packet stream anchor packet) ∷ []))) before) (anchor_of stream open_at (before ++ Arrive path (wire_packet stream anchor packet) ∷ [])))
+      rw deaf (by_anchor (width_in_force stream open_at (last_of (anchors_of stream open_at (before ++ Arrive path (wire_packet stream anchor packet) ∷ []))) before) (anchor_of stream open_at (before ++ Arrive path (wire_packet stream anchor packet) ∷ [])))
     where
-      by_anchor : (room : ℕ) (o : Option Anchor) → with_epoch o (copies_under (in_room stream room) (time_of open_at before) false o (wire_packet stream anchor packet)) ≡ []
-      by_anchor room None = refl
-      by_anchor room (Some a) = refl
+      by_anchor : (width : ℕ) (o : Option Anchor) → with_epoch o (copies_under (of_width stream width) (time_of open_at before) false o (wire_packet stream anchor packet)) ≡ []
+      by_anchor width None = refl
+      by_anchor width (Some a) = refl
 
   after_close : (before : List Event) (after : List SentEvent) → is_closed before ≡ true → IsRecovered before after
   after_close before [] shut = none_left before
@@ -261,7 +261,7 @@ module _ (stream : Stream) (anchor : Anchor) (open_at : ℤ) where
   module _ (plain : is_following stream.clock ≡ false) (reach : ℕ) (counts : (next : ℕ) (packet : SentPacket) → 65536 ≤ next → IsNear reach next packet.number → CountsAsSent stream anchor next packet) where
     arrived : (before : List Event) (path : ℕ) (packet : SentPacket) → ((at : ℤ) → 65536 ≤ next_number stream anchor at) → anchor_of stream open_at (before ++ Arrive path (wire_packet stream anchor packet) ∷ []) ≡ Some anchor → IsNear reach (next_number stream anchor (time_of open_at before)) packet.number → copies_at stream open_at before (Arrive path (wire_packet stream anchor packet)) ≡ with_epoch (Some anchor) (sent_copies_at stream anchor open_at before (Arrives path packet))
     arrived before path packet high is near =
-        ap (λ room. copies_under_with (in_room stream room) (time_of open_at before) (is_counting before) (anchor_of stream open_at (before ++ Arrive path (wire_packet stream anchor packet) ∷ [])) (wire_packet stream anchor packet)) (room_plain stream open_at plain (last_of (anchors_of stream open_at (before ++ Arrive path (wire_packet stream anchor packet) ∷ []))) before)
+        ap (λ width. copies_under_with (of_width stream width) (time_of open_at before) (is_counting before) (anchor_of stream open_at (before ++ Arrive path (wire_packet stream anchor packet) ∷ [])) (wire_packet stream anchor packet)) (width_plain stream open_at plain (last_of (anchors_of stream open_at (before ++ Arrive path (wire_packet stream anchor packet) ∷ []))) before)
         ∙ rw is (ap (with_epoch (Some anchor)) (by_counting (is_counting before)))
       where
         by_counting : (b : Bool) → one_copy (b && is_in_time stream anchor (next_number stream anchor (time_of open_at before)) (wire_packet stream anchor packet)) (extended_number (wire_packet stream anchor packet) (next_number stream anchor (time_of open_at before))) (wire_packet stream anchor packet) ≡ one_copy (b && (int_le (pos (next_number stream anchor (time_of open_at before))) packet.number && int_lt packet.number (pos (next_number stream anchor (time_of open_at before) + stream.window)))) (unsigned_abs packet.number) (wire_packet stream anchor packet)

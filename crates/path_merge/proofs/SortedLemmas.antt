@@ -116,7 +116,7 @@ none_so_empty ((m, p) ∷ l) low high none = absurd (grind (arith, nat_tests, no
 -- a packet put in its gap
 pub record IsPut (low high n : ℕ) (p : Packet) (old new : List (ℕ × Packet)) : Type 0 where
   pub within : IsWithin low high new
-  pub room : length old + low < high
+  pub space : length old + low < high
   pub absent : first_with n old ≡ None
   pub held : (k : ℕ) → first_with k new ≡ (if nat_eq k n then Some p else first_with k old)
 
@@ -127,7 +127,7 @@ put_in_gap low high n i p l w le lt gap =
     let len = length_within low high (insert l i (n, p)) new (omega arith) in
     record {
       within = new;
-      room = omega (arith, length-insert l i (n, p) gap.in_range, len);
+      space = omega (arith, length-insert l i (n, p) gap.in_range, len);
       absent = none_at_gap low high n i l w gap.smaller_before gap.greater_after;
       held = λ k. found_placed n k p (take i l) (drop i l) gap.smaller_before ∙ ap (λ m. if nat_eq k n then Some p else first_with k m) (take-append-drop i l);
     }

@@ -278,8 +278,8 @@ base_small m media a s is_a =
     (first, omega (arith, ints, t.0, t.2, from, many, an.bounds.media_low, an.bounds.first_high))
 
 -- if the base has a packet, fewer packets were got than taken
-pub room_for_got : (m : MergeState) (media : ℤ) (a : Anchor) → IsSound m media → m.anchor ≡ Some a → is_got_body (body_of (get m.held m.base)) ≡ true → m.counts.got < m.counts.taken
-room_for_got m media a s is_a got =
+pub space_for_got : (m : MergeState) (media : ℤ) (a : Anchor) → IsSound m media → m.anchor ≡ Some a → is_got_body (body_of (get m.held m.base)) ≡ true → m.counts.got < m.counts.taken
+space_for_got m media a s is_a got =
     let an = anchored_at m media m.anchor a is_a s.anchored in
     let one = by_size m.spec.window (some_window m.spec s.spec_ok) (by_packet (get m.held m.base) got) in
     omega (arith, an.taken_are, one)

@@ -3,8 +3,8 @@ use Rattle.std.proofs.Common.{◌≡◌, ℕ, ◌^◌, ◌≤◌, Bool, true, fa
 use Rattle.std.specs.Prelude.{nat_lt}
 use Rattle.std.proofs.lemmas.Bool.Decides.{nat_tests}
 use Rattle.path_merge.proofs.EpochLemmas.{deaf_anchor, deaf_copies, deaf_copies_all, deaf_heard, deaf_standings}
-use Rattle.rtp_stream.specs.PathTrack.{track_of}
-use Rattle.rtp_stream.specs.Standing.{standings_on}
+use Rattle.rtp_stream.specs.FollowTrack.{track_of}
+use Rattle.rtp_stream.specs.Follow.{standings_on}
 use Rattle.path_merge.proofs.HistoryLemmas.{events_until_close-closed, events_until_close-open, fates_of-push, is_closed-append, is_well_timed_from-append, marks_in, marks_in-push, marks_of-in, time_of-append}
 use Rattle.path_merge.proofs.RestartOfferLemmas.{counted_arrivals}
 use Rattle.rtp_stream.specs.Copies.{copies_of_all}

@@ -4,9 +4,9 @@ use Rattle.rtp_stream.specs.declared.stream_spec.Stream.{Stream}
 use Rattle.rtp_stream.specs.declared.stream_spec.StreamClock.{StreamClock}
 use Rattle.rtp_stream.specs.declared.anchor.Anchor.{Anchor}
 use Rattle.rtp_stream.specs.declared.event.Event.{Event}
-use Rattle.rtp_stream.specs.declared.track.Standing.{Standing}
+use Rattle.rtp_stream.specs.declared.follow.Standing.{Standing}
 use Rattle.rtp_stream.specs.Epochs.{anchors_of, last_of}
-use Rattle.rtp_stream.specs.Standing.{is_astray, standings_at, standings_since}
+use Rattle.rtp_stream.specs.Follow.{is_astray, standings_at, standings_since}
 
 -- a stream by another clock
 abbrev pub by_clock : StreamClock → Stream → Stream

@@ -12,8 +12,8 @@ pub use Rattle.rtp_stream.specs.Anchor
 pub use Rattle.rtp_stream.specs.Grid
 pub use Rattle.rtp_stream.specs.Probation
 pub use Rattle.rtp_stream.specs.PathProbation
-pub use Rattle.rtp_stream.specs.Standing
-pub use Rattle.rtp_stream.specs.PathTrack
+pub use Rattle.rtp_stream.specs.Follow
+pub use Rattle.rtp_stream.specs.FollowTrack
 pub use Rattle.rtp_stream.specs.Epochs
 pub use Rattle.rtp_stream.specs.Copies
 pub use Rattle.rtp_stream.specs.Marks

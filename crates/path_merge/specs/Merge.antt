@@ -12,9 +12,9 @@ use Rattle.rtp_stream.specs.History.{time_of, is_closed, is_well_timed, events_u
 use Rattle.rtp_stream.specs.Epochs.{anchor_of, anchors_of, last_of}
 use Rattle.rtp_stream.specs.Probation.{heard_since}
 use Rattle.rtp_stream.specs.PathProbation.{probation_at, probation_of}
-use Rattle.rtp_stream.specs.PathTrack.{track_at, track_of}
-use Rattle.rtp_stream.specs.Standing.{standings_on, standings_since}
-use Rattle.rtp_stream.specs.declared.track.Standing.{Standing}
+use Rattle.rtp_stream.specs.FollowTrack.{track_at, track_of}
+use Rattle.rtp_stream.specs.Follow.{standings_on, standings_since}
+use Rattle.rtp_stream.specs.declared.follow.Standing.{Standing}
 use Rattle.rtp_stream.specs.Copies.{first_copy}
 use Rattle.rtp_stream.specs.Marks.{marks_of}
 use Rattle.rtp_stream.specs.MarkList.{has_end}

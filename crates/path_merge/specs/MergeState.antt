@@ -7,7 +7,7 @@ use Rattle.rtp_stream.specs.StreamSpecFacts.{IsStream}
 use Rattle.rtp_stream.specs.StreamSpec.{Fits}
 use Rattle.rtp_stream.specs.CountsFacts.{Tally}
 use Rattle.rtp_stream.specs.declared.probation.Probation.{Probation}
-use Rattle.rtp_stream.specs.declared.track.Track.{Track}
+use Rattle.rtp_stream.specs.declared.follow.Track.{Track}
 use Rattle.rtp_stream.specs.declared.anchor.Anchor.{Anchor}
 use Rattle.rtp_stream.specs.declared.packet.Packet.{Packet}
 use Rattle.path_merge.specs.Window.{IsEmpty}

@@ -9,13 +9,13 @@ use Rattle.rtp_stream.specs.declared.packet.Packet.{Packet}
 use Rattle.rtp_stream.specs.declared.fate.Fate.{Fate}
 use Rattle.rtp_stream.specs.declared.fate.Fate.TheVariants.{Restarted}
 use Rattle.rtp_stream.specs.declared.probation.Probation.{Probation}
-use Rattle.rtp_stream.specs.declared.track.Track.{Track}
-use Rattle.rtp_stream.specs.PathTrack.{is_slip_by, no_track, room_by, track_at, track_heard}
+use Rattle.rtp_stream.specs.declared.follow.Track.{Track}
+use Rattle.rtp_stream.specs.FollowTrack.{is_slip_by, no_track, width_by, track_at, track_heard}
 use Rattle.rtp_stream.specs.declared.event.Event.{Event}
 use Rattle.rtp_stream.specs.declared.event.Event.TheVariants.{Arrive, Tick}
 use Rattle.rtp_stream.specs.History.{time_of, is_closed, is_well_timed, events_until_close}
 use Rattle.rtp_stream.specs.Anchor.{anchor_from, deadline_of, is_source_wanted, is_restart_in_reach, media_time_of, next_number, restart_from, restart_media_time}
-use Rattle.rtp_stream.specs.Grid.{extended_number, in_room}
+use Rattle.rtp_stream.specs.Grid.{extended_number, of_width}
 use Rattle.rtp_stream.specs.Epochs.{anchor_of, anchors_of, last_of}
 use Rattle.rtp_stream.specs.Probation.{is_off}
 use Rattle.rtp_stream.specs.PathProbation.{is_complete, no_probation, probation_at, probation_heard}
@@ -50,24 +50,24 @@ pub record IsHeardStep (old new : MergeState) (a : Anchor) (path : ℕ) (packet 
   pub other_tracks : (other : ℕ) → nat_eq other path ≡ false → track_at new.tracks other ≡ track_at old.tracks other
   pub changed : new ≡ record old { probations = new.probations; tracks = new.tracks }
 
--- the place of an arrival, with a room of at most the window
+-- the place of an arrival, with a width of at most the window
 pub record IsPlaced (stream : Stream) (a : Anchor) (next : ℕ) (packet : Packet) (place : Result ℕ Fate) : Type 0 where
-  pub room : ℕ
-  pub within : room ≤ stream.window
-  pub is : place ≡ place_of (in_room stream room) a next packet
+  pub width : ℕ
+  pub within : width ≤ stream.window
+  pub is : place ≡ place_of (of_width stream width) a next packet
 
 -- an arrival at an anchored merge that is put or refused: only a packet that is taken changes what is held
-pub record IsPutStep (stream : Stream) (room : ℕ) (old new : MergeState) (a : Anchor) (path : ℕ) (packet : Packet) (fate : Fate) : Type 0 where
-  pub fate_is : fate ≡ fate_at (place_of (in_room stream room) a old.base packet) (get old.held) packet
+pub record IsPutStep (stream : Stream) (width : ℕ) (old new : MergeState) (a : Anchor) (path : ℕ) (packet : Packet) (fate : Fate) : Type 0 where
+  pub fate_is : fate ≡ fate_at (place_of (of_width stream width) a old.base packet) (get old.held) packet
   pub held : (n : ℕ) → get new.held n ≡ (if is_taken_fate fate && nat_eq n (extended_number packet old.base) then Some packet else get old.held n)
   pub changed : new ≡ record old { held = new.held; counts = with_fate old.counts path fate }
 
--- an arrival that opens no epoch: it counts for its path, and then is put or refused, with the room before it
+-- an arrival that opens no epoch: it counts for its path, and then is put or refused, with the width before it
 pub record IsNextStep (stream : Stream) (old new : MergeState) (a : Anchor) (path : ℕ) (packet : Packet) (fate : Fate) : Type 0 where
   pub heard : List Probation
   pub noted : List Track
   pub hears : IsHeardStep old (record old { probations = heard; tracks = noted }) a path packet
-  pub puts : IsPutStep stream (room_by stream a old.base old.tracks) (record old { probations = heard; tracks = noted }) new a path packet fate
+  pub puts : IsPutStep stream (width_by stream a old.base old.tracks) (record old { probations = heard; tracks = noted }) new a path packet fate
 
 -- an arrival that opens an epoch: nothing is held, the window starts at its number, and all probations and tracks begin
 -- again

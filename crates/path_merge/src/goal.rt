@@ -4,7 +4,7 @@
 #[derive(Clone, Copy, Debug)]
 pub enum Goal {
     /// A reading of the clock, in sampling instants, of a merge that is open.
-    Reading(i64),
+    Tick(i64),
     /// The end, after a close.
     End,
 }

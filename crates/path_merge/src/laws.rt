@@ -60,7 +60,7 @@ ghost use Rattle.rtp_stream.specs.Sent.{
   wire_packet,
 };
 ghost use Rattle.rtp_stream.specs.Counts.{counts_of, fates_of};
-ghost use Rattle.rtp_stream.specs.Standing.{is_following};
+ghost use Rattle.rtp_stream.specs.Follow.{is_following};
 ghost use Rattle.rtp_stream.specs.declared.stream_spec.StreamClock.TheVariants.{Arrival, Follow};
 ghost use Rattle.path_merge.specs.FollowLaws.{IsNeverAstray, by_clock};
 ghost use Rattle.path_merge.specs.HeardOnce.{AreNear, GoOn, HasFewPaths, RisesFrom, numbers_heard, shift_of};

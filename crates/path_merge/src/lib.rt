@@ -11,7 +11,7 @@
 //!
 //! `run_merge` does all of this for a list of events.
 //!
-//! These calls copy each packet and mark with room for 1,440 octets. Use them if packets or marks are
+//! These calls copy each packet and mark with space for 1,440 octets. Use them if packets or marks are
 //! kept, or if speed does not matter. The following calls have the same contracts, and copy a payload
 //! once, from the datagram to its slot in the window:
 //!
@@ -28,7 +28,7 @@
 //!
 //! A `MarkRef` ends before the next `&mut` call; `to_mark` copies it.
 //!
-//! A `Window` has room for `size` numbers from `base` on. `SlotWindow` has a slot for each number, so
+//! A `Window` has space for `size` numbers from `base` on. `SlotWindow` has a slot for each number, so
 //! no call takes longer if more packets are held. `SortedWindow` keeps its packets sorted, and is the
 //! plain implementation to compare with. Only their `new` allocates.
 #![tactic(auto)]

@@ -7,7 +7,7 @@ const RUN: usize = 384;
 
 /// Returns true if two payloads that are the same up to a place are the same for a run more.
 fn is_same_run(a: &[u8], b: &[u8], from: usize) -> bool
-    requires room { from + 384 ≤ length a.now }
+    requires space { from + 384 ≤ length a.now }
     requires other_room { from + 384 ≤ length b.now }
     requires same { bytes_eq (take from a.now) (take from b.now) ≡ true }
     ensures { result ≡ bytes_eq (take (from + 384) a.now) (take (from + 384) b.now) }

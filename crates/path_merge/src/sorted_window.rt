@@ -27,14 +27,14 @@ impl Model for SortedWindow {
 
     ghost invariant = { λ w. record {
       within : IsWithin w.base (w.base + w.size) w.packets.items;
-      room : w.size ≤ vec_capacity w.packets;
+      space : w.size ≤ vec_capacity w.packets;
       small : w.base ≤ 2 ^ 62;
       narrow : w.size < 2 ^ 16;
     } };
 }
 
 impl SortedWindow {
-    /// Returns an empty window with room for the packets of a stream's window, or an error if its allocation fails.
+    /// Returns an empty window with space for the packets of a stream's window, or an error if its allocation fails.
     pub fn new(alloc: Global, spec: &StreamSpec) -> Result<Self, AllocError>
         ensures empty { IfOk result (λ w. IsEmpty (map.from_entries w.packets)) }
         ensures size { IfOk result (λ w. w.size ≡ spec.now.window) }

@@ -76,15 +76,15 @@ no_change octets other =
     let words : (length octets % 4 == 0) ≡ false = grind (arith, nat_tests, other) in
     change_by octets (nat_lt (length octets) 16) false refl words ∙ none_if (nat_lt (length octets) 16) octets
 
--- octets behind two numbers that are no gains, or more than there is room for
-pub unread : (octets : List ℕ) (room n : ℕ) → 16 ≤ length octets → n ≡ length octets - 16 → (n % 4 ≡ 0 → ⊥) ⊎ ((n % 4 ≡ 0) × (room < n / 4))
-    → IfSome (change_of octets) (λ v. room < length v.gains)
-unread octets room n long is (inl other) =
-    subst (λ o. IfSome o (λ v. room < length v.gains)) (sym (no_change octets (λ e. other (omega (arith, long, is, e))))) tt
-unread octets room n long is (inr more) =
+-- octets behind two numbers that are no gains, or more than there is space for
+pub unread : (octets : List ℕ) (capacity n : ℕ) → 16 ≤ length octets → n ≡ length octets - 16 → (n % 4 ≡ 0 → ⊥) ⊎ ((n % 4 ≡ 0) × (capacity < n / 4))
+    → IfSome (change_of octets) (λ v. capacity < length v.gains)
+unread octets capacity n long is (inl other) =
+    subst (λ o. IfSome o (λ v. capacity < length v.gains)) (sym (no_change octets (λ e. other (omega (arith, long, is, e))))) tt
+unread octets capacity n long is (inr more) =
     let size : length octets ≡ 16 + 4 * (n / 4) = omega (arith, long, is, more.0) in
     let count = gains_count (n / 4) (drop 16 octets) in
-    subst (λ o. IfSome o (λ v. room < length v.gains)) (sym (change_in octets (n / 4) size)) (omega (arith, count, more.1))
+    subst (λ o. IfSome o (λ v. capacity < length v.gains)) (sym (change_in octets (n / 4) size)) (omega (arith, count, more.1))
 
 -- the gains that are read from adjacent words
 gains_read : (octets : List ℕ) (gains : List ℤ) → IsReadBy (λ ys. cast_signed w32 (big_number 4 ys)) 4 octets gains → gains_in (length gains) octets ≡ gains

@@ -14,10 +14,10 @@ behind_end q n xs rest e = ap (λ m. drop (m + n) (xs ++ rest)) e ∙ drop-appen
 -- octets that are written behind others follow them
 pub behind : (p q : ℕ) (xs ys a b c : List ℕ) → b ≡ written_at p xs a → c ≡ written_at q ys b → q ≡ p + length xs → p ≤ length a
     → c ≡ written_at p (xs ++ ys) a
-behind p q xs ys a b c first then place room =
+behind p q xs ys a b c first then place space =
     let front : List ℕ = take p a ++ xs in
     let rest : List ℕ = drop (p + length xs) a in
-    let count : q ≡ length front = omega (arith, place, length-append (take p a) xs, length-take-le p a room) in
+    let count : q ≡ length front = omega (arith, place, length-append (take p a) xs, length-take-le p a space) in
     let same : p + length xs + length ys ≡ p + length (xs ++ ys) = omega (arith, length-append xs ys) in
     let past : drop (q + length ys) b ≡ drop (p + length (xs ++ ys)) a =
     ap (drop (q + length ys)) first ∙ behind_end q (length ys) front rest count

@@ -13,31 +13,31 @@ says_front : (octets block rest : List ℕ) → 8 ≤ length block → octets �
 says_front octets block rest long is = ap (number_at Little 4 4) is ∙ number_front Little 4 4 block rest long
 
 pub few_none : (octets : List ℕ) → length octets < 12 → BeginsNone octets
-few_none octets few block rest is e = omega (arith, few, is.room, ap length e, length-append block rest)
+few_none octets few block rest is e = omega (arith, few, is.least, ap length e, length-append block rest)
 
 pub wrong_none : (octets : List ℕ) (len : ℕ) → len ≡ number_at Little 4 4 octets → len < 12 → BeginsNone octets
-wrong_none octets len says few block rest is e = omega (arith, says, few, is.room, is.says, says_front octets block rest (omega (arith, is.room)) e)
+wrong_none octets len says few block rest is e = omega (arith, says, few, is.least, is.says, says_front octets block rest (omega (arith, is.least)) e)
 
 pub cut_none : (octets : List ℕ) (len : ℕ) → len ≡ number_at Little 4 4 octets → length octets < len → BeginsNone octets
 cut_none octets len says cut block rest is e =
-    omega (arith, says, cut, is.room, is.says, says_front octets block rest (omega (arith, is.room)) e, ap length e, length-append block rest)
+    omega (arith, says, cut, is.least, is.says, says_front octets block rest (omega (arith, is.least)) e, ap length e, length-append block rest)
 
 pub is_block : (octets : List ℕ) (len : ℕ) → len ≡ number_at Little 4 4 octets → 12 ≤ len → len ≤ length octets → IsBlock (take len octets)
-is_block octets len says room within =
+is_block octets len says space within =
     let size : length (take len octets) ≡ len = omega (arith, length-take len octets, within) in
-    let same = says_front octets (take len octets) (drop len octets) (omega (arith, size, room)) (sym (take-append-drop len octets)) in
-    record { room = omega (arith, size, room); says = omega (arith, says, same, size) }
+    let same = says_front octets (take len octets) (drop len octets) (omega (arith, size, space)) (sym (take-append-drop len octets)) in
+    record { least = omega (arith, size, space); says = omega (arith, says, same, size) }
 
 -- so is each of its first three words
 word_front : (octets : List ℕ) (len place : ℕ) → 12 ≤ len → len ≤ length octets → place + 4 ≤ 12 → number_at Little 4 place octets ≡ number_at Little 4 place (take len octets)
-word_front octets len place room within first =
+word_front octets len place space within first =
     let size : length (take len octets) ≡ len = omega (arith, length-take len octets, within) in
-    ap (number_at Little 4 place) (sym (take-append-drop len octets)) ∙ number_front Little 4 place (take len octets) (drop len octets) (omega (arith, size, room, first))
+    ap (number_at Little 4 place) (sym (take-append-drop len octets)) ∙ number_front Little 4 place (take len octets) (drop len octets) (omega (arith, size, space, first))
 
 pub datagram_front : (octets : List ℕ) (len paths : ℕ) → 12 ≤ len → len ≤ length octets → holds_datagram paths octets ≡ holds_datagram paths (take len octets)
-datagram_front octets len paths room within =
-    ap (λ k. (k == 6) && nat_lt (number_at Little 4 8 octets) paths) (word_front octets len 0 room within (omega arith))
-    ∙ ap (λ k. (number_at Little 4 0 (take len octets) == 6) && nat_lt k paths) (word_front octets len 8 room within (omega arith))
+datagram_front octets len paths space within =
+    ap (λ k. (k == 6) && nat_lt (number_at Little 4 8 octets) paths) (word_front octets len 0 space within (omega arith))
+    ∙ ap (λ k. (number_at Little 4 0 (take len octets) == 6) && nat_lt k paths) (word_front octets len 8 space within (omega arith))
 
 -- these blocks are the first of the octets, and this many hold a datagram
 pub record HasPassed (paths : ℕ) (octets : List ℕ) (found : WholeBlocks) : Type 0 where
@@ -83,7 +83,7 @@ passed_more paths octets found after n p is within longer counted =
       len = omega (arith, longer, p.len, size, length-append (joined p.blocks) block, ap length (concat_push p.blocks block));
       within = omega (arith, longer, within, p.within, length-drop found.len octets);
       datagrams = counted ∙ ap (λ k. k + datagram_count paths (block ∷ [])) p.datagrams ∙ sym (count_push paths p.blocks block);
-      few = omega (arith, counted, longer, p.few, is.room, size, one_at_most (holds_datagram paths block));
+      few = omega (arith, counted, longer, p.few, is.least, size, one_at_most (holds_datagram paths block));
     }
 
 -- no block begins behind them

@@ -174,8 +174,8 @@ adds : (interfaces : List Interface) (block : List ℕ) → number_at Little 4 0
     ≡ Ok (record { packet = None; section = record { order = Little; interfaces = interfaces ++ raw ∷ [] } })
 unfolding content_as described_by
 adds interfaces block kind is few =
-    let room : nat_lt (length interfaces) 65 ≡ true = grind (arith, nat_tests, few) in
-    rw (kind, is, room) refl
+    let space : nat_lt (length interfaces) 65 ≡ true = grind (arith, nat_tests, few) in
+    rw (kind, is, space) refl
 
 unmarked : (interfaces : List Interface) (block : List ℕ) → number_at Little 4 0 block ≡ 1 → mark_of Little interfaces block ≡ None
 unmarked interfaces block kind = rw kind refl

@@ -13,7 +13,7 @@ pub record TextsView : Type 0 where
   pub name : List ℕ
   pub description : List ℕ
 
--- the texts in a block, if it describes an interface: its type is 1, and it has room for the fields of a description
+-- the texts in a block, if it describes an interface: its type is 1, and it has space for the fields of a description
 unfoldable pub texts_in : Endian → List ℕ → Option TextsView
 texts_in order block =
     if nat_lt (length block) 20 then None

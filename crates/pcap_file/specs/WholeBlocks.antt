@@ -5,10 +5,10 @@ use Rattle.pcap_file.specs.declared.decode.endian.Endian.TheVariants.{Little}
 use Rattle.pcap_file.specs.declared.record_blocks.WholeBlocks.{WholeBlocks}
 use Rattle.pcap_file.specs.Octets.{number_at}
 
--- a block, least significant octet first: it has room for its type and its two lengths, and its length is its first
+-- a block, least significant octet first: it has space for its type and its two lengths, and its length is its first
 -- length
 pub record IsBlock (block : List ℕ) : Type 0 where
-  pub room : 12 ≤ length block
+  pub least : 12 ≤ length block
   pub says : number_at Little 4 4 block ≡ length block
 
 -- no block is a prefix of octets

@@ -58,7 +58,7 @@ pub fn write_section_header(open_at: u64, out: &mut [u8]) -> usize
 #[tactic(auto, unfolding(crate::specs::Blocks::interface_block))]
 pub fn write_interface(stream: u16, letter: u8, description: &[u8], out: &mut [u8]) -> usize
     requires few { length description.now ≤ 64 }
-    requires room { 2108 ≤ length out.old }
+    requires space { 2108 ≤ length out.old }
     ensures written { out.new ≡ interface_block stream letter description.now ++ drop result out.old }
     ensures len { result ≡ length (interface_block stream letter description.now) }
     ensures short { result ≤ 2108 }
@@ -83,7 +83,7 @@ pub fn write_gains_interface(out: &mut [u8]) -> usize
 fn write_texts(name: &[u8], description: &[u8], out: &mut [u8]) -> usize
     requires short_name { length name.now ≤ 8 }
     requires few { length description.now ≤ 64 }
-    requires room { 2108 ≤ length out.old }
+    requires space { 2108 ≤ length out.old }
     ensures written { out.new ≡ texts_block name.now description.now ++ drop result out.old }
     ensures len { result ≡ length (texts_block name.now description.now) }
     ensures short { result ≤ 2108 }
@@ -100,7 +100,7 @@ fn write_texts(name: &[u8], description: &[u8], out: &mut [u8]) -> usize
 #[tactic(auto, unfolding(crate::specs::Blocks::datagram_block))]
 pub fn write_packet(arrival: &RecordedDatagram<'_>, out: &mut [u8]) -> usize
     requires few { length arrival.now.octets.now ≤ 2048 }
-    requires room { 2108 ≤ length out.old }
+    requires space { 2108 ≤ length out.old }
     ensures written { out.new ≡ datagram_block (arrival_view arrival.now) ++ drop result out.old }
     ensures len { result ≡ length (datagram_block (arrival_view arrival.now)) }
     ensures short { result ≤ 2108 }
@@ -118,15 +118,15 @@ pub fn write_packet(arrival: &RecordedDatagram<'_>, out: &mut [u8]) -> usize
 #[tactic(auto, unfolding(crate::specs::Blocks::change_block, crate::specs::Blocks::datagram_block))]
 pub fn write_change(change: &RecordedChange<'_>, out: &mut [u8]) -> usize
     requires few { length change.now.gains.now ≤ 8192 }
-    requires room { 32844 ≤ length out.old }
+    requires space { 32844 ≤ length out.old }
     ensures written { out.new
         ≡ change_block change.now.interface change.now.nanoseconds (change_view change.now) ++ drop result out.old }
     ensures len { result
         ≡ length (change_block change.now.interface change.now.nanoseconds (change_view change.now)) }
     ensures short { result ≤ 32844 }
 {
-    let mut room = [0; MAX_CHANGE_LEN];
-    let payload = &mut room[..GAINS_PLACE + GAIN_LEN * change.gains.len()];
+    let mut buffer = [0; MAX_CHANGE_LEN];
+    let payload = &mut buffer[..GAINS_PLACE + GAIN_LEN * change.gains.len()];
     write_payload(change, payload);
     let arrival = RecordedDatagram {
         interface: change.interface,
@@ -160,7 +160,7 @@ pub fn write_statistics(nanoseconds: u64, out: &mut [u8]) -> usize
 /// Writes a block of a type, with a head and octets, which zeros fill up to whole words of 4. Returns its length.
 fn write_block(kind: u32, head: &[u8], octets: &[u8], out: &mut [u8]) -> usize
     requires few { length head.now + (length octets.now + 3 * length octets.now % 4) ≤ 32832 }
-    requires room { 12 + length head.now + (length octets.now + 3 * length octets.now % 4) ≤ length out.old }
+    requires space { 12 + length head.now + (length octets.now + 3 * length octets.now % 4) ≤ length out.old }
     ensures written { out.new ≡ block_octets kind (head.now ++ padded octets.now) ++ drop result out.old }
     ensures len { result ≡ length (block_octets kind (head.now ++ padded octets.now)) }
     ensures short { result ≡ 12 + length head.now + (length octets.now + 3 * length octets.now % 4) }

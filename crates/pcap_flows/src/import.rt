@@ -135,7 +135,7 @@ impl Trace {
         self.count(if earlier < reading { 2 } else { 1 })
     }
 
-    /// Counts the events of a datagram, and tests that the event and the line of the close have room.
+    /// Counts the events of a datagram, and tests that the event and the line of the close have space.
     fn count(&mut self, events: u32) -> Result<(), ImportFault>
         ensures text { self.new.text ≡ self.old.text }
         ensures clock { self.new.clock ≡ self.old.clock }

@@ -184,7 +184,7 @@ impl StreamFlows {
         self.places().iter().any(|place| is_shown_at(table, *place))
     }
 
-    /// Adds a path, if there is room.
+    /// Adds a path, if there is space.
     fn add(&mut self, place: usize) {
         if let Some(free) = self.places.get_mut(self.len) {
             *free = place;

@@ -19,7 +19,7 @@ pub(crate) const MAX_FLOWS: usize = 256;
 pub struct FlowTable {
     keys: Vec<FlowKey>,
     flows: Vec<Flow>,
-    /// The number of packets of flows that have no room in the table.
+    /// The number of packets of flows that have no space in the table.
     untracked: u64,
     /// The number of UDP packets that are cut, fragments or no RTP.
     not_rtp: u64,
@@ -96,7 +96,7 @@ impl FlowTable {
     fn add_flow(&mut self, alloc: Global, first: &FlowPacket) -> Result<(), AllocError>
         ensures { OnOk result (table_view self.new ≡ table_begun (table_view self.old) first.now) }
     {
-        // Both lists take their room first, so that they can't get different lengths.
+        // Both lists take their space first, so that they can't get different lengths.
         self.keys.reserve(1)?;
         self.flows.reserve(1)?;
         let flow = Flow::new(alloc, first)?;
@@ -166,7 +166,7 @@ impl FlowTable {
         place_of(self.keys(), key)
     }
 
-    /// Returns the number of packets of flows that have no room in the table.
+    /// Returns the number of packets of flows that have no space in the table.
     pub(crate) fn untracked(&self) -> u64
         ensures { result ≡ self.now.untracked }
     {

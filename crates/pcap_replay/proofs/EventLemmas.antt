@@ -5,7 +5,7 @@ use Rattle.pcap_file.specs.Packet.{PacketView}
 use Rattle.pcap_flows.specs.declared.import.clock.CaptureClock.{CaptureClock}
 use Rattle.pcap_flows.specs.Clock.{clock_with}
 use Rattle.pcap_flows.specs.Trace.{octets_of}
-use Rattle.studio_session.specs.Event.{TraceEvent, Arrival, Reading}
+use Rattle.studio_session.specs.Event.{TraceEvent, Arrival, Tick}
 use Rattle.studio_session.specs.Fault.{closed_at, time_at}
 use Rattle.studio_engine.specs.Session.{turned}
 use Rattle.studio_session.proofs.FaultLemmas.{closed_more}
@@ -42,7 +42,7 @@ first_by true events more = first_same events
 first_by false events more = first_more events more
 
 pub first_turned : (old new : ℤ) (events : List TraceEvent) → AreFirst events (turned old new events)
-first_turned old new events = first_by (int_eq old new) events (Reading new ∷ [])
+first_turned old new events = first_by (int_eq old new) events (Tick new ∷ [])
 
 pub turned_alike : (old new t u : ℤ) (events : List TraceEvent) → old ≡ t → new ≡ u → turned old new events ≡ turned t u events
 turned_alike old new t u events e f = ap (λ x. turned x new events) e ∙ ap (λ y. turned t y events) f
@@ -68,9 +68,9 @@ first_with open_at from clock events packet (role.Arrival target) =
 first_with open_at from clock events packet role.Change = first_read open_at from events clock.reading (clock_with clock packet.time).reading
 
 -- no event is a close
-open_by : (b : Bool) (events : List TraceEvent) (time : ℤ) → closed_at false events ≡ false → closed_at false (if b then events else events ++ Reading time ∷ []) ≡ false
+open_by : (b : Bool) (events : List TraceEvent) (time : ℤ) → closed_at false events ≡ false → closed_at false (if b then events else events ++ Tick time ∷ []) ≡ false
 open_by true events time e = e
-open_by false events time e = closed_more false events (Reading time) ∙ e
+open_by false events time e = closed_more false events (Tick time) ∙ e
 
 pub open_turned : (old new : ℤ) (events : List TraceEvent) → closed_at false events ≡ false → closed_at false (turned old new events) ≡ false
 open_turned old new events e = open_by (int_eq old new) events new e

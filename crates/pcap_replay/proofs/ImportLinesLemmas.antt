@@ -23,7 +23,7 @@ use Rattle.studio_session.specs.Fault.{time_at}
 use Rattle.studio_session.proofs.FaultLemmas.{time_more}
 use Rattle.studio_engine.specs.Session.{turned}
 use Rattle.studio_engine.proofs.EngineLemmas.{turned_on}
-use Rattle.studio_session.specs.Event.{TraceEvent, Arrival, Closing, Reading}
+use Rattle.studio_session.specs.Event.{TraceEvent, Arrival, Closing, Tick}
 use Rattle.studio_run.specs.Trace.{arrival, arrival_of, fault_in, fields_said, is_silent, line_said, lines_of, lines_said, octets_of, prepend, reading, trace_events, with_event}
 use Rattle.studio_run.specs.declared.trace.fault.TraceFaultKind.TheVariants.{TooMany}
 use Rattle.studio_run.specs.Fields.{fields_of}
@@ -79,7 +79,7 @@ tick_fields n small =
     let p = λ (o : ℕ). eqb o 32 in
     slice_split_at p (codes "tick") 32 (decimal n) (tested 32 (codes "tick") refl) refl ∙ ap (λ l. codes "tick" ∷ l) (slice_split_none p (decimal n) (decimal_not 32 n (omega arith) small))
 
-pub tick_said : (n : ℕ) → n < 2 ^ 50 → line_said (codes "tick " ++ decimal n) ≡ Ok (Some (Reading (pos n)))
+pub tick_said : (n : ℕ) → n < 2 ^ 50 → line_said (codes "tick " ++ decimal n) ≡ Ok (Some (Tick (pos n)))
 tick_said n small =
     let line = codes "tick " ++ decimal n in
     ap (λ b. if b then Ok None else with_event (fields_said (fields_of line))) (silent_not 116 (codes "ick " ++ decimal n) refl)
@@ -174,8 +174,8 @@ clock_late clock (Some t) = omega arith
 -- one line more
 says_first : (line rest : List ℕ) (event : TraceEvent) (number count : ℕ) (more : List TraceEvent) → IsLine line → line_said line ≡ Ok (Some event) → count < 1000000
     → lines_said (number + 1) (count + 1) (lines_of rest) ≡ Ok more → lines_said number count (lines_of (line ++ 10 ∷ [] ++ rest)) ≡ Ok (event ∷ more)
-says_first line rest event number count more is said room later =
-    ap (λ l. lines_said number count (lines_of l)) (append_assoc line (10 ∷ []) rest) ∙ reads-event line is event said count room number rest ∙ ap (prepend (event ∷ [])) later
+says_first line rest event number count more is said space later =
+    ap (λ l. lines_said number count (lines_of l)) (append_assoc line (10 ∷ []) rest) ∙ reads-event line is event said count space number rest ∙ ap (prepend (event ∷ [])) later
 
 -- a text that follows some events has the remaining events of `all`
 record IsSaid (events : List TraceEvent) (text : List ℕ) (all : List TraceEvent) : Type 0 where
@@ -196,9 +196,9 @@ close_line_is = record { short = lit≤ tt; whole = tested 10 (codes "close") re
 
 said_none : (routes : List Route) (clock : CaptureClock) (events : List TraceEvent) → length events + 1 ≤ 1000000 → Said routes [] clock events
 unfolding text_from
-said_none routes clock events room = record {
+said_none routes clock events space = record {
   more = Closing ∷ [];
-  said = λ number. says_first (codes "close") [] Closing number (length events) [] close_line_is close_said (omega (arith, room)) refl;
+  said = λ number. says_first (codes "close") [] Closing number (length events) [] close_line_is close_said (omega (arith, space)) refl;
   whole = refl;
 }
 
@@ -206,7 +206,7 @@ said_none routes clock events room = record {
 one_arrival : (events all : List TraceEvent) (route : Route) (packet : PacketView) (text : List ℕ) → IsPathRoute route → IsLineOf packet → length events + 1 ≤ 1000000
     → IsSaid (events ++ Arrival route.stream (path_of route.letter) (datagram_octets packet.ip.body) ∷ []) text all
     → IsSaid events (arrival_line route (datagram_octets packet.ip.body) ++ text) all
-one_arrival events all route packet text path is room later =
+one_arrival events all route packet text path is space later =
     let octets = datagram_octets packet.ip.body in
     let event : TraceEvent = Arrival route.stream (path_of route.letter) octets in
     let long : length (events ++ event ∷ []) ≡ length events + 1 = length-append events (event ∷ []) in
@@ -214,19 +214,19 @@ one_arrival events all route packet text path is room later =
       more = event ∷ later.more;
       said = λ number. says_first (route.letter ∷ codes " " ++ decimal route.stream ++ codes " " ++ encode_lower octets) text event number (length events) later.more
           (arrival_is_line route.letter route.stream octets path.low path.stream is.few is.bytes) (arrival_said route.letter route.stream octets path.low path.high path.stream is.some is.bytes)
-          (omega (arith, room)) (ap (λ n. lines_said (number + 1) n (lines_of text)) (sym long) ∙ later.said (number + 1));
+          (omega (arith, space)) (ap (λ n. lines_said (number + 1) n (lines_of text)) (sym long) ∙ later.said (number + 1));
       whole = sym (append_assoc events (event ∷ []) later.more) ∙ later.whole;
     }
 
 -- the line of a reading
 one_tick : (events all : List TraceEvent) (n : ℕ) (text : List ℕ) → n < 2 ^ 50 → length events + 1 ≤ 1000000
-    → IsSaid (events ++ Reading (pos n) ∷ []) text all → IsSaid events (codes "tick " ++ decimal n ++ 10 ∷ [] ++ text) all
-one_tick events all n text small room later =
-    let event : TraceEvent = Reading (pos n) in
+    → IsSaid (events ++ Tick (pos n) ∷ []) text all → IsSaid events (codes "tick " ++ decimal n ++ 10 ∷ [] ++ text) all
+one_tick events all n text small space later =
+    let event : TraceEvent = Tick (pos n) in
     let long : length (events ++ event ∷ []) ≡ length events + 1 = length-append events (event ∷ []) in
     record {
       more = event ∷ later.more;
-      said = λ number. says_first (codes "tick " ++ decimal n) text event number (length events) later.more (tick_line n small) (tick_said n small) (omega (arith, room))
+      said = λ number. says_first (codes "tick " ++ decimal n) text event number (length events) later.more (tick_line n small) (tick_said n small) (omega (arith, space))
           (ap (λ k. lines_said (number + 1) k (lines_of text)) (sym long) ∙ later.said (number + 1));
       whole = sym (append_assoc events (event ∷ []) later.more) ∙ later.whole;
     }
@@ -242,25 +242,25 @@ one_packet : (b : Bool) (events : List TraceEvent) (earlier n rest : ℕ) (route
     → IsPathRoute route → IsLineOf packet → n < 2 ^ 50 → earlier ≤ n → time_at (pos 0) events ≡ pos earlier → length events + ((if b then 2 else 1) + rest) ≤ 1000000
     → ((events : List TraceEvent) → time_at (pos 0) events ≡ pos n → length events + rest ≤ 1000000 → IsSaid events text (all events))
     → IsSaid events (text_by b n route (datagram_octets packet.ip.body) text) (all (events_by b events n (Arrival route.stream (path_of route.letter) (datagram_octets packet.ip.body))))
-one_packet true events earlier n rest route packet text all e path is small late time room later =
+one_packet true events earlier n rest route packet text all e path is small late time space later =
     let event : TraceEvent = Arrival route.stream (path_of route.letter) (datagram_octets packet.ip.body) in
     let less : earlier < n = grind (arith, nat_tests, e) in
-    let on : events ++ Reading (pos n) ∷ [] ≡ turned (time_at (pos 0) events) (pos (0 + n)) events =
-    let zero : n ≡ 0 + n = omega arith in ap (λ k. events ++ Reading (pos k) ∷ []) zero ∙ turned_on (time_at (pos 0) events) (pos (0 + n)) events (omega (arith, ints, time, less)) in
-    let first = events ++ Reading (pos n) ∷ [] in
-    let long : length first ≡ length events + 1 = length-append events (Reading (pos n) ∷ []) in
+    let on : events ++ Tick (pos n) ∷ [] ≡ turned (time_at (pos 0) events) (pos (0 + n)) events =
+    let zero : n ≡ 0 + n = omega arith in ap (λ k. events ++ Tick (pos k) ∷ []) zero ∙ turned_on (time_at (pos 0) events) (pos (0 + n)) events (omega (arith, ints, time, less)) in
+    let first = events ++ Tick (pos n) ∷ [] in
+    let long : length first ≡ length events + 1 = length-append events (Tick (pos n) ∷ []) in
     let longer : length (first ++ event ∷ []) ≡ length first + 1 = length-append first (event ∷ []) in
-    let at : time_at (pos 0) (first ++ event ∷ []) ≡ pos n = time_more (pos 0) first event ∙ time_more (pos 0) events (Reading (pos n)) in
-    let said = one_arrival first (all (first ++ event ∷ [])) route packet text path is (omega (arith, room, long)) (later (first ++ event ∷ []) at (omega (arith, room, long, longer))) in
-    let both = one_tick events (all (first ++ event ∷ [])) n (arrival_line route (datagram_octets packet.ip.body) ++ text) small (omega (arith, room)) said in
+    let at : time_at (pos 0) (first ++ event ∷ []) ≡ pos n = time_more (pos 0) first event ∙ time_more (pos 0) events (Tick (pos n)) in
+    let said = one_arrival first (all (first ++ event ∷ [])) route packet text path is (omega (arith, space, long)) (later (first ++ event ∷ []) at (omega (arith, space, long, longer))) in
+    let both = one_tick events (all (first ++ event ∷ [])) n (arrival_line route (datagram_octets packet.ip.body) ++ text) small (omega (arith, space)) said in
     subst (λ l. IsSaid events (text_by true n route (datagram_octets packet.ip.body) text) (all (l ++ event ∷ []))) on
     (subst (λ t. IsSaid events t (all (first ++ event ∷ []))) (sym (append_assoc (codes "tick " ++ decimal n ++ 10 ∷ []) (arrival_line route (datagram_octets packet.ip.body)) text)) both)
-one_packet false events earlier n rest route packet text all e path is small late time room later =
+one_packet false events earlier n rest route packet text all e path is small late time space later =
     let event : TraceEvent = Arrival route.stream (path_of route.letter) (datagram_octets packet.ip.body) in
     let same : pos earlier ≡ pos n = ap pos (grind (arith, nat_tests, e, late)) in
     let longer : length (events ++ event ∷ []) ≡ length events + 1 = length-append events (event ∷ []) in
-    one_arrival events (all (events ++ event ∷ [])) route packet text path is (omega (arith, room))
-    (later (events ++ event ∷ []) (time_more (pos 0) events event ∙ time ∙ same) (omega (arith, room, longer)))
+    one_arrival events (all (events ++ event ∷ [])) route packet text path is (omega (arith, space))
+    (later (events ++ event ∷ []) (time_more (pos 0) events event ∙ time ∙ same) (omega (arith, space, longer)))
 
 -- the lines of a packet, by its route
 abbrev SaidWith : List Route → CaptureClock → List TraceEvent → PacketView → Option Route → List PacketView → Type 0
@@ -272,14 +272,14 @@ said_with : (routes : List Route) (clock : CaptureClock) (events : List TraceEve
 unfolding text_from item_text item_clock
 said_with routes clock events packet packets s = s
 
-room_with : (routes : List Route) (clock : CaptureClock) (n : ℕ) (packet : PacketView) (packets : List PacketView) → n + events_from routes clock (map Ok (packet ∷ packets)) ≤ 1000000
+space_with : (routes : List Route) (clock : CaptureClock) (n : ℕ) (packet : PacketView) (packets : List PacketView) → n + events_from routes clock (map Ok (packet ∷ packets)) ≤ 1000000
     → n + (packet_events clock packet (route_of routes packet) + events_from routes (packet_clock clock packet (route_of routes packet)) (map Ok packets)) ≤ 1000000
 unfolding events_from item_events item_clock
-room_with routes clock n packet packets room = room
+space_with routes clock n packet packets space = space
 
-room_end : (routes : List Route) (clock : CaptureClock) (n : ℕ) → n + events_from routes clock [] ≤ 1000000 → n + 1 ≤ 1000000
+space_end : (routes : List Route) (clock : CaptureClock) (n : ℕ) → n + events_from routes clock [] ≤ 1000000 → n + 1 ≤ 1000000
 unfolding events_from
-room_end routes clock n room = room
+space_end routes clock n space = space
 
 -- by the route of a packet, if the lines of the others are known
 by_route : (routes : List Route) (clock : CaptureClock) (events : List TraceEvent) (packet : PacketView) (packets : List PacketView) (o : Option Route)
@@ -295,16 +295,16 @@ by_route routes clock events packet packets (Some route) is few time enough late
     let small = clock_few clock packet.time few both.1.time in
     one_packet (nat_lt clock.reading next.reading) events clock.reading next.reading (events_from routes next (map Ok packets)) route packet (text_from routes next (map Ok packets))
     (λ (events : List TraceEvent). events_after (pos 0) (Flows routes) next events packets ++ Closing ∷ []) refl both.0 both.1 small (clock_late clock packet.time) time enough
-    (λ events at room. later next events small at room)
+    (λ events at space. later next events small at space)
 
 -- the lines of all packets
 all_said : (routes : List Route) (packets : List PacketView) (clock : CaptureClock) (events : List TraceEvent) → clock.reading < 2 ^ 50 → time_at (pos 0) events ≡ pos clock.reading
     → AreLines routes packets → length events + events_from routes clock (map Ok packets) ≤ 1000000 → Said routes packets clock events
-all_said routes [] clock events few time lines room = said_none routes clock events (room_end routes clock (length events) room)
-all_said routes (packet ∷ packets) clock events few time lines room =
+all_said routes [] clock events few time lines space = said_none routes clock events (space_end routes clock (length events) space)
+all_said routes (packet ∷ packets) clock events few time lines space =
     said_with routes clock events packet packets
-    (by_route routes clock events packet packets (route_of routes packet) lines.0 few time (room_with routes clock (length events) packet packets room)
-    (λ clock events few time room. all_said routes packets clock events few time lines.1 room))
+    (by_route routes clock events packet packets (route_of routes packet) lines.0 few time (space_with routes clock (length events) packet packets space)
+    (λ clock events few time space. all_said routes packets clock events few time lines.1 space))
 
 -- no reading follows the last datagram
 closed_none : (open_at : ℤ) (from : ℕ) (events : List TraceEvent) (clock : CaptureClock) → read_at open_at from events clock.reading (clock_with clock None).reading ≡ events
@@ -315,9 +315,9 @@ closed_none open_at from events clock =
 
 pub import_said : (studio : Studio) (routes : List Route) (packets : List PacketView) → studio.open_at ≡ pos 0 → AreLines routes packets → event_count routes (map Ok packets) ≤ 1000000
     → length (trace_of routes (map Ok packets)) ≤ 67108864 → trace_events (trace_of routes (map Ok packets)) ≡ Ok (replay_events studio (Flows routes) packets None)
-import_said studio routes packets opened lines room short =
+import_said studio routes packets opened lines space short =
     let text = trace_of routes (map Ok packets) in
-    let none : 0 + events_from routes clock_begun (map Ok packets) ≤ 1000000 = omega (arith, room) in
+    let none : 0 + events_from routes clock_begun (map Ok packets) ≤ 1000000 = omega (arith, space) in
     let said = all_said routes packets clock_begun [] (lit< tt) refl lines none in
     let within : nat_lt 67108864 (length text) ≡ false = grind (arith, nat_tests, short) in
     let events = events_after studio.open_at (Flows routes) clock_begun [] packets in

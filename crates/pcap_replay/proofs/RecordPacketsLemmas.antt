@@ -11,16 +11,16 @@ use Rattle.pcap_flows.specs.Trace.{octets_of}
 use Rattle.rtp_stream.specs.declared.stream_spec.Stream.{Stream}
 use Rattle.lane_align.specs.Lane.{natural}
 use Rattle.studio_config.specs.Studio.{Studio}
-use Rattle.studio_session.specs.Event.{TraceEvent, Arrival, Reading, Closing}
+use Rattle.studio_session.specs.Event.{TraceEvent, Arrival, Tick, Closing}
 use Rattle.studio_session.specs.Fault.{event_fault, path_fault, session_fault_from, session_fault_of, time_at}
-use Rattle.studio_session.specs.Pruned.{begin_with_reading, pruned_events}
+use Rattle.studio_session.specs.Pruned.{begin_with_tick, pruned_events}
 use Rattle.studio_session.specs.declared.fault.StudioFault.TheVariants.{Path as NoPath, Stream as NoStream}
 use Rattle.studio_session.proofs.FaultLemmas.{first_none, later_none, time_more}
 use Rattle.studio_engine.specs.Session.{turned}
 use Rattle.pcap_replay.specs.Events.{events_after, events_with, read_at, replay_events, clock_after}
 use Rattle.pcap_replay.specs.RecordChanges.{changes_by, changes_of, changes_with}
 use Rattle.pcap_replay.specs.Routing.{clock_past, places_of, role_at}
-use Rattle.pcap_replay.specs.RecordPackets.{AreRecorded, AreRising, Changes, Happens, IsAt, IsPacketOf, Step, changes_in, events_in, kept_events, path_total, place_of, takes_reading}
+use Rattle.pcap_replay.specs.RecordPackets.{AreRecorded, AreRising, Changes, Happens, IsAt, IsPacketOf, Step, changes_in, events_in, kept_events, path_total, place_of, takes_tick}
 use Rattle.pcap_replay.specs.declared.changes.RecordedChanges.TheVariants.{Taken}
 use Rattle.pcap_replay.specs.declared.routing.PacketRole.{PacketRole}
 use Rattle.pcap_replay.specs.declared.routing.PacketRole.TheVariants as role
@@ -76,58 +76,58 @@ role_of_total n (x ∷ streams) =
 
 -- a reading that goes on, as a step
 abbrev going : ℤ → ℤ → List Step
-going old new = if int_eq old new then [] else Happens (Reading new) ∷ []
+going old new = if int_eq old new then [] else Happens (Tick new) ∷ []
 
 turned_behind : (old new : ℤ) (events : List TraceEvent) → turned old new events ≡ events ++ turned old new []
 turned_behind old new events = by_test (int_eq old new)
   where
-    by_test : (b : Bool) → (if b then events else events ++ Reading new ∷ []) ≡ events ++ (if b then [] else Reading new ∷ [])
+    by_test : (b : Bool) → (if b then events else events ++ Tick new ∷ []) ≡ events ++ (if b then [] else Tick new ∷ [])
     by_test true = sym (append-nil events)
     by_test false = refl
 
 turned_same : (old new : ℤ) → old ≡ new → turned old new [] ≡ []
 turned_same old new e = by_test (int_eq old new) (grind (arith, ints, nat_tests, e))
   where
-    by_test : (b : Bool) → b ≡ true → (if b then [] else Reading new ∷ []) ≡ []
+    by_test : (b : Bool) → b ≡ true → (if b then [] else Tick new ∷ []) ≡ []
     by_test true h = refl
     by_test false h = absurd (false≢true h)
 
 going_same : (old new : ℤ) → old ≡ new → going old new ≡ []
 going_same old new e = by_test (int_eq old new) (grind (arith, ints, nat_tests, e))
   where
-    by_test : (b : Bool) → b ≡ true → (if b then [] else Happens (Reading new) ∷ []) ≡ []
+    by_test : (b : Bool) → b ≡ true → (if b then [] else Happens (Tick new) ∷ []) ≡ []
     by_test true h = refl
     by_test false h = absurd (false≢true h)
 
-going_later : (old new : ℤ) → old <ℤ new → going old new ≡ Happens (Reading new) ∷ []
+going_later : (old new : ℤ) → old <ℤ new → going old new ≡ Happens (Tick new) ∷ []
 going_later old new less = by_test (int_eq old new) (grind (arith, ints, nat_tests, less))
   where
-    by_test : (b : Bool) → b ≡ false → (if b then [] else Happens (Reading new) ∷ []) ≡ Happens (Reading new) ∷ []
+    by_test : (b : Bool) → b ≡ false → (if b then [] else Happens (Tick new) ∷ []) ≡ Happens (Tick new) ∷ []
     by_test true h = absurd (false≢true (sym h))
     by_test false h = refl
 
 -- a reading is kept if no reading follows
-going_stays : (old new : ℤ) (step : Step) (steps : List Step) (kept : List TraceEvent) → takes_reading (step ∷ steps) ≡ false → kept_events (step ∷ steps) ≡ kept
+going_stays : (old new : ℤ) (step : Step) (steps : List Step) (kept : List TraceEvent) → takes_tick (step ∷ steps) ≡ false → kept_events (step ∷ steps) ≡ kept
     → kept_events (going old new ++ step ∷ steps) ≡ turned old new [] ++ kept
 going_stays old new step steps kept other is = by_test (int_eq old new)
   where
-    by_test : (b : Bool) → kept_events ((if b then [] else Happens (Reading new) ∷ []) ++ step ∷ steps) ≡ (if b then [] else Reading new ∷ []) ++ kept
+    by_test : (b : Bool) → kept_events ((if b then [] else Happens (Tick new) ∷ []) ++ step ∷ steps) ≡ (if b then [] else Tick new ∷ []) ++ kept
     by_test true = is
-    by_test false = ap (λ b. if b then kept_events (step ∷ steps) else Reading new ∷ kept_events (step ∷ steps)) other ∙ ap (λ l. Reading new ∷ l) is
+    by_test false = ap (λ b. if b then kept_events (step ∷ steps) else Tick new ∷ kept_events (step ∷ steps)) other ∙ ap (λ l. Tick new ∷ l) is
 
-going_left_out : (old new u : ℤ) (steps : List Step) → kept_events (going old new ++ Happens (Reading u) ∷ steps) ≡ kept_events (Happens (Reading u) ∷ steps)
+going_left_out : (old new u : ℤ) (steps : List Step) → kept_events (going old new ++ Happens (Tick u) ∷ steps) ≡ kept_events (Happens (Tick u) ∷ steps)
 going_left_out old new u steps = by_test (int_eq old new)
   where
-    by_test : (b : Bool) → kept_events ((if b then [] else Happens (Reading new) ∷ []) ++ Happens (Reading u) ∷ steps) ≡ kept_events (Happens (Reading u) ∷ steps)
+    by_test : (b : Bool) → kept_events ((if b then [] else Happens (Tick new) ∷ []) ++ Happens (Tick u) ∷ steps) ≡ kept_events (Happens (Tick u) ∷ steps)
     by_test true = refl
     by_test false = refl
 
 time_going : (time old new : ℤ) (events : List TraceEvent) → time_at time events ≡ old → time_at time (events ++ turned old new []) ≡ new
 time_going time old new events is = by_test (int_eq old new) refl
   where
-    by_test : (b : Bool) → int_eq old new ≡ b → time_at time (events ++ (if b then [] else Reading new ∷ [])) ≡ new
+    by_test : (b : Bool) → int_eq old new ≡ b → time_at time (events ++ (if b then [] else Tick new ∷ [])) ≡ new
     by_test true e = let same : old ≡ new = grind (arith, ints, nat_tests, e) in ap (time_at time) (append-nil events) ∙ is ∙ same
-    by_test false e = time_more time events (Reading new)
+    by_test false e = time_more time events (Tick new)
 
 -- a clock that counts from time 0, at the time of a reading
 module _ (clock : CaptureClock) (origin : clock.origin ≡ Some 0) (n : ℕ) (not_back : clock.reading ≤ instants_in n) where
@@ -203,9 +203,9 @@ module _ (studio : Studio) (low : pos 0 ≤ℤ studio.open_at) where
       → clock.origin ≡ Some 0 → time_at studio.open_at before ≡ studio.open_at +ℤ pos clock.reading → (studio.open_at +ℤ pos clock.reading) ≤ℤ time
       → said_after clock before packets closing ≡ before ++ kept_events (going (studio.open_at +ℤ pos clock.reading) time ++ steps)
   said [] packets closing p time before clock none rising recorded origin is le = absurd recorded
-  said (Happens (Reading u) ∷ steps) packets closing p time before clock none rising recorded origin is le =
+  said (Happens (Tick u) ∷ steps) packets closing p time before clock none rising recorded origin is le =
       let later : (studio.open_at +ℤ pos clock.reading) <ℤ u = omega (arith, ints, le, rising.0) in
-      said steps packets closing (suc p) u before clock (later_none (event_fault studio.streams p time false (Reading u)) _ none) rising.1 recorded origin is (omega (arith, ints, later))
+      said steps packets closing (suc p) u before clock (later_none (event_fault studio.streams p time false (Tick u)) _ none) rising.1 recorded origin is (omega (arith, ints, later))
       ∙ ap (λ l. before ++ kept_events (l ++ steps)) (going_later (studio.open_at +ℤ pos clock.reading) u later)
       ∙ ap (λ l. before ++ l) (sym (going_left_out (studio.open_at +ℤ pos clock.reading) time u steps))
   said (Happens Closing ∷ steps) packets closing p time before clock none rising recorded origin is le = closes time before clock closing origin is le recorded.2 steps packets recorded.0 recorded.1
@@ -269,8 +269,8 @@ module _ (studio : Studio) (low : pos 0 ≤ℤ studio.open_at) where
   changes_after : (steps : List Step) (packets : List PacketView) (closing : Option ℕ) (p : ℕ) (time : ℤ) → session_fault_from studio.streams p time false (events_in steps) ≡ None
       → AreRecorded studio time steps packets closing → changes_of (places_of studio Taken) packets ≡ changes_in steps
   changes_after [] packets closing p time none recorded = absurd recorded
-  changes_after (Happens (Reading u) ∷ steps) packets closing p time none recorded =
-      changes_after steps packets closing (suc p) u (later_none (event_fault studio.streams p time false (Reading u)) _ none) recorded
+  changes_after (Happens (Tick u) ∷ steps) packets closing p time none recorded =
+      changes_after steps packets closing (suc p) u (later_none (event_fault studio.streams p time false (Tick u)) _ none) recorded
   changes_after (Happens Closing ∷ steps) packets closing p time none recorded = nothing_left steps packets recorded.0 recorded.1
   changes_after (Happens (Arrival stream path octets) ∷ steps) [] closing p time none recorded = absurd recorded
   changes_after (Happens (Arrival stream path octets) ∷ steps) (packet ∷ packets) closing p time none recorded =
@@ -295,18 +295,18 @@ events_back : (events : List TraceEvent) → events_in (map Happens events) ≡ 
 events_back [] = refl
 events_back (event ∷ events) = ap (λ l. event ∷ l) (events_back events)
 
-reading_back : (events : List TraceEvent) → takes_reading (map Happens events) ≡ begin_with_reading events
+reading_back : (events : List TraceEvent) → takes_tick (map Happens events) ≡ begin_with_tick events
 reading_back [] = refl
 reading_back (Arrival stream path octets ∷ events) = refl
-reading_back (Reading time ∷ events) = refl
+reading_back (Tick time ∷ events) = refl
 reading_back (Closing ∷ events) = refl
 
 kept_back : (events : List TraceEvent) → kept_events (map Happens events) ≡ pruned_events events
 kept_back [] = refl
 kept_back (Arrival stream path octets ∷ events) = ap (λ l. Arrival stream path octets ∷ l) (kept_back events)
-kept_back (Reading time ∷ events) =
-    ap (λ b. if b then kept_events (map Happens events) else Reading time ∷ kept_events (map Happens events)) (reading_back events)
-    ∙ ap (λ l. if begin_with_reading events then l else Reading time ∷ l) (kept_back events)
+kept_back (Tick time ∷ events) =
+    ap (λ b. if b then kept_events (map Happens events) else Tick time ∷ kept_events (map Happens events)) (reading_back events)
+    ∙ ap (λ l. if begin_with_tick events then l else Tick time ∷ l) (kept_back events)
 kept_back (Closing ∷ events) = ap (λ l. Closing ∷ l) (kept_back events)
 
 pub run_unchanged : (studio : Studio) (events : List TraceEvent) (packets : List PacketView) (closing : Option ℕ) → pos 0 ≤ℤ studio.open_at → session_fault_of studio events ≡ None → AreRising studio.open_at events
@@ -317,37 +317,37 @@ run_unchanged studio events packets closing low none rising recorded =
     ∙ kept_back events
 
 -- a change leaves a reading that another one follows
-reading_events : (steps : List Step) → takes_reading steps ≡ true → begin_with_reading (events_in steps) ≡ true
+reading_events : (steps : List Step) → takes_tick steps ≡ true → begin_with_tick (events_in steps) ≡ true
 reading_events [] e = absurd (false≢true e)
 reading_events (Happens (Arrival stream path octets) ∷ steps) e = absurd (false≢true e)
-reading_events (Happens (Reading time) ∷ steps) e = refl
+reading_events (Happens (Tick time) ∷ steps) e = refl
 reading_events (Happens Closing ∷ steps) e = absurd (false≢true e)
 reading_events (Changes at gains ∷ steps) e = absurd (false≢true e)
 
-begin_by : (b : Bool) (time : ℤ) (kept events : List TraceEvent) → begin_with_reading kept ≡ begin_with_reading events → (b ≡ true → begin_with_reading events ≡ true)
-    → begin_with_reading (if b then kept else Reading time ∷ kept) ≡ true
+begin_by : (b : Bool) (time : ℤ) (kept events : List TraceEvent) → begin_with_tick kept ≡ begin_with_tick events → (b ≡ true → begin_with_tick events ≡ true)
+    → begin_with_tick (if b then kept else Tick time ∷ kept) ≡ true
 begin_by true time kept events same leads = same ∙ leads refl
 begin_by false time kept events same leads = refl
 
-begin_alike : (steps : List Step) → begin_with_reading (kept_events steps) ≡ begin_with_reading (events_in steps)
+begin_alike : (steps : List Step) → begin_with_tick (kept_events steps) ≡ begin_with_tick (events_in steps)
 begin_alike [] = refl
 begin_alike (Happens (Arrival stream path octets) ∷ steps) = refl
-begin_alike (Happens (Reading time) ∷ steps) = begin_by (takes_reading steps) time (kept_events steps) (events_in steps) (begin_alike steps) (reading_events steps)
+begin_alike (Happens (Tick time) ∷ steps) = begin_by (takes_tick steps) time (kept_events steps) (events_in steps) (begin_alike steps) (reading_events steps)
 begin_alike (Happens Closing ∷ steps) = refl
 begin_alike (Changes at gains ∷ steps) = begin_alike steps
 
-kept_by : (b : Bool) (time : ℤ) (kept events : List TraceEvent) → begin_with_reading kept ≡ begin_with_reading events → (b ≡ true → begin_with_reading events ≡ true) → pruned_events kept ≡ pruned_events events
-    → pruned_events (if b then kept else Reading time ∷ kept) ≡ (if begin_with_reading events then pruned_events events else Reading time ∷ pruned_events events)
+kept_by : (b : Bool) (time : ℤ) (kept events : List TraceEvent) → begin_with_tick kept ≡ begin_with_tick events → (b ≡ true → begin_with_tick events ≡ true) → pruned_events kept ≡ pruned_events events
+    → pruned_events (if b then kept else Tick time ∷ kept) ≡ (if begin_with_tick events then pruned_events events else Tick time ∷ pruned_events events)
 kept_by true time kept events same leads is =
-    is ∙ sym (ap (λ b. if b then pruned_events events else Reading time ∷ pruned_events events) (leads refl))
+    is ∙ sym (ap (λ b. if b then pruned_events events else Tick time ∷ pruned_events events) (leads refl))
 kept_by false time kept events same leads is =
-    ap (λ b. if b then pruned_events kept else Reading time ∷ pruned_events kept) same
-    ∙ ap (λ l. if begin_with_reading events then l else Reading time ∷ l) is
+    ap (λ b. if b then pruned_events kept else Tick time ∷ pruned_events kept) same
+    ∙ ap (λ l. if begin_with_tick events then l else Tick time ∷ l) is
 
 pub kept_same : (steps : List Step) → pruned_events (kept_events steps) ≡ pruned_events (events_in steps)
 kept_same [] = refl
 kept_same (Happens (Arrival stream path octets) ∷ steps) = ap (λ l. Arrival stream path octets ∷ l) (kept_same steps)
-kept_same (Happens (Reading time) ∷ steps) =
-    kept_by (takes_reading steps) time (kept_events steps) (events_in steps) (begin_alike steps) (reading_events steps) (kept_same steps)
+kept_same (Happens (Tick time) ∷ steps) =
+    kept_by (takes_tick steps) time (kept_events steps) (events_in steps) (begin_alike steps) (reading_events steps) (kept_same steps)
 kept_same (Happens Closing ∷ steps) = ap (λ l. Closing ∷ l) (kept_same steps)
 kept_same (Changes at gains ∷ steps) = kept_same steps

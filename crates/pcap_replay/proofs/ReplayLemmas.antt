@@ -66,7 +66,7 @@ pub begun_replayed : (studio : Studio) (a : Option (List ℕ)) (H : Hearing) (ru
 begun_replayed studio a H run b told = record {
   datagrams = [];
   session = b.session;
-  rested = b.rested;
+  idle = b.idle;
   open_yet = refl;
   wrote = subst (λ h. PassesOn a [] a h []) (sym b.none) (PassesOn-none a []);
   told = told;
@@ -74,7 +74,7 @@ begun_replayed studio a H run b told = record {
 
 -- whoever listens
 pub unheard : (studio : Studio) (events : List TraceEvent) (a b : Option (List ℕ)) (H : Hearing) (run : ReplayState) → HasReplayed studio events a run b H → HasReplayed studio events a run b (λ _ _. ⊤)
-unheard studio events a b H run r = record { datagrams = r.datagrams; session = r.session; rested = r.rested; open_yet = r.open_yet; wrote = r.wrote; told = tt }
+unheard studio events a b H run r = record { datagrams = r.datagrams; session = r.session; idle = r.idle; open_yet = r.open_yet; wrote = r.wrote; told = tt }
 
 -- the lines that were held are written
 pub broke_whole : (studio : Studio) (events : List TraceEvent) (a b c : Option (List ℕ)) (H : Hearing) (run : ReplayState) → HasReplayed studio events a run b H → Appends b c run.text → BreaksAt studio events a c H
@@ -107,7 +107,7 @@ pub gains_replayed : (studio changed : Studio) (events : List TraceEvent) (a b :
 gains_replayed studio changed events a b H old new text turning r session = record {
   datagrams = r.datagrams;
   session = session;
-  rested = turning ∙ r.rested;
+  idle = turning ∙ r.idle;
   open_yet = r.open_yet;
   wrote = subst (λ h. PassesOn a [] b h (datagrams_text r.datagrams)) (sym text) r.wrote;
   told = r.told;

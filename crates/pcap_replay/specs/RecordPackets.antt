@@ -6,7 +6,7 @@ use Rattle.pcap_flows.specs.Clock.{instants_in}
 use Rattle.pcap_flows.specs.Trace.{octets_of}
 use Rattle.rtp_stream.specs.declared.stream_spec.Stream.{Stream}
 use Rattle.studio_config.specs.Studio.{Studio}
-use Rattle.studio_session.specs.Event.{TraceEvent, Arrival, Reading, Closing}
+use Rattle.studio_session.specs.Event.{TraceEvent, Arrival, Tick, Closing}
 
 -- a step of a run: an event, or a change to these gains, which are in force from a time on
 pub data Step : Type 0 where
@@ -26,19 +26,19 @@ changes_in (Happens event ∷ steps) = changes_in steps
 changes_in (Changes at gains ∷ steps) = (at, gains) ∷ changes_in steps
 
 -- the first step is a clock reading
-abbrev pub takes_reading : List Step → Bool
-takes_reading [] = false
-takes_reading (Happens (Arrival stream path octets) ∷ steps) = false
-takes_reading (Happens (Reading time) ∷ steps) = true
-takes_reading (Happens Closing ∷ steps) = false
-takes_reading (Changes at gains ∷ steps) = false
+abbrev pub takes_tick : List Step → Bool
+takes_tick [] = false
+takes_tick (Happens (Arrival stream path octets) ∷ steps) = false
+takes_tick (Happens (Tick time) ∷ steps) = true
+takes_tick (Happens Closing ∷ steps) = false
+takes_tick (Changes at gains ∷ steps) = false
 
 -- the events of a run without each clock reading that another reading follows directly; a change of gains may be
 -- between two readings
 abbrev pub kept_events : List Step → List TraceEvent
 kept_events [] = []
 kept_events (Happens (Arrival stream path octets) ∷ steps) = Arrival stream path octets ∷ kept_events steps
-kept_events (Happens (Reading time) ∷ steps) = if takes_reading steps then kept_events steps else Reading time ∷ kept_events steps
+kept_events (Happens (Tick time) ∷ steps) = if takes_tick steps then kept_events steps else Tick time ∷ kept_events steps
 kept_events (Happens Closing ∷ steps) = Closing ∷ kept_events steps
 kept_events (Changes at gains ∷ steps) = kept_events steps
 
@@ -79,7 +79,7 @@ AreRecorded studio time [] packets closing = ⊥
 AreRecorded studio time (Happens (Arrival stream path octets) ∷ steps) [] closing = ⊥
 AreRecorded studio time (Happens (Arrival stream path octets) ∷ steps) (packet ∷ packets) closing =
     IsPacketOf studio time stream path octets packet × AreRecorded studio time steps packets closing
-AreRecorded studio time (Happens (Reading u) ∷ steps) packets closing = AreRecorded studio u steps packets closing
+AreRecorded studio time (Happens (Tick u) ∷ steps) packets closing = AreRecorded studio u steps packets closing
 AreRecorded studio time (Happens Closing ∷ steps) packets closing = (steps ≡ []) × (packets ≡ []) × IsAt studio.open_at time closing
 AreRecorded studio time (Changes at gains ∷ steps) [] closing = ⊥
 AreRecorded studio time (Changes at gains ∷ steps) (packet ∷ packets) closing =
@@ -89,5 +89,5 @@ AreRecorded studio time (Changes at gains ∷ steps) (packet ∷ packets) closin
 abbrev pub AreRising : ℤ → List TraceEvent → Type 0
 AreRising time [] = Unit {0}
 AreRising time (Arrival stream path octets ∷ events) = AreRising time events
-AreRising time (Reading u ∷ events) = (time <ℤ u) × AreRising u events
+AreRising time (Tick u ∷ events) = (time <ℤ u) × AreRising u events
 AreRising time (Closing ∷ events) = AreRising time events

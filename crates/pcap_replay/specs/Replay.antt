@@ -34,7 +34,7 @@ use Rattle.pcap_replay.specs.RecordChanges.{AreAllButLast, changed_by}
 pub record HasReplayed (studio : Studio) (events : List TraceEvent) (written : Option (List ℕ)) (run : ReplayState) (written_then : Option (List ℕ)) (heard : Hearing) : Type 0 where
   pub datagrams : List (List ℕ)
   pub session : HasSession studio run.engine events datagrams
-  pub rested : run.engine.turning ≡ false
+  pub idle : run.engine.turning ≡ false
   pub open_yet : closed_at false events ≡ false
   pub wrote : PassesOn written [] written_then run.text (datagrams_text datagrams)
   pub told : heard events datagrams
@@ -42,7 +42,7 @@ pub record HasReplayed (studio : Studio) (events : List TraceEvent) (written : O
 -- the run before the first event
 pub record HasBegun (studio : Studio) (run : ReplayState) : Type 0 where
   pub session : HasSession studio run.engine [] []
-  pub rested : run.engine.turning ≡ false
+  pub idle : run.engine.turning ≡ false
   pub none : run.text ≡ []
 
 -- the observer received a prefix of these events, whose clock readings are in order, and some of the datagrams of all

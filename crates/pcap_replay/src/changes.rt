@@ -37,14 +37,14 @@ impl ReplayState {
         ensures text { self.new.text ≡ self.old.text }
         ensures turning { self.new.engine.turning ≡ self.old.engine.turning }
     {
-        let mut room = [0; MAX_RECORDED_GAINS];
-        let Some(head) = read_change(octets, &mut room) else {
+        let mut buffer = [0; MAX_RECORDED_GAINS];
+        let Some(head) = read_change(octets, &mut buffer) else {
             return Err(self.change_fault(RecordedChangeFault::Octets));
         };
         let Some(at) = change_time(from, &head) else {
             return Err(self.change_fault(RecordedChangeFault::Time));
         };
-        match self.engine.change_gains(at, &room[..head.gains]) {
+        match self.engine.change_gains(at, &buffer[..head.gains]) {
             Ok(()) => {
                 self.changes = self.changes.saturating_add(1);
                 Ok(())

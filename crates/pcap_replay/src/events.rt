@@ -355,7 +355,7 @@ impl ReplayState {
             return Err(self.path_fault_of(target.stream));
         };
         match self.engine.arrive(target.stream, path, octets) {
-            Ok(_receipt) => {
+            Ok(_outcome) => {
                 observer.arrived(target.stream, path, octets);
                 self.count = self.count.saturating_add(1);
                 Ok(())

@@ -25,7 +25,7 @@ ghost use Rattle.pcap_replay.specs.RecordPackets.{
 
 /// States that the packets of a run's arrivals and changes of gains and the time of its close have the events of the
 /// run and its changes, except for each reading that another reading follows directly. By
-/// `studio_session::readings_may_be_left_out` such readings change no datagram and no count.
+/// `studio_session::ticks_may_be_left_out` such readings change no datagram and no count.
 pub fn a_record_says_its_run()
     ensures events { (studio : Studio) (steps : List Step) (packets : List PacketView) (closing : Option ℕ)
         → pos 0 ≤ℤ studio.open_at

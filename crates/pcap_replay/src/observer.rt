@@ -1,6 +1,6 @@
 //! The observer of a replay, which receives its events and its datagrams.
 ghost use Rattle.std.specs.Prelude.{[], ◌≡◌, ◌≤◌, ◌∷◌, ◌++◌, ℕ, List, length};
-ghost use Rattle.studio_session.specs.Event.{TraceEvent, Arrival, Closing, Reading};
+ghost use Rattle.studio_session.specs.Event.{TraceEvent, Arrival, Closing, Tick};
 ghost use Rattle.pcap_replay.specs.Observed.{HasHeardIf};
 
 use path_merge::Path;
@@ -21,7 +21,7 @@ pub trait ReplayObserver {
     /// Receives a clock reading, in sampling instants at 48 kHz.
     fn read(&mut self, time: i64)
         ensures heard { (begun : Self) (events : List TraceEvent) (datagrams : List (List ℕ))
-            → heard begun self.old events datagrams → heard begun self.new (events ++ Reading time ∷ []) datagrams };
+            → heard begun self.old events datagrams → heard begun self.new (events ++ Tick time ∷ []) datagrams };
 
     /// Receives the close of the studio, the last event.
     fn closed(&mut self)

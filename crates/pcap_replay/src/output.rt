@@ -26,7 +26,7 @@ pub(crate) fn write_turn<W: Write, L: ReplayObserver>(
         → HasSession studio engine.old events datagrams → clock_fault_of engine.old.time engine.old.closed now ≡ None
         → GivesLines studio engine.new (turned engine.old.time now events) datagrams (W.contents writer.old) text.old
         (W.contents writer.new) text.new (L.heard begun observer.old) (L.heard begun observer.new)) }
-    ensures rested { OnOk result ((studio : Studio) (events : List TraceEvent) (datagrams : List (List ℕ))
+    ensures idle { OnOk result ((studio : Studio) (events : List TraceEvent) (datagrams : List (List ℕ))
         → HasSession studio engine.old events datagrams → clock_fault_of engine.old.time engine.old.closed now ≡ None
         → engine.new.turning ≡ false) }
     ensures fault { OnErr result ((studio : Studio) (events : List TraceEvent) (datagrams : List (List ℕ)) (begun : L)

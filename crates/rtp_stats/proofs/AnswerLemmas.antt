@@ -10,7 +10,7 @@ use Rattle.rtp_stats.specs.MarginSecond.{HasSecond, HasSpares, IsSpareOf, place_
 use Rattle.rtp_stats.specs.Margins.{IsGreatest, IsLatest, IsLeast, IsMedian, is_in, last_spares, second_of, spare_at, spares_before, spares_in}
 use Rattle.rtp_stats.specs.Tally.{HasSeconds}
 use Rattle.rtp_stats.specs.Offer.{Offer}
-use Rattle.rtp_stats.specs.declared.spare.ArrivalMargin.{ArrivalMargin}
+use Rattle.rtp_stats.specs.declared.arrival_margin.ArrivalMargin.{ArrivalMargin}
 use Rattle.rtp_stats.specs.declared.tally.margins.MarginSecond.{MarginSecond}
 
 -- the seconds of a clock don't go back

@@ -1,7 +1,7 @@
 -- Worked cases of the drift, computed.
 use Rattle.std.specs.Prelude.{◌≡◌, ℕ, List, [], ◌∷◌, pos, neg_ℤ, Some, None, refl}
 use Rattle.rtp_stats.specs.Drift.{drift_of, minute_after, minute_from, year}
-use Rattle.rtp_stats.specs.declared.spare.ArrivalMargin.{ArrivalMargin}
+use Rattle.rtp_stats.specs.declared.arrival_margin.ArrivalMargin.{ArrivalMargin}
 
 abbrev second : ℕ → ℕ → ArrivalMargin
 second at margin = record { second = at; least = margin; median = 0; greatest = margin }
@@ -57,7 +57,7 @@ still_ten = refl
 nine_left : drift_of 61 3072 earlier ≡ None
 nine_left = refl
 
--- past the room of the window nothing is left
+-- past the span of the window nothing is left
 beyond : drift_of 10 150 earlier ≡ Some (record { ppm = pos 208; left = 0 })
 beyond = refl
 

@@ -12,7 +12,7 @@ use Rattle.rtp_stats.specs.declared.channel.mix_sender.MixStatsSender.{MixStatsS
 use Rattle.rtp_stats.specs.declared.stats.MixStats.{MixStats}
 use Rattle.rtp_stats.specs.declared.stats.StreamStats.{StreamStats}
 
--- once the clock has reached `next`, these numbers went through the ring, if there was room; before it nothing did
+-- once the clock has reached `next`, these numbers went through the ring, if there was space; before it nothing did
 abbrev pub Tells : {A P : Type 0} → Stream → List Offer → Counts → ℤ → ℤ → Producer StreamStats A P → Producer StreamStats A P → Type 0
 Tells stream offers counts next now old new =
     ((now <ℤ next) × (new ≡ old)) ⊎ ((numbers : StreamStats) × (next ≤ℤ now) × Gives numbers old new × AreTold stream offers counts now numbers)

@@ -2,7 +2,7 @@
 use Rattle.std.specs.Prelude.{ℕ, ◌+◌, ◌-◌, ◌*◌, ◌/◌, ◌^◌, ◌≤◌, min, nat_eq, nat_lt, List, [], ◌∷◌, ◌++◌, length, drop, fold, ℤ, pos, neg_ℤ, Option, Some, None, if◌then◌else◌}
 use Rattle.rtp_stats.specs.declared.drift.Drift.{Drift}
 use Rattle.rtp_stats.specs.declared.drift.sums.Sums.{Sums}
-use Rattle.rtp_stats.specs.declared.spare.ArrivalMargin.{ArrivalMargin}
+use Rattle.rtp_stats.specs.declared.arrival_margin.ArrivalMargin.{ArrivalMargin}
 
 -- the place of a second in the minute before another second: 0 for a minute before it, 59 for the second just before it
 abbrev pub place_in : ℕ → ℕ → Option ℕ
@@ -63,32 +63,32 @@ abbrev pub time_of : ℕ → ℕ → ℕ → ℕ
 time_of margin rise run = min (margin * run / rise) year
 
 -- the time until packets will be late or too early at this rate: the least margin falls to 0, or the greatest rises to
--- the room of the window; a year if neither happens before
+-- the span of the window; a year if neither happens before
 abbrev pub left_of : ℕ → ℕ → ℕ → ℕ → ArrivalMargin → ℕ
-left_of up down run room newest =
+left_of up down run window_span newest =
     if nat_lt up down then time_of newest.least (down - up) run
-    else (if nat_lt down up then time_of (room - newest.greatest) (up - down) run else year)
+    else (if nat_lt down up then time_of (window_span - newest.greatest) (up - down) run else year)
 
 -- the drift by these sums, if the newest second has these margins; there is none by fewer than ten points, or if all
 -- points have the same place
 abbrev pub drift_by : Sums → ℕ → ArrivalMargin → Option Drift
-drift_by s room newest =
+drift_by s window_span newest =
     if nat_lt s.count 10 then None
     else (if nat_eq (run_of s) 0 then None
-    else Some (record { ppm = ppm_of (up_of s) (down_of s) (run_of s); left = left_of (up_of s) (down_of s) (run_of s) room newest }))
+    else Some (record { ppm = ppm_of (up_of s) (down_of s) (run_of s); left = left_of (up_of s) (down_of s) (run_of s) window_span newest }))
 
 -- the last of these margins
 abbrev pub newest_of : List ArrivalMargin → Option ArrivalMargin
 newest_of margins = fold (λ last margin. Some margin) None margins
 
 abbrev pub drift_with : Sums → ℕ → Option ArrivalMargin → Option Drift
-drift_with s room None = None
-drift_with s room (Some newest) = drift_by s room newest
+drift_with s window_span None = None
+drift_with s window_span (Some newest) = drift_by s window_span newest
 
--- the drift in a second, by the margins of the seconds before it in their order; `room` is the window in sampling
+-- the drift in a second, by the margins of the seconds before it in their order; `window_span` is the window in sampling
 -- instants
 abbrev pub drift_of : ℕ → ℕ → List ArrivalMargin → Option Drift
-drift_of now room margins = drift_with (sums_of now margins) room (newest_of margins)
+drift_of now window_span margins = drift_with (sums_of now margins) window_span (newest_of margins)
 
 -- what is kept of a path's seconds: the least second that may come, and the margins of the last sixty, in their order
 pub record MinuteState : Type 0 where

@@ -3,7 +3,7 @@ use Rattle.std.specs.Prelude.{◌≡◌, ℕ, ◌+◌, ◌*◌, ◌/◌, ◌%◌
 use Rattle.std.specs.List.{All, Contains}
 use Rattle.rtp_stats.specs.declared.tally.margins.MarginSecond.{MarginSecond}
 use Rattle.rtp_stats.specs.Offer.{Offer}
-use Rattle.rtp_stats.specs.declared.spare.ArrivalMargin.{ArrivalMargin}
+use Rattle.rtp_stats.specs.declared.arrival_margin.ArrivalMargin.{ArrivalMargin}
 use Rattle.rtp_stats.specs.Margins.{second_of, spares_in}
 
 -- the value of a counter of 32 bits

@@ -11,7 +11,7 @@ pub(crate) mod mix_sender;
 pub(crate) mod path;
 pub(crate) mod stream;
 
-/// Sends a value, if there is room. Returns true if it was sent.
+/// Sends a value, if there is space. Returns true if it was sent.
 // A full ring means that the reader is slow. The value is dropped, since the sender must not wait.
 pub(crate) fn try_send<T: Drop>(ring: &mut Producer<T>, value: T) -> bool
     ensures given { Gives value ring.old ring.new }

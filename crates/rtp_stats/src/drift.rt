@@ -16,8 +16,8 @@ ghost use Rattle.rtp_stats.specs.Drift.{
   time_of,
 };
 
+use crate::arrival_margin::ArrivalMargin;
 use crate::drift::sums::Sums;
-use crate::spare::ArrivalMargin;
 use arrayvec::ArrayVec;
 use std::marker::Model;
 
@@ -96,13 +96,13 @@ impl MarginMinute {
     /// Returns the drift in the second `now`, from the margins of the sixty seconds before it. Returns `None` if fewer
     /// than ten of them had packets.
     ///
-    /// `room` is the time that the stream's window holds, in sampling instants at 48 kHz.
-    pub fn drift(&self, now: u64, room: u32) -> Option<Drift>
-        ensures { result ≡ drift_of now room self.now.margins }
+    /// `window_span` is the time that the stream's window holds, in sampling instants at 48 kHz.
+    pub fn drift(&self, now: u64, window_span: u32) -> Option<Drift>
+        ensures { result ≡ drift_of now window_span self.now.margins }
     {
         let margins = self.margins.as_slice();
         match newest_of(margins) {
-            Some(newest) => drift_by(&sums_of(margins, now), room, &newest),
+            Some(newest) => drift_by(&sums_of(margins, now), window_span, &newest),
             None => None,
         }
     }
@@ -134,9 +134,9 @@ fn sums_of(margins: &[ArrivalMargin], now: u64) -> Sums
 
 /// Returns the drift by these sums, or `None` if they are of fewer than ten seconds. `newest` has the margins of the
 /// last second.
-fn drift_by(sums: &Sums, room: u32, newest: &ArrivalMargin) -> Option<Drift>
+fn drift_by(sums: &Sums, window_span: u32, newest: &ArrivalMargin) -> Option<Drift>
     requires { IsSmall 60 sums.now }
-    ensures { result ≡ drift_by sums.now room newest.now }
+    ensures { result ≡ drift_by sums.now window_span newest.now }
 {
     if sums.count < LEAST_SECONDS {
         return None;
@@ -149,7 +149,7 @@ fn drift_by(sums: &Sums, room: u32, newest: &ArrivalMargin) -> Option<Drift>
     let down = sums.down();
     Some(Drift {
         ppm: ppm_of(up, down, run),
-        left: left_of(up, down, run, room, newest),
+        left: left_of(up, down, run, window_span, newest),
     })
 }
 
@@ -180,15 +180,15 @@ fn millionths(rise: u64, run: u64) -> u64
 }
 
 /// Returns the time in seconds until packets will be late or too early at a rate, at most a year.
-fn left_of(up: u64, down: u64, run: u64, room: u32, newest: &ArrivalMargin) -> u64
+fn left_of(up: u64, down: u64, run: u64, window_span: u32, newest: &ArrivalMargin) -> u64
     requires { run < 2 ^ 24 }
-    ensures { result ≡ left_of up down run room newest.now }
+    ensures { result ≡ left_of up down run window_span newest.now }
 {
     if up < down {
         return time_of(newest.least, down - up, run);
     }
     if down < up {
-        return time_of(room.saturating_sub(newest.greatest), up - down, run);
+        return time_of(window_span.saturating_sub(newest.greatest), up - down, run);
     }
     YEAR
 }

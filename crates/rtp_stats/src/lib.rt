@@ -20,12 +20,13 @@
 //! sets them to 0 again.
 //!
 //! A channel carries the newest statistics through a ring to another thread, at most ten times a
-//! second. No end waits: if the ring has no room, nothing is sent, and a later value takes its place.
+//! second. No end waits: if the ring has no space, nothing is sent, and a later value takes its place.
 //! `stream_stats_channel` makes one for the statistics of a stream, `path_counts_channel` for the
 //! datagrams of a path before the merge, and `mix_stats_channel` for the saturated samples and peaks
 //! of the mix. Only `new` and these three calls allocate.
 #![tactic(auto)]
 
+mod arrival_margin;
 mod channel;
 mod copy_tracker;
 mod deadlines;
@@ -33,10 +34,10 @@ mod drift;
 mod laws;
 mod path_tally;
 mod peaks;
-mod spare;
 mod stats;
 mod tally;
 
+pub use arrival_margin::ArrivalMargin;
 pub use channel::mix::{MixStatsReceiver, mix_stats_channel};
 pub use channel::mix_sender::{MAX_CHANNELS, MixStatsSender};
 pub use channel::path::{PathCountsReceiver, PathCountsSender, path_counts_channel};
@@ -47,7 +48,6 @@ pub use drift::{Drift, MarginMinute};
 pub use laws::{a_path_misses_what_it_gives_up, each_number_is_first_on_one_path};
 pub use path_tally::PathTally;
 pub use peaks::raise_peaks;
-pub use spare::ArrivalMargin;
 pub use stats::{MixStats, PathStats, StreamStats};
 pub use tally::StreamTally;
 pub use tally::margins::second_of;

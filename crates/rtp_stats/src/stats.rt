@@ -2,9 +2,9 @@
 ghost use Rattle.std.specs.Prelude.{◌≡◌, replicate, slice_index};
 ghost use Rattle.rtp_stats.specs.Stats.{IsByChannel, no_stats};
 
+use crate::arrival_margin::ArrivalMargin;
 use crate::channel::mix_sender::MAX_CHANNELS;
 use crate::path_tally::PathTally;
-use crate::spare::ArrivalMargin;
 use rtp_stream::Counts;
 
 /// The statistics of the packets of one path.

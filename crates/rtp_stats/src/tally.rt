@@ -26,8 +26,8 @@ ghost use Rattle.rtp_stats.specs.Repeats.{repeats_of};
 ghost use Rattle.rtp_stats.specs.MarginSecond.{AreNewSeconds, place_of, second_after};
 ghost use Rattle.rtp_stats.specs.Margins.{IsGreatest, IsLatest, IsLeast, IsMedian, last_spares, second_of};
 
+use crate::arrival_margin::ArrivalMargin;
 use crate::path_tally::PathTally;
-use crate::spare::ArrivalMargin;
 use crate::tally::fate_counts::FateCounts;
 use crate::tally::margins::{MarginSecond, second_of};
 use crate::tally::repeats::note_repeat;

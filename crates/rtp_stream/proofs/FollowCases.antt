@@ -13,7 +13,7 @@ use Rattle.rtp_stream.specs.Epochs.{anchor_of, anchors_from, anchors_of}
 use Rattle.rtp_stream.specs.Copies.{copies_of, copies_of_all}
 use Rattle.rtp_stream.specs.History.{at_places}
 use Rattle.rtp_stream.specs.Fate.{fate_of}
-use Rattle.rtp_stream.specs.Standing.{standings_from}
+use Rattle.rtp_stream.specs.Follow.{standings_from}
 
 -- L24, one channel, six sampling instants a packet, a latency of two packets, a window of eight
 abbrev stream : StreamClock → Stream

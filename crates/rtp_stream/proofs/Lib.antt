@@ -4,6 +4,6 @@ pub mod NearestLemmas
 pub mod StreamSpecLemmas
 pub mod WorkedCases
 pub mod ProbationLemmas
-pub mod TrackLemmas
+pub mod FollowLemmas
 pub mod SentCases
 pub mod FollowCases

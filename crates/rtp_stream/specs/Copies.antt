@@ -6,8 +6,8 @@ use Rattle.rtp_stream.specs.declared.packet.Packet.{Packet}
 use Rattle.rtp_stream.specs.declared.event.Event.{Event}
 use Rattle.rtp_stream.specs.declared.event.Event.TheVariants.{Arrive, Tick, Close}
 use Rattle.rtp_stream.specs.History.{time_of, is_counting, at_places}
-use Rattle.rtp_stream.specs.Grid.{copies_under, first_with, in_room}
-use Rattle.rtp_stream.specs.Epochs.{anchor_of, anchors_of, last_of, room_in_force}
+use Rattle.rtp_stream.specs.Grid.{copies_under, first_with, of_width}
+use Rattle.rtp_stream.specs.Epochs.{anchor_of, anchors_of, last_of, width_in_force}
 
 -- these copies, each with the epoch of this anchor
 abbrev pub with_epoch : Option Anchor → List (ℕ × Packet) → List (ℕ × (ℕ × Packet))
@@ -21,7 +21,7 @@ copies_under_with stream time counting anchor packet = with_epoch anchor (copies
 -- the arrival is an in-time copy of this number, under the anchor in force with it
 abbrev pub copies_at : Stream → ℤ → List Event → Event → List (ℕ × (ℕ × Packet))
 copies_at stream open_at before (Arrive path packet) =
-    copies_under_with (in_room stream (room_in_force stream open_at (last_of (anchors_of stream open_at (before ++ Arrive path packet ∷ []))) before)) (time_of open_at before) (is_counting before) (anchor_of stream open_at (before ++ Arrive path packet ∷ [])) packet
+    copies_under_with (of_width stream (width_in_force stream open_at (last_of (anchors_of stream open_at (before ++ Arrive path packet ∷ []))) before)) (time_of open_at before) (is_counting before) (anchor_of stream open_at (before ++ Arrive path packet ∷ [])) packet
 copies_at stream open_at before (Tick u) = []
 copies_at stream open_at before Close = []
 

@@ -7,9 +7,9 @@ use Rattle.rtp_stream.specs.declared.event.Event.{Event}
 use Rattle.rtp_stream.specs.declared.event.Event.TheVariants.{Arrive, Tick, Close}
 use Rattle.rtp_stream.specs.History.{time_of, is_counting}
 use Rattle.rtp_stream.specs.Anchor.{anchor_from, can_anchor, is_restart_in_reach, is_source_wanted, media_time_of, next_number, restart_from, restart_media_time}
-use Rattle.rtp_stream.specs.Grid.{copies_under, end_of_copies, in_room}
+use Rattle.rtp_stream.specs.Grid.{copies_under, end_of_copies, of_width}
 use Rattle.rtp_stream.specs.Probation.{completes_probation, from_place, heard_since}
-use Rattle.rtp_stream.specs.Standing.{is_slip, room_since}
+use Rattle.rtp_stream.specs.Follow.{is_slip, width_since}
 
 -- the last of a list
 abbrev pub last_of : {A : Type 0} → List A → Option A
@@ -20,7 +20,7 @@ last_of (x ∷ y ∷ xs) = last_of (y ∷ xs)
 -- the arrival is an in-time copy of this number under this anchor, which is in force since its place
 abbrev pub copies_under_at : Stream → ℕ → Anchor → ℤ → List Event → Event → List (ℕ × Packet)
 copies_under_at stream place anchor open_at before (Arrive path packet) =
-    copies_under (in_room stream (room_since stream open_at place anchor before)) (time_of open_at before) (is_counting before) (Some anchor) packet
+    copies_under (of_width stream (width_since stream open_at place anchor before)) (time_of open_at before) (is_counting before) (Some anchor) packet
 copies_under_at stream place anchor open_at before (Tick u) = []
 copies_under_at stream place anchor open_at before Close = []
 
@@ -78,10 +78,10 @@ abbrev pub anchor_in : Option (ℕ × Anchor) → Option Anchor
 anchor_in None = None
 anchor_in (Some (place, anchor)) = Some anchor
 
--- the room after a history, if this anchor is in force since its place
-abbrev pub room_in_force : Stream → ℤ → Option (ℕ × Anchor) → List Event → ℕ
-room_in_force stream open_at None events = stream.window
-room_in_force stream open_at (Some (place, anchor)) events = room_since stream open_at place anchor events
+-- the width of the window after a history, if this anchor is in force since its place
+abbrev pub width_in_force : Stream → ℤ → Option (ℕ × Anchor) → List Event → ℕ
+width_in_force stream open_at None events = stream.window
+width_in_force stream open_at (Some (place, anchor)) events = width_since stream open_at place anchor events
 
 -- the anchor in force after a history
 unfoldable pub anchor_of : Stream → ℤ → List Event → Option Anchor

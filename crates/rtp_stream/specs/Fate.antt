@@ -10,8 +10,8 @@ use Rattle.rtp_stream.specs.declared.fate.Fate.{Fate}
 use Rattle.rtp_stream.specs.declared.fate.Fate.TheVariants.{Closed, CountersFull, WrongSource, OffGrid, Late, Ahead, Taken, Double, Unlike, Restarted}
 use Rattle.rtp_stream.specs.History.{time_of, is_closed, arrival_count}
 use Rattle.rtp_stream.specs.Anchor.{is_source_wanted, first_media_time, next_number}
-use Rattle.rtp_stream.specs.Grid.{first_with, extended_number, in_room, is_on_grid}
-use Rattle.rtp_stream.specs.Epochs.{anchor_of, anchors_of, can_restart, last_of, room_in_force}
+use Rattle.rtp_stream.specs.Grid.{first_with, extended_number, of_width, is_on_grid}
+use Rattle.rtp_stream.specs.Epochs.{anchor_of, anchors_of, can_restart, last_of, width_in_force}
 use Rattle.rtp_stream.specs.Copies.{copies_of}
 use Rattle.rtp_stream.specs.Put.{put_answer}
 
@@ -55,10 +55,10 @@ fate_at (Ok number) first packet = fate_of_put (put_answer (first number) packet
 abbrev pub next_fate : Stream → Anchor → ℕ → List (ℕ × Packet) → Packet → Fate
 next_fate stream anchor next copies packet = fate_at (place_of stream anchor next packet) (λ number. first_with number copies) packet
 
--- the fate of a packet that restarts nothing, with this room
+-- the fate of a packet that restarts nothing, in a window of this width
 abbrev pub counted_fate : Stream → ℕ → ℤ → Option Anchor → List (ℕ × Packet) → Packet → Fate
-counted_fate stream room time None copies packet = first_fate stream time packet
-counted_fate stream room time (Some anchor) copies packet = next_fate (in_room stream room) anchor (next_number stream anchor time) copies packet
+counted_fate stream width time None copies packet = first_fate stream time packet
+counted_fate stream width time (Some anchor) copies packet = next_fate (of_width stream width) anchor (next_number stream anchor time) copies packet
 
 -- the arrival opens the next epoch, if this anchor is in force since its place
 abbrev pub is_restart : Stream → ℤ → Option (ℕ × Anchor) → List Event → ℕ → Packet → Bool
@@ -71,4 +71,4 @@ fate_of stream open_at events path packet =
     if is_closed events then Closed
     else if not (nat_lt (arrival_count events) (2 ^ 62)) then CountersFull
     else if is_restart stream open_at (last_of (anchors_of stream open_at events)) events path packet then Restarted
-    else counted_fate stream (room_in_force stream open_at (last_of (anchors_of stream open_at events)) events) (time_of open_at events) (anchor_of stream open_at events) (copies_of stream open_at events) packet
+    else counted_fate stream (width_in_force stream open_at (last_of (anchors_of stream open_at events)) events) (time_of open_at events) (anchor_of stream open_at events) (copies_of stream open_at events) packet

@@ -29,8 +29,8 @@ is_in_time stream anchor next packet =
     && (nat_le next (extended_number packet next) && nat_lt (extended_number packet next) (next + stream.window)))
 
 -- the stream with a window of this many numbers
-abbrev pub in_room : Stream → ℕ → Stream
-in_room stream room = record stream { window = room }
+abbrev pub of_width : Stream → ℕ → Stream
+of_width stream width = record stream { window = width }
 
 abbrev pub copies_under : Stream → ℤ → Bool → Option Anchor → Packet → List (ℕ × Packet)
 copies_under stream time counting None packet = []

@@ -10,8 +10,8 @@ pub mod Anchor
 pub mod Grid
 pub mod Probation
 pub mod PathProbation
-pub mod Standing
-pub mod PathTrack
+pub mod Follow
+pub mod FollowTrack
 pub mod Epochs
 pub mod Copies
 pub mod Marks

@@ -34,7 +34,7 @@ reception_from (LentBad fault) = Bad fault
 reception_from LentType = WrongType
 reception_from LentLength = WrongLength
 
--- a payload has room for the borrowed octets
+-- a payload has space for the borrowed octets
 abbrev pub IsShortReception : ReceptionRef → Type 0
 IsShortReception (LentSent packet) = length packet.payload.now ≤ 1440
 IsShortReception (LentBad fault) = Unit {0}

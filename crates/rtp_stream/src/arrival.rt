@@ -5,7 +5,7 @@ ghost use Rattle.rtp_stream.specs.Anchor.{first_media_time, is_restart_in_reach,
 ghost use Rattle.rtp_stream.specs.Counts.{is_taken_fate};
 ghost use Rattle.rtp_stream.specs.Fate as fate;
 ghost use Rattle.rtp_stream.specs.Fate.{first_fate, reach_fault_of};
-ghost use Rattle.rtp_stream.specs.Grid.{in_room};
+ghost use Rattle.rtp_stream.specs.Grid.{of_width};
 ghost use Rattle.rtp_stream.specs.Probation.{is_off};
 ghost use Rattle.rtp_stream.specs.declared.stream_spec.Stream.{Stream};
 ghost use Rattle.rtp_stream.specs.declared.anchor.Anchor.{Anchor};
@@ -36,25 +36,25 @@ pub fn is_taken(fate: Fate) -> bool
 
 /// Returns a packet's number if the packet is a copy in time, and otherwise its fate.
 ///
-/// `next` is the number due next, `media` its media time, and `room` the number of packets from it on that are in
+/// `next` is the number due next, `media` its media time, and `width` the number of packets from it on that are in
 /// time: the window, or 0 while the stream is emptying.
 pub fn place_of(
     spec: &StreamSpec,
     anchor: &Anchor,
     next: u64,
     media: i64,
-    room: u64,
+    width: u64,
     packet: &PacketRef<'_>,
 ) -> Result<u64, Fate>
     requires low { 65536 ≤ next }
     requires high { next ≤ 2 ^ 61 }
-    requires room { room ≤ 16384 }
+    requires space { width ≤ 16384 }
     requires media_low { neg_ℤ (pos (2 ^ 61)) ≤ℤ media }
     requires media_high { media ≤ℤ pos (2 ^ 61) }
     requires anchor_low { neg_ℤ (pos (2 ^ 61)) ≤ℤ anchor.now.media }
     requires anchor_high { anchor.now.media ≤ℤ pos (2 ^ 61) }
     requires media_is { media ≡ media_time_of spec.now anchor.now next }
-    ensures { result ≡ fate.place_of (in_room spec.now room) anchor.now next (packet_of packet.now) }
+    ensures { result ≡ fate.place_of (of_width spec.now width) anchor.now next (packet_of packet.now) }
 {
     if packet.ssrc != anchor.source {
         return Err(Fate::WrongSource);
@@ -68,7 +68,7 @@ pub fn place_of(
     if number < next {
         return Err(Fate::Late);
     }
-    if number >= next + room {
+    if number >= next + width {
         return Err(Fate::Ahead);
     }
     Ok(number)

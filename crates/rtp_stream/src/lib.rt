@@ -18,7 +18,7 @@
 //! packet or why it has none, from `number_of` and `is_in_step`. `fate_of_first` and `continues_media_time` decide
 //! whether the packet may begin an epoch. `update_probation` decides whether it completes the
 //! probation of its path, `update_track` whether its sender is astray by the clock `Follow`, and
-//! `room_of` how many packets are in time by that clock.
+//! `width_of` how many packets are in time by that clock.
 #![tactic(auto)]
 
 mod anchor;
@@ -28,6 +28,7 @@ mod counts;
 mod event;
 mod extend;
 mod fate;
+mod follow;
 mod limits;
 mod mark;
 mod mark_ref;
@@ -37,7 +38,6 @@ mod probation;
 mod reception;
 mod stream_counts;
 mod stream_spec;
-mod track;
 
 pub use anchor::{
     Anchor, is_in_step, is_wanted_source, media_of_first, media_of_restart, number_of,
@@ -50,6 +50,7 @@ pub use counts::Counts;
 pub use event::Event;
 pub use extend::{near16, near32};
 pub use fate::{Fate, Put};
+pub use follow::{Track, update_track, width_of};
 pub use limits::MAX_TIME;
 pub use mark::{Body, Mark, MarkKind, PacketFormat};
 pub use mark_ref::{MarkKindRef, MarkRef};
@@ -59,4 +60,3 @@ pub use probation::{Probation, update_probation};
 pub use reception::{Reception, ReceptionRef, receive_ref};
 pub use stream_counts::{PathCounts, StreamCounts};
 pub use stream_spec::{AdmitFault, SpecFault, Stream, StreamClock, StreamSpec};
-pub use track::{Track, room_of, update_track};

@@ -18,7 +18,7 @@ pub struct PathCounts {
     pub wrong_type: u64,
     /// RTP packets of the stream's payload type, with a payload of another length.
     pub wrong_length: u64,
-    /// Packets that found no room on their way to the merge.
+    /// Packets that found the ring full on their way to the merge.
     pub full: u64,
     pub ghost balanced: { offered ≡ sent + bad + wrong_type + wrong_length + full },
 }
@@ -54,7 +54,7 @@ impl PathCounts {
         self.offered += 1;
     }
 
-    /// Counts a packet that found no room.
+    /// Counts a packet that found the ring full.
     pub fn add_full(&mut self)
         requires { self.old.offered < u64.MAX }
         ensures { path_tally_of self.new ≡ with_full (path_tally_of self.old) }

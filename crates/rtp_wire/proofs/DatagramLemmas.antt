@@ -178,7 +178,7 @@ begins_after false place count = omega arith
 
 -- the last octets are padding if it is announced, and none otherwise
 record PaddingPart (d : List ℕ) (padded : Bool) (begin count : ℕ) : Type 0 where
-  pub room : begin + count ≤ length d
+  pub space : begin + count ≤ length d
   pub part : MatchBool padded (IsPadding (drop (length d - count) d)) (drop (length d - count) d ≡ [])
 
 padding_part : (d : List ℕ) (padded : Bool) (begin count : ℕ) → AreOctets d → begin ≤ length d
@@ -187,7 +187,7 @@ padding_part : (d : List ℕ) (padded : Bool) (begin count : ℕ) → AreOctets 
     → PaddingPart d padded begin count
 padding_part d true begin count octets h e good =
     let some : 0 < count = grind (arith, nat_tests) in
-    let room : begin + count ≤ length d = grind (arith, nat_tests) in
+    let space : begin + count ≤ length d = grind (arith, nat_tests) in
     let part : List ℕ = drop (length d - count) d in
     let len : length part ≡ count = length-drop (length d - count) d ∙ omega arith in
     let fits : count < 256 = rw e (octets (length d - 1)) in
@@ -195,7 +195,7 @@ padding_part d true begin count octets h e good =
     let last : get_or part (count - 1) 0 ≡ count = get_or-drop (length d - count) d (count - 1) 0 ∙ ap (λ i. get_or d i 0) place ∙ sym e in
     let after : count - 1 + 1 ≡ count = omega arith in
     record {
-      room = room;
+      space = space;
       part = record {
         before = take (count - 1) part;
         fits = omega arith;
@@ -206,7 +206,7 @@ padding_part d true begin count octets h e good =
     }
 padding_part d false begin count octets h e good =
     let same : length d - count ≡ length d = omega arith in
-    record { room = omega arith; part = rw same (drop_all (length d) d (omega arith)) }
+    record { space = omega arith; part = rw same (drop_all (length d) d (omega arith)) }
 
 sources_before : (d : List ℕ) → sources_end d ≤ payload_start d
 sources_before d = begins_after (is_extended d) (sources_end d) (word_count d (sources_end d))
@@ -237,7 +237,7 @@ IsDatagram-from_whole d octets w =
           ∙ ap (λ r. (((r ++ slice_range d 12 place) ++ slice_range d place begin) ++ payload_at d) ++ drop (length d - count) d) (octets_after-head_at d octets w.header)
           ∙ ap (λ r. ((r ++ slice_range d place begin) ++ payload_at d) ++ drop (length d - count) d) (take-range d 12 place (omega arith))
           ∙ ap (λ r. (r ++ payload_at d) ++ drop (length d - count) d) (take-range d place begin order)
-          ∙ ap (λ r. r ++ drop (length d - count) d) (take-range d begin (length d - count) (omega (arith, pad.room)))
+          ∙ ap (λ r. r ++ drop (length d - count) d) (take-range d begin (length d - count) (omega (arith, pad.space)))
           ∙ take-append-drop (length d - count) d
           );
     }

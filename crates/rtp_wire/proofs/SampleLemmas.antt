@@ -92,7 +92,7 @@ pub write_more_16 : (samples : List ℤ) (out old : List ℕ) (i a b : ℕ) → 
     → sample_octets L16 (get_or samples i (pos 0)) ≡ a ∷ b ∷ []
     → out ≡ block_octets L16 (take i samples) ++ drop (2 * i) old
     → set (set out (2 * i) a) (2 * i + 1) b ≡ block_octets L16 (take (i + 1) samples) ++ drop (2 * (i + 1)) old
-write_more_16 samples out old i a b h room e before =
+write_more_16 samples out old i a b h space e before =
     let front : List ℕ = block_octets L16 (take i samples) in
     let len : length front ≡ 2 * i = length-block_octets L16 (take i samples) ∙ ap (λ n. 2 * n) (length-take-le i samples (omega arith)) in
     let len_a : length (front ++ a ∷ []) ≡ 2 * i + 1 = length_push front a ∙ ap (λ n. n + 1) len in
@@ -110,7 +110,7 @@ pub write_more_24 : (samples : List ℤ) (out old : List ℕ) (i a b c : ℕ) �
     → sample_octets L24 (get_or samples i (pos 0)) ≡ a ∷ b ∷ c ∷ []
     → out ≡ block_octets L24 (take i samples) ++ drop (3 * i) old
     → set (set (set out (3 * i) a) (3 * i + 1) b) (3 * i + 2) c ≡ block_octets L24 (take (i + 1) samples) ++ drop (3 * (i + 1)) old
-write_more_24 samples out old i a b c h room e before =
+write_more_24 samples out old i a b c h space e before =
     let front : List ℕ = block_octets L24 (take i samples) in
     let len : length front ≡ 3 * i = length-block_octets L24 (take i samples) ∙ ap (λ n. 3 * n) (length-take-le i samples (omega arith)) in
     let len_a : length (front ++ a ∷ []) ≡ 3 * i + 1 = length_push front a ∙ ap (λ n. n + 1) len in

@@ -21,7 +21,7 @@ pub struct RtpHead {
 
 /// Writes a header to the front of `out`, and returns its length, 12 octets.
 pub fn write_head(out: &mut [u8], h: &RtpHead) -> usize
-    requires room { 12 ≤ length out.old }
+    requires space { 12 ≤ length out.old }
     requires pt { h.now.pt < 128 }
     ensures written { out.new ≡ head_octets (head_of h.now) ++ drop 12 out.old }
     ensures len { result ≡ 12 }

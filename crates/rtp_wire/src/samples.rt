@@ -30,7 +30,7 @@ pub fn sample(enc: Enc, octets: &[u8], index: usize) -> i32
 
 /// Writes a sample to the front of `out`. The sample is on the encoding's own scale.
 pub fn write_sample(enc: Enc, v: i32, out: &mut [u8])
-    requires room { octets_per_sample enc ≤ length out.old }
+    requires space { octets_per_sample enc ≤ length out.old }
     requires fits { FitsEncoding enc v }
     ensures { out.new ≡ sample_octets enc v ++ drop (octets_per_sample enc) out.old }
 {
@@ -61,7 +61,7 @@ pub fn read_samples(enc: Enc, octets: &[u8], out: &mut [i32]) -> usize
 ///
 /// The samples are on the encoding's own scale.
 pub fn write_samples(enc: Enc, samples: &[i32], out: &mut [u8]) -> usize
-    requires room { octets_per_sample enc * length samples.now ≤ length out.old }
+    requires space { octets_per_sample enc * length samples.now ≤ length out.old }
     requires fit { All (FitsEncoding enc) samples.now }
     ensures written { out.new ≡ block_octets enc samples.now
         ++ drop (octets_per_sample enc * length samples.now) out.old }
@@ -118,7 +118,7 @@ fn read_24(octets: &[u8], out: &mut [i32]) -> usize
 
 /// Writes samples as L16 to the front of `out`, and returns the number of octets written.
 fn write_16(samples: &[i32], out: &mut [u8]) -> usize
-    requires room { 2 * length samples.now ≤ length out.old }
+    requires space { 2 * length samples.now ≤ length out.old }
     requires fit { All (FitsEncoding L16) samples.now }
     ensures written { out.new ≡ block_octets L16 samples.now
         ++ drop (2 * length samples.now) out.old }
@@ -134,7 +134,7 @@ fn write_16(samples: &[i32], out: &mut [u8]) -> usize
 
 /// Writes samples as L24 to the front of `out`, and returns the number of octets written.
 fn write_24(samples: &[i32], out: &mut [u8]) -> usize
-    requires room { 3 * length samples.now ≤ length out.old }
+    requires space { 3 * length samples.now ≤ length out.old }
     requires fit { All (FitsEncoding L24) samples.now }
     ensures written { out.new ≡ block_octets L24 samples.now
         ++ drop (3 * length samples.now) out.old }

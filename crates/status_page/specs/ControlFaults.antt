@@ -3,8 +3,8 @@ use Rattle.std.specs.Prelude.{ℕ, List, [], ◌∷◌, ◌++◌, codes}
 use Rattle.http1.specs.Fields.{Header}
 use Rattle.http_server.specs.declared.response.Response.{Response}
 use Rattle.http_server.specs.Response.{IsResponse}
-use Rattle.gain_mix.specs.declared.live.ChangeFault.{ChangeFault}
-use Rattle.gain_mix.specs.declared.live.ChangeFault.TheVariants as Change
+use Rattle.gain_mix.specs.declared.live_schedule.ChangeFault.{ChangeFault}
+use Rattle.gain_mix.specs.declared.live_schedule.ChangeFault.TheVariants as Change
 use Rattle.status_page.specs.declared.control.fault.ControlFault.{ControlFault}
 use Rattle.status_page.specs.declared.control.fault.ControlFault.TheVariants.{Origin, Rate, Query, Body, Shape, Range, Time, TooMany, NoAnswer}
 use Rattle.status_page.specs.Responses.{guard_fields}

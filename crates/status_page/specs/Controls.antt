@@ -10,7 +10,7 @@ use Rattle.json.specs.Json.{Json}
 use Rattle.studio_io.specs.declared.gain_source.GainAction.TheVariants.{Show as ShowAction}
 use Rattle.studio_io.specs.declared.gain_source.GainRequest.{GainRequest}
 use Rattle.status_page.specs.declared.control.Control.{Control}
-use Rattle.status_page.specs.declared.control.DeskAnswer.{DeskAnswer}
+use Rattle.status_page.specs.declared.control.RequestOutcome.{RequestOutcome}
 use Rattle.status_page.specs.declared.control.fault.ControlFault.{ControlFault}
 use Rattle.status_page.specs.declared.control.fault.ControlFault.TheVariants.{Query}
 use Rattle.status_page.specs.declared.control.reply.ShownTimes.{ShownTimes}
@@ -26,12 +26,12 @@ use Rattle.status_page.specs.Integers.{integer_in}
 use Rattle.status_page.specs.Responses.{guard_fields, misdirected_fields, misdirected_text, refused_fields, shown_fields}
 use Rattle.status_page.specs.Verdicts.{verdict_of}
 
--- the relation of a desk's call: its state, the request, the gains in the buffer, the outcome, the gains in the buffer
--- after it, and the desk's state then
+-- the relation of a requester's call: its state, the request, the gains in the buffer, the outcome, the gains in the buffer
+-- after it, and the requester's state then
 abbrev pub Asks : Type 0 → Type 1
-Asks D = D → GainRequest → List ℤ → DeskAnswer → List ℤ → D → Type 0
+Asks D = D → GainRequest → List ℤ → RequestOutcome → List ℤ → D → Type 0
 
--- the times of the planned changes that a desk has
+-- the times of the planned changes that a requester has
 abbrev pub Plans : Type 0 → Type 0
 Plans D = D → List ℤ
 
@@ -57,26 +57,26 @@ pub record HasSameLock {D : Type 0} (old new : Control D) : Type 0 where
 pub record AsksToShow {D : Type 0} (asks : Asks D) (old : Control D) (at : Option ℤ) (new : Control D) (reply : Result ShownTimes ControlFault) : Type 0 where
   pub sent : List ℤ
   pub places : length sent ≡ old.shape.outs * old.shape.ins
-  pub outcome : DeskAnswer
-  pub asked : asks old.desk (record { at = at; action = ShowAction }) sent outcome new.gains.items new.desk
+  pub outcome : RequestOutcome
+  pub asked : asks old.requester (record { at = at; action = ShowAction }) sent outcome new.gains.items new.requester
   pub is_reply : reply ≡ shown_in outcome
 
 -- a query with a fault is refused and nothing is sent to the run; other queries are sent
 abbrev pub ShowsBy : {D : Type 0} → Asks D → Control D → Result (Option ℤ) ControlFault → Control D → Result ShownTimes ControlFault → Type 0
-ShowsBy asks old (Err fault) new reply = (new.desk ≡ old.desk) × (reply ≡ Err fault)
+ShowsBy asks old (Err fault) new reply = (new.requester ≡ old.requester) × (reply ≡ Err fault)
 ShowsBy asks old (Ok at) new reply = AsksToShow asks old at new reply
 
 -- the run was sent exactly this change, and the reply is its answer
 pub record AsksToChange {D : Type 0} (asks : Asks D) (old : Control D) (value : Option Json) (request : GainRequest) (new : Control D) (reply : Result ℤ ControlFault) : Type 0 where
   pub sent : List ℤ
   pub buffer : IsBuffer old.shape.outs old.shape.ins value request.action sent
-  pub outcome : DeskAnswer
-  pub asked : asks old.desk request sent outcome new.gains.items new.desk
+  pub outcome : RequestOutcome
+  pub asked : asks old.requester request sent outcome new.gains.items new.requester
   pub is_reply : reply ≡ taken_in outcome
 
 -- a body with a fault is refused and nothing is sent to the run; other changes are sent
 abbrev pub ChangesTo : {D : Type 0} → Asks D → Control D → Option Json → Result GainRequest ControlFault → Control D → Result ℤ ControlFault → Type 0
-ChangesTo asks old value (Err fault) new reply = (new.desk ≡ old.desk) × (reply ≡ Err fault)
+ChangesTo asks old value (Err fault) new reply = (new.requester ≡ old.requester) × (reply ≡ Err fault)
 ChangesTo asks old value (Ok request) new reply = AsksToChange asks old value request new reply
 
 abbrev pub ChangesBy : {D : Type 0} → Asks D → Control D → Option Json → Control D → Result ℤ ControlFault → Type 0
@@ -95,14 +95,14 @@ IsWrittenOrFailed Is response = Is response ⊎ IsFailed response
 abbrev pub Shows : {D : Type 0} → Asks D → Plans D → Control D → Option (List ℕ) → Control D → Response → Type 0
 Shows asks plans old query new response =
     ((reply : Result ShownTimes ControlFault) × ShowsBy asks old (time_in_query query) new reply
-    × IsWrittenOrFailed (IsShownReply old.shape.outs old.shape.ins reply (plans new.desk) new.gains.items) response)
-    ⊎ ((new.desk ≡ old.desk) × IsFailed response)
+    × IsWrittenOrFailed (IsShownReply old.shape.outs old.shape.ins reply (plans new.requester) new.gains.items) response)
+    ⊎ ((new.requester ≡ old.requester) × IsFailed response)
 
 -- the change in the body was requested, and the response has the reply; or an allocation failed before that
 abbrev pub Changes : {D : Type 0} → Asks D → Control D → Option Json → Control D → Response → Type 0
 Changes asks old value new response =
     ((reply : Result ℤ ControlFault) × ChangesBy asks old value new reply × IsWrittenOrFailed (IsTakenReply reply) response)
-    ⊎ ((new.desk ≡ old.desk) × IsFailed response)
+    ⊎ ((new.requester ≡ old.requester) × IsFailed response)
 
 -- the page at this time
 abbrev pub at_time : {D : Type 0} → ControlPage D → Duration → ControlPage D
@@ -112,7 +112,7 @@ at_time page time = record page { time = time }
 abbrev pub verdict_on : {D : Type 0} → ControlPage D → Request (List ℕ) → Verdict
 verdict_on page request = verdict_of page.control.token (allows page.rate page.time) (head_of request)
 
--- the gains were shown; only the desk and the buffer of gains may have changed
+-- the gains were shown; only the requester and the buffer of gains may have changed
 pub record ShowsGains {D : Type 0} (asks : Asks D) (plans : Plans D) (old : ControlPage D) (request : Request (List ℕ)) (response : Response) (new : ControlPage D) : Type 0 where
   pub shows : Shows asks plans old.control (uri_query (head_of request).uri) new.control response
   pub lock : HasSameLock old.control new.control
@@ -120,7 +120,7 @@ pub record ShowsGains {D : Type 0} (asks : Asks D) (plans : Plans D) (old : Cont
   pub rate : new.rate ≡ old.rate
   pub time : new.time ≡ old.time
 
--- a change was requested and counted; only the desk, the buffer of gains and the count may have changed
+-- a change was requested and counted; only the requester, the buffer of gains and the count may have changed
 pub record ChangesGains {D : Type 0} (asks : Asks D) (old : ControlPage D) (request : Request (List ℕ)) (response : Response) (new : ControlPage D) : Type 0 where
   pub changes : Changes asks old.control (value_of (body_of request)) new.control response
   pub lock : HasSameLock old.control new.control

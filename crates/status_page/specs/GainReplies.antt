@@ -8,8 +8,8 @@ use Rattle.http_server.specs.Response.{IsResponse}
 use Rattle.gain_mix.specs.Gain.{rows_of}
 use Rattle.studio_io.specs.declared.gain_source.GainAnswer.{GainAnswer}
 use Rattle.studio_io.specs.declared.gain_source.GainAnswer.TheVariants.{Taken, Refused, Shown}
-use Rattle.status_page.specs.declared.control.DeskAnswer.{DeskAnswer}
-use Rattle.status_page.specs.declared.control.DeskAnswer.TheVariants as Desk
+use Rattle.status_page.specs.declared.control.RequestOutcome.{RequestOutcome}
+use Rattle.status_page.specs.declared.control.RequestOutcome.TheVariants as Desk
 use Rattle.status_page.specs.declared.control.fault.ControlFault.{ControlFault}
 use Rattle.status_page.specs.declared.control.fault.ControlFault.TheVariants.{NoAnswer}
 use Rattle.status_page.specs.declared.control.reply.ShownTimes.{ShownTimes}
@@ -22,7 +22,7 @@ taken_of (Taken at) = Ok at
 taken_of (Refused fault) = Err (fault_of fault)
 taken_of (Shown at) = Err NoAnswer
 
-abbrev pub taken_in : DeskAnswer → Result ℤ ControlFault
+abbrev pub taken_in : RequestOutcome → Result ℤ ControlFault
 taken_in (Desk.Answered answer next) = taken_of answer
 taken_in Desk.NoAnswer = Err NoAnswer
 
@@ -32,7 +32,7 @@ shown_of (Shown at) next = Ok (record { at = at; next_block_start = next })
 shown_of (Refused fault) next = Err (fault_of fault)
 shown_of (Taken at) next = Err NoAnswer
 
-abbrev pub shown_in : DeskAnswer → Result ShownTimes ControlFault
+abbrev pub shown_in : RequestOutcome → Result ShownTimes ControlFault
 shown_in (Desk.Answered answer next) = shown_of answer next
 shown_in Desk.NoAnswer = Err NoAnswer
 

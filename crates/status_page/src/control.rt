@@ -1,5 +1,5 @@
-//! The control of a run's gains by the page: `GainDesk` is the page's end of it, and `Control` adds the token that a
-//! change needs. `token` has the token.
+//! The control of a run's gains by the page: `GainRequester` is the page's end of it, and `Control` adds the token that
+//! a change needs. `token` has the token.
 ghost use Rattle.std.specs.Prelude.{◌≡◌, ℤ, List, IfOk};
 ghost use Rattle.studio_io.specs.declared.gain_source.GainRequest.{GainRequest as Asked};
 
@@ -18,9 +18,9 @@ pub(crate) mod shape;
 pub(crate) mod token;
 pub(crate) mod verdict;
 
-/// The outcome of a request that a `GainDesk` passed to a run.
+/// The outcome of a request that a `GainRequester` passed to a run.
 #[derive(Clone, Copy, PartialEq, Eq)]
-pub enum DeskAnswer {
+pub enum RequestOutcome {
     /// The run answered. The buffer has the gains that its answer shows.
     Answered {
         answer: GainAnswer,
@@ -32,11 +32,11 @@ pub enum DeskAnswer {
 }
 
 /// The page's end of the control of a run's gains.
-pub trait GainDesk: Drop {
-    ghost use Rattle.status_page.specs.declared.control.DeskAnswer.{DeskAnswer as Outcome};
+pub trait GainRequester: Drop {
+    ghost use Rattle.status_page.specs.declared.control.RequestOutcome.{RequestOutcome as Outcome};
 
-    /// States that a desk in the first state was asked for this request with these gains in the buffer, that the
-    /// outcome and the gains in the buffer after it are these, and that the desk is in the last state then.
+    /// States that a requester in the first state was asked for this request with these gains in the buffer, that the
+    /// outcome and the gains in the buffer after it are these, and that the requester is in the last state then.
     ghost asks: { Self → Asked → List ℤ → Outcome → List ℤ → Self → Type 0 };
 
     /// The times of the planned changes that the last answer had, in rising order.
@@ -53,31 +53,31 @@ pub trait GainDesk: Drop {
     /// Asks the run, and waits at most 200 ms for its answer. `gains` has a place for each gain of the matrix, row by
     /// row. For `GainAction::SetAll` it has the gains that are asked for. After an answer it has those that the answer
     /// shows.
-    fn ask(&mut self, request: GainRequest, gains: &mut [i32]) -> DeskAnswer
+    fn ask(&mut self, request: GainRequest, gains: &mut [i32]) -> RequestOutcome
         ensures { asks self.old request gains.old result gains.new self.new };
 }
 
-/// The control of a run's gains: the desk at which requests are made, and the token that a change needs.
+/// The control of a run's gains: the requester that passes requests to the run, and the token that a change needs.
 #[derive(Drop)]
-pub struct Control<D: GainDesk> {
-    pub(crate) desk: D,
+pub struct Control<D: GainRequester> {
+    pub(crate) requester: D,
     pub(crate) token: Token,
     pub(crate) shape: GainShape,
     /// A place for each gain of the matrix.
     pub(crate) gains: Vec<i32>,
 }
 
-impl<D: GainDesk> Control<D> {
-    /// Returns the control of a run's gains by this desk and this token, or `AllocError` if an allocation fails.
-    pub fn new(alloc: Global, desk: D, token: Token) -> Result<Control<D>, AllocError>
-        ensures desk { IfOk result (λ control. control.desk ≡ desk) }
+impl<D: GainRequester> Control<D> {
+    /// Returns the control of a run's gains by this requester and this token, or `AllocError` if an allocation fails.
+    pub fn new(alloc: Global, requester: D, token: Token) -> Result<Control<D>, AllocError>
+        ensures requester { IfOk result (λ control. control.requester ≡ requester) }
         ensures token { IfOk result (λ control. control.token ≡ token) }
     {
-        let shape = desk.shape();
+        let shape = requester.shape();
         let mut gains = Vec::new(alloc);
         gains.resize(shape.outs() * shape.ins(), 0)?;
         Ok(Control {
-            desk,
+            requester,
             token,
             shape,
             gains,

@@ -20,7 +20,7 @@ ghost use Rattle.status_page.specs.Controls.{
 use crate::control::rate::ChangeRate;
 use crate::control::reply::{ask_for_token, refuse, refuse_method};
 use crate::control::verdict::{Verdict, verdict_of};
-use crate::control::{Control, GainDesk};
+use crate::control::{Control, GainRequester};
 use crate::page::controls_html::controls_html;
 use crate::page::html::page_html;
 use crate::page::resource::Resource;
@@ -37,7 +37,7 @@ use std::time::Duration;
 
 /// The page of a run whose gains can be changed.
 #[derive(Drop)]
-pub struct ControlPage<D: GainDesk> {
+pub struct ControlPage<D: GainRequester> {
     page: Page,
     control: Control<D>,
     rate: ChangeRate,
@@ -45,7 +45,7 @@ pub struct ControlPage<D: GainDesk> {
     time: Duration,
 }
 
-impl<D: GainDesk> ControlPage<D> {
+impl<D: GainRequester> ControlPage<D> {
     /// Returns a page with this control of the run's gains.
     pub fn new(page: Page, control: Control<D>) -> ControlPage<D>
         ensures page { result.page ≡ page }
@@ -126,7 +126,7 @@ impl<D: GainDesk> ControlPage<D> {
     }
 }
 
-impl<D: GainDesk> Service for ControlPage<D> {
+impl<D: GainRequester> Service for ControlPage<D> {
     ghost answers = { control_answers D.asks D.planned };
 
     fn call(
@@ -173,7 +173,7 @@ fn show_page(response: &mut Response) -> Result<(), AllocError>
     response.body.push(Bytes::from_static(PAGE_END.as_bytes()))
 }
 
-impl<D: GainDesk> ServedPage for ControlPage<D> {
+impl<D: GainRequester> ServedPage for ControlPage<D> {
     fn connection(&self, alloc: Global, keys: RandomState) -> Connection {
         new_control_connection(alloc, keys)
     }

@@ -11,7 +11,7 @@
 //!   responds from the page. `serve_page` does so in a thread of its own, and takes a newer snapshot
 //!   from its `RingSource` before each turn.
 //! - **With gains**: a `ControlPage` also shows the gains of the run at `/gains`, and changes them for a
-//!   client that has the run's `Token`. It asks a `GainDesk`, which the run's side implements. The
+//!   client that has the run's `Token`. It asks a `GainRequester`, which the run's side implements. The
 //!   connections of its clients come from `new_control_connection`. `PageServer` and `serve_page` take
 //!   either page.
 //!
@@ -34,7 +34,7 @@ mod snapshot;
 
 pub use control::shape::GainShape;
 pub use control::token::Token;
-pub use control::{Control, DeskAnswer, GainDesk};
+pub use control::{Control, GainRequester, RequestOutcome};
 pub use control_page::ControlPage;
 pub use page::Page;
 pub use page::controls_html::CONTROLS;

@@ -131,7 +131,7 @@ fn write_next<W: Write>(
     lines: &mut Lines<'_, W>,
 ) -> anyhow::Result<bool> {
     let mut out = [0; MAX_OUTPUT_OCTETS];
-    // Called for its clause: a datagram has at most `MAX_OUTPUT_OCTETS` octets, so `out` has room.
+    // Called for its clause: a datagram has at most `MAX_OUTPUT_OCTETS` octets, so `out` has space.
     let _short = engine.output().datagram_len();
     let given = match now {
         Some(now) => engine.turn(now, &mut out)?,

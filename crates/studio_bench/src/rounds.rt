@@ -82,7 +82,7 @@ fn turn_to(engine: &mut Engine, now: i64) -> anyhow::Result<u64> {
     let mut given = 0u64;
     // The range bounds the loop. The engine has no further datagram long before.
     for _ in 0..u64::MAX {
-        // Called for its clause: a datagram has at most `MAX_OUTPUT_OCTETS` octets, so `out` has room.
+        // Called for its clause: a datagram has at most `MAX_OUTPUT_OCTETS` octets, so `out` has space.
         let _short = engine.output().datagram_len();
         if engine.turn(now, &mut out)?.is_none() {
             break;

@@ -88,13 +88,13 @@ given_by : (studio : Studio) (t : MixEnd) (datagrams : List (List ℕ)) (out new
     → is_some len ≡ is_ready studio.output (accepted_feeds studio.streams t.sides.items) (length datagrams)
     → IfSome len (λ n. (n ≡ datagram_length studio.output) × (new_out ≡ datagram_of studio (accepted_feeds studio.streams t.sides.items) (length datagrams) ++ drop n out))
     → MixHasFeeds studio t (length datagrams + given len) → HasGiven studio t (given_after datagrams len new_out)
-given_by studio t datagrams out new_out None some same room first ready is stands =
+given_by studio t datagrams out new_out None some same space first ready is stands =
     let e : length datagrams + 0 ≡ length datagrams = omega arith in
     record { some_frames = some; feeds = subst (MixHasFeeds studio t) e stands; first = first }
-given_by studio t datagrams out new_out (Some len) some same room first ready is stands =
+given_by studio t datagrams out new_out (Some len) some same space first ready is stands =
     let feeds = accepted_feeds studio.streams t.sides.items in
     let short = is.0 in
-    let within : len ≤ length out = omega (arith, short, room) in
+    let within : len ≤ length out = omega (arith, short, space) in
     record {
       some_frames = some;
       feeds = subst (MixHasFeeds studio t) (sym (length_push datagrams (take len new_out))) stands;
@@ -104,8 +104,8 @@ given_by studio t datagrams out new_out (Some len) some same room first ready is
 pub given-turn : (studio : Studio) (s : MixEnd) (note : MixNote) (t : MixEnd) (datagrams : List (List ℕ)) (out new_out : List ℕ)
     → length new_out ≡ length out → datagram_length s.mixer.packer.spec ≤ length out → AllTakeSome s.sides.items t.sides.items → MixesBlock studio s note t (length datagrams) out new_out
     → HasGiven studio s datagrams → HasGiven studio t (given_after datagrams note.len new_out)
-given-turn studio s note t datagrams out new_out same room takes mixes h =
-    let short : datagram_length studio.output ≤ length out = subst (λ o. datagram_length o ≤ length out) h.feeds.output room in
+given-turn studio s note t datagrams out new_out same space takes mixes h =
+    let short : datagram_length studio.output ≤ length out = subst (λ o. datagram_length o ≤ length out) h.feeds.output space in
     given_by studio t datagrams out new_out note.len h.some_frames same short
     (first_longer studio (accepted_feeds studio.streams s.sides.items) (accepted_feeds studio.streams t.sides.items) datagrams h.some_frames (feeds-longer studio.streams s.sides.items t.sides.items takes) h.first)
     mixes.ready mixes.datagram mixes.stands
@@ -114,7 +114,7 @@ given-turn studio s note t datagrams out new_out same room takes mixes h =
 pub given-all : (studio : Studio) (s : MixEnd) (note : MixNote) (t : MixEnd) (datagrams : List (List ℕ)) (out new_out : List ℕ)
     → length new_out ≡ length out → datagram_length s.mixer.packer.spec ≤ length out → AllTakeSome s.sides.items t.sides.items → MixesBlock studio s note t (length datagrams) out new_out
     → note.len ≡ None → HasGiven studio s datagrams → AreAllGiven studio t datagrams
-given-all studio s note t datagrams out new_out same room takes mixes none h =
+given-all studio s note t datagrams out new_out same space takes mixes none h =
     first_all studio (accepted_feeds studio.streams t.sides.items) datagrams
     (first_longer studio (accepted_feeds studio.streams s.sides.items) (accepted_feeds studio.streams t.sides.items) datagrams h.some_frames (feeds-longer studio.streams s.sides.items t.sides.items takes) h.first)
     (sym mixes.ready ∙ ap is_some none)

@@ -9,7 +9,7 @@ use Rattle.path_merge.specs.Goal.{next_to}
 use Rattle.path_merge.specs.MergeState.{MergeState}
 use Rattle.path_merge.specs.NextMark.{anchor_due, anchor_after_close, slot_or_end, slot_or_quiet}
 use Rattle.path_merge.specs.declared.goal.Goal.{Goal}
-use Rattle.path_merge.specs.declared.goal.Goal.TheVariants.{End, Reading}
+use Rattle.path_merge.specs.declared.goal.Goal.TheVariants.{End, Tick}
 
 -- the format of a mark, or this one if there is no mark
 abbrev format_or : PacketFormat → Option MarkView → PacketFormat
@@ -34,7 +34,7 @@ left format true false mark h = h
 left format false ended mark h = refl
 
 next_or : (m : MergeState) (goal : Goal) → format_or (format_of m.spec) (next_to m goal) ≡ format_of m.spec
-next_or m (Reading now) = at_reading m now (anchor_due m now)
+next_or m (Tick now) = at_reading m now (anchor_due m now)
 next_or m End = left (format_of m.spec) m.closed m.ended (slot_or_end m (anchor_after_close m)) (at_end m (anchor_after_close m))
 
 -- the format of a merge's next mark is that of its stream

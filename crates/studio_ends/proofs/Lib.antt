@@ -1,5 +1,5 @@
-pub mod RoomLemmas
-pub mod RoomRingLemmas
+pub mod CellLemmas
+pub mod CellSizeLemmas
 pub mod FormatLemmas
 pub mod FittingLemmas
 pub mod TurnLemmas

@@ -68,14 +68,14 @@ module _ {T : Type 0} where
   pub record LooksUpTo (olds items : List (TokenConsumer T)) (before open_yet : List Bool) (any : Bool) (n : ℕ) : Type 0 where
     pub any_open : (any ≡ false) ↔ AllDrained (take n items)
     pub count : length items ≡ length olds
-    pub room : length open_yet ≡ length before
+    pub space : length open_yet ≡ length before
     pub later : drop n items ≡ drop n olds
     pub rest : drop n open_yet ≡ drop n before
     pub looked : AllLookAt (take n olds) (take n items)
     pub told : AreOpen (take n open_yet) (take n items)
 
   pub looked_to-none : (olds : List (TokenConsumer T)) (before : List Bool) → LooksUpTo olds olds before before false 0
-  looked_to-none olds before = record { any_open = (λ _. tt, λ _. refl); count = refl; room = refl; later = refl; rest = refl; looked = tt; told = tt }
+  looked_to-none olds before = record { any_open = (λ _. tt, λ _. refl); count = refl; space = refl; later = refl; rest = refl; looked = tt; told = tt }
 
   pub looked_to-more : (olds items : List (TokenConsumer T)) (before open_yet : List Bool) (n : ℕ) (old new : TokenConsumer T) (any b : Bool)
       → n < length olds → n < length before → old ≡ get_or items n old → LooksAt old new → (b ≡ false) ↔ IsDrained new.ring new.done
@@ -83,15 +83,15 @@ module _ {T : Type 0} where
   looked_to-more olds items before open_yet n old new any b lt lt' is one drained h = record {
     any_open = subst (λ l. ((any || b) ≡ false) ↔ AllDrained l) (sym f) (all_drained-snoc (take n items) new any b h.any_open drained);
     count = length-set items n new ∙ h.count;
-    room = length-set open_yet n b ∙ h.room;
+    space = length-set open_yet n b ∙ h.space;
     later = drop-set-lt (n + 1) items n new (omega arith) ∙ (sym (drop-drop 1 n items) ∙ (ap (drop 1) h.later ∙ drop-drop 1 n olds));
     rest = drop-set-lt (n + 1) open_yet n b (omega arith) ∙ (sym (drop-drop 1 n open_yet) ∙ (ap (drop 1) h.rest ∙ drop-drop 1 n before));
     looked =
         let e : take (n + 1) olds ≡ take n olds ++ old ∷ [] = take_more olds n old lt ∙ ap (λ (s : TokenConsumer T). take n olds ++ s ∷ []) (sym (is ∙ same_there items olds n old h.later)) in
         rw (e, f) (all_looked-snoc (take n olds) (take n items) old new h.looked one);
     told =
-        let g : take (n + 1) (set open_yet n b) ≡ take n open_yet ++ b ∷ [] = take_more_set open_yet n b (let r = h.room in omega (arith, lt', r)) in
-        let l : length (take n open_yet) ≡ n = lists.length-take-le n open_yet (let r = h.room in omega (arith, lt', r)) in
+        let g : take (n + 1) (set open_yet n b) ≡ take n open_yet ++ b ∷ [] = take_more_set open_yet n b (let r = h.space in omega (arith, lt', r)) in
+        let l : length (take n open_yet) ≡ n = lists.length-take-le n open_yet (let r = h.space in omega (arith, lt', r)) in
         let m : length (take n items) ≡ n = lists.length-take-le n items (let r = h.count in omega (arith, lt, r)) in
         rw (g, f) (are_open-snoc (take n open_yet) (take n items) b new (l ∙ sym m) h.told drained);
   }
@@ -102,11 +102,11 @@ module _ {T : Type 0} where
   -- all rings were looked at
   pub looked_to-all : (olds items : List (TokenConsumer T)) (before open_yet : List Bool) (any : Bool) (n : ℕ) → n ≡ length olds → n ≤ length before → AllFalse before → LooksUpTo olds items before open_yet any n
       → AllLookAt olds items × AreOpen open_yet items × ((any ≡ false) ↔ AllDrained items)
-  looked_to-all olds items before open_yet any n is room clear h =
+  looked_to-all olds items before open_yet any n is space clear h =
       let a : take n olds ≡ olds = ap (λ k. take k olds) is ∙ take-length olds in
       let b : take n items ≡ items = ap (λ k. take k items) (is ∙ sym h.count) ∙ take-length items in
       let c : take n open_yet ++ drop n open_yet ≡ open_yet = lists.take-append-drop n open_yet in
-      let l : length (take n open_yet) ≡ n = lists.length-take-le n open_yet (let r = h.room in omega (arith, room, r)) in
+      let l : length (take n open_yet) ≡ n = lists.length-take-le n open_yet (let r = h.space in omega (arith, space, r)) in
       let f : AllFalse (drop n open_yet) = subst AllFalse (sym h.rest) (all_false-drop n before clear) in
       let t : AreOpen (take n open_yet) items = subst (AreOpen (take n open_yet)) b h.told in (
         subst (λ x. AllLookAt x items) a (subst (AllLookAt (take n olds)) b h.looked),

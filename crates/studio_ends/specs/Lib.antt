@@ -1,7 +1,7 @@
 pub mod Fitting
 pub mod PayloadCells
 pub mod MarkCells
-pub mod RoomRings
+pub mod CellSizes
 pub mod PacketRings
 pub mod MarkRings
 pub mod DrainedRing

@@ -35,7 +35,7 @@ abbrev pub IsWithin : ℕ → MarkKind → Type 0
 IsWithin size kind = length (octets_in kind) ≤ size
 
 -- a cell holds a sound mark, and no octets if the mark has no payload
-pub record IsMarkRoom (format : PacketFormat) (said : MarkHeader) (octets : List ℕ) : Type 0 where
+pub record IsMarkCell (format : PacketFormat) (said : MarkHeader) (octets : List ℕ) : Type 0 where
   pub sound : IsMark format (kind_in said octets)
   pub short : HasShortBody (kind_in said octets)
   pub blank : octets_in (kind_in said octets) ≡ octets

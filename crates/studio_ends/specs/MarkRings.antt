@@ -4,7 +4,7 @@ use Rattle.rtrb.specs.declared.AnyItems.{AnyItems}
 use Rattle.rtrb.specs.declared.finished.Finished.{Finished}
 use Rattle.rtrb.specs.declared.producer.Producer.{Producer}
 use Rattle.rtp_stream.specs.MarkFacts.{MarkView}
-use Rattle.studio_ends.specs.RoomRings.{finished_with, producer_with, side_with}
+use Rattle.studio_ends.specs.CellSizes.{finished_with, producer_with, side_with}
 use Rattle.studio_ends.specs.declared.rings.marks.ProducerBySize.{ProducerBySize}
 use Rattle.studio_ends.specs.declared.rings.marks.ProducerBySize.TheVariants as sender
 use Rattle.studio_ends.specs.declared.rings.marks.ConsumerBySize.{ConsumerBySize}

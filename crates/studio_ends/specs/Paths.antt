@@ -12,13 +12,13 @@ use Rattle.studio_ends.specs.declared.path_end.Offer.TheVariants.{CountersFull, 
 
 -- the datagram has this reception, and was counted
 pub record Receives (octets : List ℕ) (p : PathEnd) (reception : Reception) (q : PathEnd) : Type 0 where
-  pub room : p.counts.offered < 2 ^ 62
+  pub space : p.counts.offered < 2 ^ 62
   pub received : reception_of p.spec octets ≡ reception
   pub counted : path_tally_of q.counts ≡ with_reception (path_tally_of p.counts) reception
 
 -- the datagram is a packet of the stream, but no free place was known in the ring; it was counted as `full`
-pub record FindsNoRoom (octets : List ℕ) (p q : PathEnd) : Type 0 where
-  pub room : p.counts.offered < 2 ^ 62
+pub record FindsNoSpace (octets : List ℕ) (p q : PathEnd) : Type 0 where
+  pub space : p.counts.offered < 2 ^ 62
   pub packet : Packet
   pub received : reception_of p.spec octets ≡ Received packet
   pub none_free : known_free q.ring ≡ 0
@@ -30,5 +30,5 @@ Offers octets p CountersFull q = (q ≡ p) × (p.counts.offered ≡ 2 ^ 62)
 Offers octets p (Bad fault) q = Receives octets p (BadWire fault) q × (sent q.ring ≡ sent p.ring)
 Offers octets p WrongType q = Receives octets p OtherType q × (sent q.ring ≡ sent p.ring)
 Offers octets p WrongLength q = Receives octets p OtherLength q × (sent q.ring ≡ sent p.ring)
-Offers octets p Full q = FindsNoRoom octets p q × (sent q.ring ≡ sent p.ring)
+Offers octets p Full q = FindsNoSpace octets p q × (sent q.ring ≡ sent p.ring)
 Offers octets p Sent q = (packet : Packet) × Receives octets p (Received packet) q × (sent q.ring ≡ sent p.ring ++ packet ∷ [])

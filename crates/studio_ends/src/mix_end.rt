@@ -45,7 +45,7 @@ fn send_stats(
     saturated: &[u64],
     out: &[u8],
 )
-    requires room { IfSome given (λ len. len ≤ length out.now) }
+    requires space { IfSome given (λ len. len ≤ length out.now) }
     ensures told { MatchOption given (sender.new ≡ sender.old)
         (λ len. TellsCounts saturated.now (take len out.now) sender.old sender.new) }
     ensures measures { (output : Output) → Measures sender.old output → Measures sender.new output }
@@ -116,10 +116,10 @@ impl MixEnd {
     /// Takes the marks that the next block needs, and then writes its datagram to the start of `out` if the block is
     /// ready.
     ///
-    /// The caller passes room for `datagram_len` octets, and calls again: one turn takes at most 64 marks of each
+    /// The caller passes a buffer of `datagram_len` octets, and calls again: one turn takes at most 64 marks of each
     /// stream and writes at most one datagram.
     pub fn turn(&mut self, out: &mut [u8]) -> MixNote
-        requires room { datagram_length self.old.mixer.packer.spec ≤ length out.old }
+        requires space { datagram_length self.old.mixer.packer.spec ≤ length out.old }
         ensures taken { AllTakeSome self.old.sides.items self.new.sides.items }
         ensures total { received_total self.new.sides.items ≡ received_total self.old.sides.items + result.taken }
         ensures mixes { (studio : Studio) (number : ℕ) → MixHasFeeds studio self.old number

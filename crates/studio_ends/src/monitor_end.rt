@@ -5,7 +5,7 @@ ghost use Rattle.rtrb.specs.Ring.{received, known_items, SameConsumer};
 use path_merge::Counts;
 use rtrb::Consumer;
 
-/// The receiver of a stream's counts. It gets the counts of each turn that found room in its ring, in order.
+/// The receiver of a stream's counts. It gets the counts of each turn that found space in its ring, in order.
 #[derive(Drop)]
 pub struct MonitorEnd {
     pub(crate) ring: Consumer<Counts>,

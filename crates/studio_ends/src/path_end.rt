@@ -7,7 +7,7 @@ ghost use Rattle.rtp_stream.specs.declared.packet.Packet.{Packet};
 ghost use Rattle.rtp_stream.specs.Reception.{reception_from, reception_of};
 ghost use Rattle.rtp_stream.specs.declared.reception.Reception.TheVariants.{Sent as Received};
 ghost use Rattle.studio_ends.specs.Fitting.{fitting};
-ghost use Rattle.studio_ends.specs.RoomRings.{HasRoomFor};
+ghost use Rattle.studio_ends.specs.CellSizes.{HasCellsFor};
 
 use crate::rings::packets::{PacketProducer, PacketToken};
 use rtp_stats::PathCountsSender;
@@ -26,7 +26,7 @@ pub struct PathEnd {
     pub(crate) sender: Option<PathCountsSender>,
     ghost few: { counts.offered ≤ 2 ^ 62 },
     ghost all_counted: { counts.sent ≡ length (sent ring) },
-    ghost roomy: { HasRoomFor (payload_length (format_of spec)) ring },
+    ghost cells: { HasCellsFor (payload_length (format_of spec)) ring },
     ghost all_fit: { fitting spec (sent ring) ≡ sent ring },
 }
 
@@ -54,11 +54,11 @@ pub struct PathDone {
 }
 
 /// Returns true if the datagram is a packet of the stream and no free place is known for it.
-fn lacks_room(ring: &mut PacketProducer, reception: ReceptionRef<'_>) -> bool
+fn lacks_space(ring: &mut PacketProducer, reception: ReceptionRef<'_>) -> bool
     ensures ring { ProducerLooked ring.old ring.new }
     ensures full { result ≡ true → ((packet : Packet) × (reception_from reception.entry ≡ Received packet))
         × (known_free ring.new ≡ 0) }
-    ensures room { result ≡ false → (packet : Packet) → reception_from reception.entry ≡ Received packet
+    ensures space { result ≡ false → (packet : Packet) → reception_from reception.entry ≡ Received packet
         → 0 < known_free ring.new }
 {
     match reception {
@@ -96,8 +96,8 @@ impl PathEnd {
             return Offer::CountersFull;
         }
         let reception = receive_ref(&self.spec, datagram);
-        // Room is tested before the datagram is counted: each is counted once, as full or as received.
-        if lacks_room(&mut self.ring, reception) {
+        // The ring's space is tested before the datagram is counted: each is counted once, as full or as received.
+        if lacks_space(&mut self.ring, reception) {
             self.counts.add_full();
             send_stats(&mut self.sender, self.counts);
             return Offer::Full;

@@ -3,7 +3,7 @@
 ghost use Rattle.std.specs.Prelude.{◌≡◌, vec_len};
 ghost use Rattle.rtp_stream.specs.MarkFacts.{payload_length};
 ghost use Rattle.rtp_stream.specs.StreamSpecFacts.{format_of};
-ghost use Rattle.studio_ends.specs.RoomRings.{HasRoomFor};
+ghost use Rattle.studio_ends.specs.CellSizes.{HasCellsFor};
 
 use crate::rings::marks::MarkProducer;
 use crate::rings::packets::PacketConsumer;
@@ -27,5 +27,5 @@ pub struct StreamEnd {
     pub(crate) sender: Option<StreamStatsSender>,
     ghost same: { merge.spec ≡ spec },
     ghost paths: { vec_len sides ≡ spec.paths },
-    ghost roomy: { HasRoomFor (payload_length (format_of spec)) marks },
+    ghost cells: { HasCellsFor (payload_length (format_of spec)) marks },
 }

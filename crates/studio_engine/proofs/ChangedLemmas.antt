@@ -12,7 +12,7 @@ use Rattle.studio_io.specs.declared.gain_source.GainAnswer.TheVariants.{Taken, R
 use Rattle.studio_mix.specs.Changed.{with_changes, with_gains}
 use Rattle.studio_mix.specs.Feed.{Feed}
 use Rattle.studio_mix.specs.Mixer.{HasFeeds, MixerState, next_start_of}
-use Rattle.studio_mix.specs.Room.{rooms_of}
+use Rattle.studio_mix.specs.LaneCapacity.{capacities_of}
 use Rattle.studio_mix.proofs.ChangedLemmas.{datagram_unchanged}
 use Rattle.studio_session.specs.Event.{TraceEvent}
 use Rattle.studio_session.specs.Play.{feeds_of}
@@ -39,7 +39,7 @@ session_changed studio old mixer at gains events datagrams fed lanes early s =
       time = s.time;
       closed = s.closed;
       count = s.count;
-      rooms = record { rooms = ap rooms_of lanes ∙ s.rooms.rooms };
+      capacities = record { capacities = ap capacities_of lanes ∙ s.capacities.capacities };
       given = record {
         played = record { feeds = played.feeds; fed = fed played.feeds (length datagrams) played.fed; count = played.count; given = played.given };
         first = record {

@@ -12,7 +12,7 @@ use Rattle.studio_session.specs.Cursor.{CursorState, at_place}
 use Rattle.studio_session.specs.PushedEvents.{AreHanded, IsHanded}
 use Rattle.studio_session.proofs.HandedLemmas.{handed_other}
 use Rattle.studio_engine.specs.Cursors.{AreBehind, all_at}
-use Rattle.studio_engine.specs.Engine.{AreAtRest, HaveCome}
+use Rattle.studio_engine.specs.Engine.{AreIdle, HaveCome}
 use Rattle.studio_engine.proofs.HandLemmas.{is_other}
 
 -- cursors that are set to a number of events have taken that number
@@ -45,17 +45,17 @@ is_seen count cursors i cursor d at =
     let within : i < length (all_at count cursors) = slice_get_within (all_at count cursors) i cursor at in
     sym (get_or-map (at_place count) cursors i d cursor (omega (arith, within, long))) ∙ get_or_from_slice_get (all_at count cursors) i cursor cursor at
 
--- cursors at rest are at rest as contracts see them
-pub rest_at : (count : ℕ) (cursors : List CursorState) → AreAtRest cursors → AreAtRest (all_at count cursors)
-rest_at count cursors rested = λ i d within.
+-- idle cursors are idle as contracts see them
+pub rest_at : (count : ℕ) (cursors : List CursorState) → AreIdle cursors → AreIdle (all_at count cursors)
+rest_at count cursors idle = λ i d within.
     let long = length-map cursors (at_place count) in
     let here : i < length cursors = omega (arith, within, long) in
-    ap (λ (c : CursorState). c.reading) (get_or-map (at_place count) cursors i d d here) ∙ rested i d here
+    ap (λ (c : CursorState). c.reading) (get_or-map (at_place count) cursors i d d here) ∙ idle i d here
 
-pub rest_of : (count : ℕ) (cursors : List CursorState) → AreAtRest (all_at count cursors) → AreAtRest cursors
-rest_of count cursors rested = λ i d within.
+pub rest_of : (count : ℕ) (cursors : List CursorState) → AreIdle (all_at count cursors) → AreIdle cursors
+rest_of count cursors idle = λ i d within.
     let long = length-map cursors (at_place count) in
-    sym (ap (λ (c : CursorState). c.reading) (get_or-map (at_place count) cursors i d d within)) ∙ rested i d (omega (arith, within, long))
+    sym (ap (λ (c : CursorState). c.reading) (get_or-map (at_place count) cursors i d d within)) ∙ idle i d (omega (arith, within, long))
 
 -- before the first event each cursor has taken none
 pub new_come : (streams : List Stream) (open_at : ℤ) (cursors : List CursorState) → AreNew streams open_at cursors (length streams) → HaveCome 0 cursors

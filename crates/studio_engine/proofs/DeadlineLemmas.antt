@@ -14,7 +14,7 @@ use Rattle.std.proofs.lemmas.Option.{slice_get-get_or}
 use Rattle.rtp_stream.specs.declared.stream_spec.Stream.{Stream}
 use Rattle.rtp_stream.specs.declared.anchor.Anchor.{Anchor}
 use Rattle.rtp_stream.specs.declared.event.Event.{Event}
-use Rattle.rtp_stream.specs.declared.event.Event.TheVariants.{Tick}
+use Rattle.rtp_stream.specs.declared.event.Event.TheVariants.{Tick as StreamTick}
 use Rattle.rtp_stream.specs.declared.mark.MarkKind.{MarkKind}
 use Rattle.rtp_stream.specs.declared.mark.MarkKind.TheVariants.{End, Quiet, Slot}
 use Rattle.rtp_stream.specs.declared.packet.Packet.{Packet}
@@ -50,7 +50,7 @@ use Rattle.studio_mix.specs.Feed.{Feed}
 use Rattle.studio_mix.specs.Mixer.{HasFeeds, MixerState}
 use Rattle.studio_mix.specs.Ready.{are_covered, block_count, have_ended}
 use Rattle.studio_session.specs.Cursor.{CursorState}
-use Rattle.studio_session.specs.Event.{Reading, TraceEvent}
+use Rattle.studio_session.specs.Event.{Tick, TraceEvent}
 use Rattle.studio_session.specs.Fault.{closed_at, time_at}
 use Rattle.studio_session.specs.Play.{feeds_of, stream_marks}
 use Rattle.studio_session.specs.Session.{event_in, step_of, stream_history}
@@ -58,7 +58,7 @@ use Rattle.studio_session.proofs.CursorLemmas.{settled}
 use Rattle.studio_session.proofs.FaultLemmas.{closed_more, time_more}
 use Rattle.studio_session.proofs.PlayLemmas.{set_here, stream_at}
 use Rattle.studio_session.proofs.SessionLemmas.{plays_of, whole_at}
-use Rattle.studio_engine.specs.Deadline.{IsAtRest, IsNotPast, IsUnreadyBefore, RiseBetween}
+use Rattle.studio_engine.specs.Deadline.{IsIdle, IsNotPast, IsUnreadyBefore, RiseBetween}
 use Rattle.studio_engine.proofs.NearLemmas.{stream_open, stream_time}
 
 not_le : (a b : ℤ) → b <ℤ a → int_le a b ≡ false
@@ -170,26 +170,26 @@ module _ (stream : Stream) (open_at end reading : ℤ) (some : 0 < stream.frames
     slots : SlotsEnd (anchor_of stream open_at history) (time_of open_at history)
     silent : IsSilent (marks_of stream open_at history)
 
-  ticked : (history : List Event) (u : ℤ) → is_closed history ≡ false → time_of open_at history ≤ℤ u → u <ℤ reading → IsPending history → IsPending (history ++ Tick u ∷ [])
+  ticked : (history : List Event) (u : ℤ) → is_closed history ≡ false → time_of open_at history ≤ℤ u → u <ℤ reading → IsPending history → IsPending (history ++ StreamTick u ∷ [])
   ticked history u open_yet le early p =
       let more = marks_of-tick stream open_at history u open_yet in
       record {
         uncovered = subst IsUncovered (sym more)
             (tick_uncovered (anchor_of stream open_at history) (copies_of stream open_at history) (time_of open_at history) u (marks_of stream open_at history) le early p.slots p.silent p.uncovered);
-        slots = subst (λ t. SlotsEnd (anchor_of stream open_at (history ++ Tick u ∷ [])) t) (sym (time_of-append open_at history (Tick u ∷ [])))
+        slots = subst (λ t. SlotsEnd (anchor_of stream open_at (history ++ StreamTick u ∷ [])) t) (sym (time_of-append open_at history (StreamTick u ∷ [])))
             (subst (λ o. SlotsEnd o u) (sym (anchor_of-tick stream open_at history u)) (slots_later (anchor_of stream open_at history) (time_of open_at history) u le p.slots));
         silent = λ none. p.silent (slotless_before (marks_of stream open_at history) _ (ap has_slot (sym more) ∙ none));
       }
 
   read : (number : ℕ) (readings : List ℤ) (events : List TraceEvent) → closed_at false events ≡ false → RiseBetween (time_at open_at events) reading readings
-      → IsPending (stream_history stream number events) → IsPending (stream_history stream number (events ++ map Reading readings))
+      → IsPending (stream_history stream number events) → IsPending (stream_history stream number (events ++ map Tick readings))
   read number [] events open_yet rise p = subst (λ l. IsPending (stream_history stream number l)) (sym (append-nil events)) p
   read number (u ∷ us) events open_yet rise p =
       let time = stream_time stream number open_at events in
-      let one : IsPending (stream_history stream number (events ++ Reading u ∷ [])) = subst IsPending (sym (flat_map-append (λ event. event_in (step_of stream number event)) events (Reading u ∷ [])))
+      let one : IsPending (stream_history stream number (events ++ Tick u ∷ [])) = subst IsPending (sym (flat_map-append (λ event. event_in (step_of stream number event)) events (Tick u ∷ [])))
       (ticked (stream_history stream number events) u (stream_open stream number events open_yet) (omega (arith, ints, time, rise.0)) rise.1 p) in
-      subst (λ l. IsPending (stream_history stream number l)) (append_assoc events (Reading u ∷ []) (map Reading us))
-      (read number us (events ++ Reading u ∷ []) (closed_more false events (Reading u) ∙ open_yet) (subst (λ t. RiseBetween t reading us) (sym (time_more open_at events (Reading u))) rise.2) one)
+      subst (λ l. IsPending (stream_history stream number l)) (append_assoc events (Tick u ∷ []) (map Tick us))
+      (read number us (events ++ Tick u ∷ []) (closed_more false events (Tick u) ∙ open_yet) (subst (λ t. RiseBetween t reading us) (sym (time_more open_at events (Tick u))) rise.2) one)
 
 -- marks without a slot have no slot names
 nameless : (marks : List MarkView) → has_slot marks ≡ false → length (slot_names marks) ≡ 0
@@ -201,7 +201,7 @@ nameless (mark ∷ marks) e = by_kind mark.kind e (nameless marks)
     by_kind (Quiet until) e rest = rest e
     by_kind End e rest = rest e
 
--- a merge at rest: what its next deadline says of its slots
+-- an idle merge: what its next deadline says of its slots
 module _ (stream : Stream) (open_at end reading : ℤ) (some : 0 < stream.frames) (m : MergeState) (history : List Event) (k : ℕ) (at : HasHistory stream open_at m history k) (open_yet : is_closed history ≡ false) where
   all : take k (marks_of stream open_at history) ≡ marks_of stream open_at history
   all = let long = at.all_given open_yet in take_all k (marks_of stream open_at history) (omega (arith, long))
@@ -284,7 +284,7 @@ covered_not false e = refl
 covered_not true e = cc
 
 -- a stream that the block needs keeps it from being ready up to its reading
-pub unready_by : (studio : Studio) (events : List TraceEvent) (mixer : MixerState) (cursors : List CursorState) (time : ℤ) (next i : ℕ) (item : CursorState) (end reading : ℤ) → IsAtRest studio events mixer cursors time next → i < length cursors
+pub unready_by : (studio : Studio) (events : List TraceEvent) (mixer : MixerState) (cursors : List CursorState) (time : ℤ) (next i : ℕ) (item : CursorState) (end reading : ℤ) → IsIdle studio events mixer cursors time next → i < length cursors
     → ((feeds : List Feed) (number : ℕ) → HasFeeds studio mixer feeds number → end ≡ block_start studio.output (number + 1))
     → ((feeds : List Feed) (number : ℕ) (feed : Feed) → HasFeeds studio mixer feeds number → slice_get feeds i ≡ Some feed → true ≡ not (covers (cover_of (format_of feed.stream) feed.marks) (block_start studio.output (number + 1))))
     → IsNotPast (next_deadline_of (get_or cursors i item).merge) (nat_eq ((get_or cursors i item).merge.counts.got + (get_or cursors i item).merge.counts.lost) 0) (get_or cursors i item).spec.frames (end +ℤ pos (get_or cursors i item).spec.latency) reading
@@ -303,7 +303,7 @@ unready_by studio events mixer cursors time next i item end reading rest within 
     let whole : take cursor.place events ≡ events = take_all cursor.place events (omega (arith, place)) in
     let history = stream_history stream i events in
     let has : HasHistory stream studio.open_at cursor.merge history (length p.feed.marks) = subst (λ (es : List TraceEvent). HasHistory stream studio.open_at cursor.merge (stream_history stream i es) (length p.feed.marks)) whole
-    (settled stream studio.open_at cursor.merge cursor.reading (stream_history stream i (take cursor.place events)) (length p.feed.marks) (rest.rested i item within) p.given.pulled.stands) in
+    (settled stream studio.open_at cursor.merge cursor.reading (stream_history stream i (take cursor.place events)) (length p.feed.marks) (rest.idle i item within) p.given.pulled.stands) in
     let still = stream_open stream i events rest.open_yet in
     let long = has.all_given still in
     let marks : p.feed.marks ≡ stream_marks stream i studio.open_at events = p.given.first ∙ take_all (length p.feed.marks) (stream_marks stream i studio.open_at events) (omega (arith, long)) in
@@ -318,10 +318,10 @@ unready_by studio events mixer cursors time next i item end reading rest within 
     record {
       unready = λ now later rise.
           let after = read stream studio.open_at t reading run.some_frames i (now ∷ later) events rest.open_yet rise first in
-          let feeds = feeds_of studio (events ++ map Reading (now ∷ later)) in
+          let feeds = feeds_of studio (events ++ map Tick (now ∷ later)) in
           ap (λ b. b && (not (have_ended feeds) || nat_lt next (block_count studio.output feeds)))
-          (uncovered_any t feeds i (record { stream = stream; marks = stream_marks stream i studio.open_at (events ++ map Reading (now ∷ later)) })
-          (whole_at studio.open_at (events ++ map Reading (now ∷ later)) 0 studio.streams i stream at ∙ ap (λ n. Some (record { stream = stream; marks = stream_marks stream n studio.open_at (events ++ map Reading (now ∷ later)) })) here_is)
+          (uncovered_any t feeds i (record { stream = stream; marks = stream_marks stream i studio.open_at (events ++ map Tick (now ∷ later)) })
+          (whole_at studio.open_at (events ++ map Tick (now ∷ later)) 0 studio.streams i stream at ∙ ap (λ n. Some (record { stream = stream; marks = stream_marks stream n studio.open_at (events ++ map Tick (now ∷ later)) })) here_is)
           after.uncovered);
     }
 

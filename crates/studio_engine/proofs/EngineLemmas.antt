@@ -10,8 +10,8 @@ use Rattle.rtp_stream.specs.declared.stream_spec.Stream.{Stream}
 use Rattle.studio_config.specs.Studio.{IsStudio, Studio}
 use Rattle.studio_mix.specs.Feed.{unfed}
 use Rattle.studio_mix.specs.Mixer.{MixerState, HasFeeds}
-use Rattle.studio_mix.specs.Room.{rooms_of}
-use Rattle.studio_session.specs.Event.{TraceEvent, Arrival, Reading}
+use Rattle.studio_mix.specs.LaneCapacity.{capacities_of}
+use Rattle.studio_session.specs.Event.{TraceEvent, Arrival, Tick}
 use Rattle.studio_session.specs.Fault.{closed_after, closed_at, event_fault, session_fault_of, time_after}
 use Rattle.studio_session.specs.Cursor.{CursorState, HasPulled}
 use Rattle.studio_session.specs.PushedEvents.{AreHanded, HaveTaken}
@@ -22,24 +22,24 @@ use Rattle.studio_session.proofs.HandedLemmas.{blocks_handed, given_handed}
 use Rattle.studio_session.proofs.NewLemmas.{played_none}
 use Rattle.studio_session.proofs.ReportLemmas.{pulled_of}
 use Rattle.studio_engine.specs.Cursors.{CursorsState}
-use Rattle.studio_engine.specs.Engine.{AreAtRest, EngineState, HaveCome, IsEngine, arrive_fault_of, session_of, stream_fault_of}
+use Rattle.studio_engine.specs.Engine.{AreIdle, EngineState, HaveCome, IsEngine, arrive_fault_of, session_of, stream_fault_of}
 use Rattle.studio_engine.specs.declared.fault.ArriveFault.{ArriveFault}
 use Rattle.studio_engine.specs.declared.fault.ArriveFault.TheVariants.{Unfinished, Stream as NoStream, Path as NoPath, Full}
 use Rattle.studio_engine.specs.Give.{GivesBlock, HasNoBlock}
-use Rattle.studio_engine.specs.Near.{HasRooms, IsAwaited}
+use Rattle.studio_engine.specs.Near.{HasCapacities, IsAwaited}
 use Rattle.studio_engine.specs.Session.{Gives, HasGivenReady, HasSession, turned}
 
 -- a new engine has the session of no events
-pub session_new : (studio : Studio) (mixer : MixerState) (made : CursorsState) (time : ℤ) → IsRunnableBy studio [] → HasFeeds studio mixer (unfed studio.streams) 0 → HasRooms studio mixer
+pub session_new : (studio : Studio) (mixer : MixerState) (made : CursorsState) (time : ℤ) → IsRunnableBy studio [] → HasFeeds studio mixer (unfed studio.streams) 0 → HasCapacities studio mixer
     → AreNew studio.streams studio.open_at made.cursors (length studio.streams) → made.count ≡ 0 → time ≡ studio.open_at
     → HasSession studio (record { mixer = mixer; cursors = made.cursors; time = time; turning = false; closed = false; settled = false; count = made.count }) [] []
-session_new studio mixer made time run fed roomy new none is = record {
+session_new studio mixer made time run fed sized new none is = record {
   lawful = refl;
   runnable = run;
   time = is;
   closed = refl;
   count = none;
-  rooms = roomy;
+  capacities = sized;
   given = record {
     played = played_none studio [] mixer made.cursors fed new;
     first = record {
@@ -65,7 +65,7 @@ engine_new studio mixer made time sound fed new none is =
           let here : i < length studio.streams = omega (arith, within, count) in
           let some = stream_at studio.streams i here in
           (new.each i (get_or made.cursors i d) some.0 (slice_get-get_or made.cursors i d within) some.1).0 ∙ sym none;
-      rested = λ e. new.settled;
+      idle = λ e. new.settled;
       not_early = omega (arith, ints, is, low);
       not_late = omega (arith, ints, is, high);
       few = omega (arith, ints, is, low, none);
@@ -82,12 +82,12 @@ engine_new studio mixer made time sound fed new none is =
 -- an engine stays an engine when its mixer and cursors change and no event comes
 pub engine_kept : (old : EngineState) (mixer : MixerState) (kept : CursorsState) (turning settled : Bool) → kept.count ≡ old.count → IsEngine old
     → length mixer.lanes ≡ length old.mixer.lanes → length kept.cursors ≡ length old.cursors → HaveCome kept.count kept.cursors
-    → (turning ≡ false → AreAtRest kept.cursors) → (turning ≡ true → old.closed ≡ false) → (settled ≡ true → old.closed ≡ true)
+    → (turning ≡ false → AreIdle kept.cursors) → (turning ≡ true → old.closed ≡ false) → (settled ≡ true → old.closed ≡ true)
     → IsEngine (record { mixer = mixer; cursors = kept.cursors; time = old.time; turning = turning; closed = old.closed; settled = settled; count = kept.count })
-engine_kept old mixer kept turning settled same is lanes count come rested open_yet shut = record {
+engine_kept old mixer kept turning settled same is lanes count come idle open_yet shut = record {
   streams = count ∙ is.streams ∙ sym lanes;
   taken = come;
-  rested = rested;
+  idle = idle;
   not_early = is.not_early;
   not_late = is.not_late;
   few = subst (λ n. pos n ≤ℤ ((pos (2 ^ 62) +ℤ old.time) +ℤ pos 1)) (sym same) is.few;
@@ -120,7 +120,7 @@ session_handed studio old kept event time turning closed count events datagrams 
       time = time_is ∙ ap (λ t. time_after t event) s.time ∙ sym (time_more studio.open_at events event);
       closed = closed_is ∙ ap (λ b. closed_after b event) s.closed ∙ sym (closed_more false events event);
       count = count_is ∙ ap (λ n. n + 1) s.count ∙ sym (length_push events event);
-      rooms = s.rooms;
+      capacities = s.capacities;
       given = record {
         played = record {
           feeds = played.feeds;
@@ -180,56 +180,56 @@ taken_arrival studio engine events datagrams stream path octets s fine =
     stream_at (stream ∷ streams) zero h = (stream, refl)
     stream_at (stream ∷ streams) (suc i) h = stream_at streams i (omega (arith, h))
 
--- lanes with the same room as before have the room that their streams need
-still_roomy : (studio : Studio) (old new : MixerState) → rooms_of new.lanes ≡ rooms_of old.lanes → HasRooms studio old → HasRooms studio new
-still_roomy studio old new same roomy = record { rooms = same ∙ roomy.rooms }
+-- lanes with the same capacity as before have the capacity that their streams need
+still_sized : (studio : Studio) (old new : MixerState) → capacities_of new.lanes ≡ capacities_of old.lanes → HasCapacities studio old → HasCapacities studio new
+still_sized studio old new same sized = record { capacities = same ∙ sized.capacities }
 
 -- an engine after the same events, with other datagrams
 session_same : (studio : Studio) (old new : EngineState) (events : List TraceEvent) (datagrams more : List (List ℕ)) → new.time ≡ old.time → new.closed ≡ old.closed → new.count ≡ old.count → new.settled ≡ false
-    → rooms_of new.mixer.lanes ≡ rooms_of old.mixer.lanes
+    → capacities_of new.mixer.lanes ≡ capacities_of old.mixer.lanes
     → HasSession studio old events datagrams → HasGivenBlocks studio events (session_of new) more → HasSession studio new events more
-session_same studio old new events datagrams more time closed count open_yet rooms s given = record {
+session_same studio old new events datagrams more time closed count open_yet capacities s given = record {
   lawful = s.lawful;
   runnable = s.runnable;
   time = time ∙ s.time;
   closed = closed ∙ s.closed;
   count = count ∙ s.count;
-  rooms = still_roomy studio old.mixer new.mixer rooms s.rooms;
+  capacities = still_sized studio old.mixer new.mixer capacities s.capacities;
   given = given;
   settled = λ e. absurd (false≢true (sym open_yet ∙ e));
 }
 
 -- an engine after one more datagram
 pub session_gives : (studio : Studio) (old new : EngineState) (events : List TraceEvent) (datagrams : List (List ℕ)) (before after : List ℕ) (len : ℕ)
-    → new.time ≡ old.time → new.closed ≡ old.closed → new.count ≡ old.count → new.settled ≡ false → rooms_of new.mixer.lanes ≡ rooms_of old.mixer.lanes
+    → new.time ≡ old.time → new.closed ≡ old.closed → new.count ≡ old.count → new.settled ≡ false → capacities_of new.mixer.lanes ≡ capacities_of old.mixer.lanes
     → HasSession studio old events datagrams → GivesBlock studio events (session_of new) datagrams before after len → Gives studio new events datagrams before after len
-session_gives studio old new events datagrams before after len time closed count open_yet rooms s block = record {
+session_gives studio old new events datagrams before after len time closed count open_yet capacities s block = record {
   datagram = block.datagram;
   len_is = block.len_is;
   written = block.written;
-  stands = session_same studio old new events datagrams (datagrams ++ block.datagram ∷ []) time closed count open_yet rooms s block.given;
+  stands = session_same studio old new events datagrams (datagrams ++ block.datagram ∷ []) time closed count open_yet capacities s block.given;
 }
 
 -- an engine that returned the datagrams of all blocks that are ready
 pub session_stops : (studio : Studio) (old new : EngineState) (events : List TraceEvent) (datagrams : List (List ℕ))
-    → new.time ≡ old.time → new.closed ≡ old.closed → new.count ≡ old.count → new.settled ≡ false → rooms_of new.mixer.lanes ≡ rooms_of old.mixer.lanes
+    → new.time ≡ old.time → new.closed ≡ old.closed → new.count ≡ old.count → new.settled ≡ false → capacities_of new.mixer.lanes ≡ capacities_of old.mixer.lanes
     → HasSession studio old events datagrams → HasNoBlock studio events (session_of new) datagrams → HasGivenReady studio new events datagrams
-session_stops studio old new events datagrams time closed count open_yet rooms s stop = record {
-  stands = session_same studio old new events datagrams datagrams time closed count open_yet rooms s stop.given;
+session_stops studio old new events datagrams time closed count open_yet capacities s stop = record {
+  stands = session_same studio old new events datagrams datagrams time closed count open_yet capacities s stop.given;
   none = stop.none;
 }
 
 -- an engine that was closed and returned all datagrams
 pub session_settles : (studio : Studio) (old new : EngineState) (events : List TraceEvent) (datagrams : List (List ℕ))
-    → new.time ≡ old.time → new.closed ≡ old.closed → new.count ≡ old.count → old.closed ≡ true → rooms_of new.mixer.lanes ≡ rooms_of old.mixer.lanes
+    → new.time ≡ old.time → new.closed ≡ old.closed → new.count ≡ old.count → old.closed ≡ true → capacities_of new.mixer.lanes ≡ capacities_of old.mixer.lanes
     → HasSession studio old events datagrams → HasNoBlock studio events (session_of new) datagrams → HasSession studio new events datagrams
-session_settles studio old new events datagrams time closed count shut rooms s stop = record {
+session_settles studio old new events datagrams time closed count shut capacities s stop = record {
   lawful = s.lawful;
   runnable = s.runnable;
   time = time ∙ s.time;
   closed = closed ∙ s.closed;
   count = count ∙ s.count;
-  rooms = still_roomy studio old.mixer new.mixer rooms s.rooms;
+  capacities = still_sized studio old.mixer new.mixer capacities s.capacities;
   given = stop.given;
   settled = λ e. stop.left (sym s.closed ∙ shut);
 }
@@ -245,46 +245,46 @@ stops_kept studio events old new datagrams stop played open_yet = record {
 
 -- if no block is ready before a close, all marks so far are kept, and no stream has a reading that it still has to
 -- reach
-pub comes_to_rest : (studio : Studio) (old : EngineState) (mixer : MixerState) (cursors : List CursorState) (events : List TraceEvent) (datagrams : List (List ℕ)) (there : Bool) → HasSession studio old events datagrams
-    → old.closed ≡ false → rooms_of mixer.lanes ≡ rooms_of old.mixer.lanes → HaveCome old.count cursors → HasNoBlock studio events (record { mixer = mixer; cursors = cursors }) datagrams
-    → ((next : ℕ) → IsAwaited studio events next → HasRooms studio mixer → HaveTaken events cursors → HasPlayed studio events (record { mixer = mixer; cursors = cursors }) next → there ≡ true)
+pub becomes_idle : (studio : Studio) (old : EngineState) (mixer : MixerState) (cursors : List CursorState) (events : List TraceEvent) (datagrams : List (List ℕ)) (there : Bool) → HasSession studio old events datagrams
+    → old.closed ≡ false → capacities_of mixer.lanes ≡ capacities_of old.mixer.lanes → HaveCome old.count cursors → HasNoBlock studio events (record { mixer = mixer; cursors = cursors }) datagrams
+    → ((next : ℕ) → IsAwaited studio events next → HasCapacities studio mixer → HaveTaken events cursors → HasPlayed studio events (record { mixer = mixer; cursors = cursors }) next → there ≡ true)
     → not there ≡ false
-comes_to_rest studio old mixer cursors events datagrams there s open_yet rooms come stop keeps =
-    ap not (keeps (length datagrams) (record { runs = s.runnable; open_yet = sym s.closed ∙ open_yet; unready = stop.none }) (still_roomy studio old.mixer mixer rooms s.rooms)
+becomes_idle studio old mixer cursors events datagrams there s open_yet capacities come stop keeps =
+    ap not (keeps (length datagrams) (record { runs = s.runnable; open_yet = sym s.closed ∙ open_yet; unready = stop.none }) (still_sized studio old.mixer mixer capacities s.capacities)
     (taken_of events cursors old.count s.count come) stop.given.played)
 
 -- a turn that does not change the time adds no event
 pub turned_same : (old new : ℤ) (events : List TraceEvent) → new ≡ old → events ≡ turned old new events
 turned_same old new events e = by_test (int_eq old new) (grind (arith, ints, nat_tests, e))
   where
-    by_test : (b : Bool) → b ≡ true → events ≡ (if b then events else events ++ Reading new ∷ [])
+    by_test : (b : Bool) → b ≡ true → events ≡ (if b then events else events ++ Tick new ∷ [])
     by_test true e = refl
     by_test false e = absurd (false≢true e)
 
 -- a turn to a later time adds a reading
-pub turned_on : (old new : ℤ) (events : List TraceEvent) → old <ℤ new → events ++ Reading new ∷ [] ≡ turned old new events
+pub turned_on : (old new : ℤ) (events : List TraceEvent) → old <ℤ new → events ++ Tick new ∷ [] ≡ turned old new events
 turned_on old new events h = by_test (int_eq old new) (grind (arith, ints, nat_tests, h))
   where
-    by_test : (b : Bool) → b ≡ false → events ++ Reading new ∷ [] ≡ (if b then events else events ++ Reading new ∷ [])
+    by_test : (b : Bool) → b ≡ false → events ++ Tick new ∷ [] ≡ (if b then events else events ++ Tick new ∷ [])
     by_test true e = absurd (false≢true (sym e))
     by_test false e = refl
 
 -- a datagram of a turn after a reading
 pub gives_after : (first mid after : EngineState) (before between out : List ℕ) (o : Option ℕ) (now : ℤ) → between ≡ before → first.time <ℤ after.time → after.time ≡ now
-    → ((studio : Studio) (events : List TraceEvent) (datagrams : List (List ℕ)) → HasSession studio first events datagrams → HasSession studio mid (events ++ Reading now ∷ []) datagrams)
+    → ((studio : Studio) (events : List TraceEvent) (datagrams : List (List ℕ)) → HasSession studio first events datagrams → HasSession studio mid (events ++ Tick now ∷ []) datagrams)
     → IfSome o (λ len. (studio : Studio) (events : List TraceEvent) (datagrams : List (List ℕ)) → HasSession studio mid events datagrams → Gives studio after events datagrams between out len)
     → IfSome o (λ len. (studio : Studio) (events : List TraceEvent) (datagrams : List (List ℕ)) → HasSession studio first events datagrams → Gives studio after (turned first.time after.time events) datagrams before out len)
 gives_after first mid after before between out None now same later time sets gives = tt
 gives_after first mid after before between out (Some len) now same later time sets gives = λ studio events datagrams s.
     subst (λ l. Gives studio after l datagrams before out len) (turned_on first.time after.time events later)
-    (subst (λ t. Gives studio after (events ++ Reading t ∷ []) datagrams before out len) (sym time)
-    (subst (λ b. Gives studio after (events ++ Reading now ∷ []) datagrams b out len) same (gives studio (events ++ Reading now ∷ []) datagrams (sets studio events datagrams s))))
+    (subst (λ t. Gives studio after (events ++ Tick t ∷ []) datagrams before out len) (sym time)
+    (subst (λ b. Gives studio after (events ++ Tick now ∷ []) datagrams b out len) same (gives studio (events ++ Tick now ∷ []) datagrams (sets studio events datagrams s))))
 
 -- a turn after a reading, which returned no datagram
 pub ready_after : (first mid after : EngineState) (now : ℤ) → first.time <ℤ after.time → after.time ≡ now
-    → ((studio : Studio) (events : List TraceEvent) (datagrams : List (List ℕ)) → HasSession studio first events datagrams → HasSession studio mid (events ++ Reading now ∷ []) datagrams)
+    → ((studio : Studio) (events : List TraceEvent) (datagrams : List (List ℕ)) → HasSession studio first events datagrams → HasSession studio mid (events ++ Tick now ∷ []) datagrams)
     → ((studio : Studio) (events : List TraceEvent) (datagrams : List (List ℕ)) → HasSession studio mid events datagrams → HasGivenReady studio after events datagrams)
     → (studio : Studio) (events : List TraceEvent) (datagrams : List (List ℕ)) → HasSession studio first events datagrams → HasGivenReady studio after (turned first.time after.time events) datagrams
 ready_after first mid after now later time sets ready studio events datagrams s =
     subst (λ l. HasGivenReady studio after l datagrams) (turned_on first.time after.time events later)
-    (subst (λ t. HasGivenReady studio after (events ++ Reading t ∷ []) datagrams) (sym time) (ready studio (events ++ Reading now ∷ []) datagrams (sets studio events datagrams s)))
+    (subst (λ t. HasGivenReady studio after (events ++ Tick t ∷ []) datagrams) (sym time) (ready studio (events ++ Tick now ∷ []) datagrams (sets studio events datagrams s)))

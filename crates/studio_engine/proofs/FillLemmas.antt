@@ -25,7 +25,7 @@ use Rattle.studio_mix.specs.Ready.{are_covered, block_count, have_ended, is_read
 use Rattle.studio_mix.specs.Output.{datagram_of}
 use Rattle.studio_mix.proofs.LawLemmas.{ready_longer, ready_covered}
 use Rattle.path_merge.proofs.AfterCloseLemmas.{ends}
-use Rattle.studio_session.specs.Event.{TraceEvent, Arrival, Reading, Closing}
+use Rattle.studio_session.specs.Event.{TraceEvent, Arrival, Tick, Closing}
 use Rattle.studio_session.specs.Session.{Datagram, Other, event_in, stream_history}
 use Rattle.studio_session.specs.Fault.{closed_at}
 use Rattle.studio_session.specs.Cursor.{CursorState}
@@ -98,7 +98,7 @@ still_closed path WrongLength events = refl
 -- if the studio is closed, so is each stream
 pub closed_for : (stream : Stream) (number : ℕ) (closed : Bool) (events : List TraceEvent) → closed_at closed events ≡ (closed || is_closed (stream_history stream number events))
 closed_for stream number closed [] = or_none closed
-closed_for stream number closed (Reading u ∷ events) = closed_for stream number closed events
+closed_for stream number closed (Tick u ∷ events) = closed_for stream number closed events
 closed_for stream number closed (Closing ∷ events) = closed_for stream number true events ∙ sym (or_right closed true refl)
 closed_for stream number closed (Arrival s path octets ∷ events) = closed_for stream number closed events ∙ by_test (nat_eq s number)
   where

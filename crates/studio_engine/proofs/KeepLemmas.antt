@@ -7,14 +7,14 @@ use Rattle.lane_align.proofs.MarkListLemmas.{both_left, both_right}
 use Rattle.studio_config.specs.Studio.{Studio}
 use Rattle.studio_mix.specs.Feed.{Feed}
 use Rattle.rtp_stream.specs.MarkFacts.{MarkView}
-use Rattle.studio_mix.specs.Mixer.{MixerState, has_room_of}
+use Rattle.studio_mix.specs.Mixer.{MixerState, has_space_of}
 use Rattle.studio_mix.proofs.MixerLemmas.{set_same_at, set_other_at}
 use Rattle.studio_session.specs.Event.{TraceEvent}
 use Rattle.studio_session.specs.Cursor.{CursorState, next_of}
 use Rattle.studio_session.specs.Play.{HasPlayed, IsGiven, Plays}
-use Rattle.studio_engine.specs.Engine.{AreAtRest}
-use Rattle.studio_engine.specs.Near.{HasRooms, IsAwaited}
-use Rattle.studio_engine.proofs.NearLemmas.{lent_has_room}
+use Rattle.studio_engine.specs.Engine.{AreIdle}
+use Rattle.studio_engine.specs.Near.{HasCapacities, IsAwaited}
+use Rattle.studio_engine.proofs.NearLemmas.{lent_has_space}
 
 -- a session after the cursor of one stream returned more marks
 pub played_more : (studio : Studio) (events : List TraceEvent) (mixer new : MixerState) (cursors : List CursorState) (next i : ℕ) (moved : CursorState)
@@ -41,27 +41,27 @@ played_more studio events mixer new cursors next i moved played within last =
       ];
     }
 
--- one more stream has come to rest
-pub rested_more : (cursors : List CursorState) (i : ℕ) (moved : CursorState) (all kept : Bool) → i < length cursors
+-- one more stream has become idle
+pub idle_more : (cursors : List CursorState) (i : ℕ) (moved : CursorState) (all kept : Bool) → i < length cursors
     → (all ≡ true → (j : ℕ) (cursor : CursorState) → j < i → slice_get cursors j ≡ Some cursor → cursor.reading ≡ None)
     → (kept ≡ true → moved.reading ≡ None)
     → (all && kept) ≡ true → (j : ℕ) (cursor : CursorState) → j < i + 1 → slice_get (set cursors i moved) j ≡ Some cursor → cursor.reading ≡ None
-rested_more cursors i moved all kept within before last both j cursor h at = elim (cases_eq j i) [
+idle_more cursors i moved all kept within before last both j cursor h at = elim (cases_eq j i) [
   | inl e ↦
       let same : cursor ≡ moved = set_same_at cursors i moved cursor within (subst (λ k. slice_get (set cursors i moved) k ≡ Some cursor) e at) in
       ap (λ (c : CursorState). c.reading) same ∙ last (both_right all kept both)
   | inr ne ↦ before (both_left all kept both) j cursor (omega (arith, h, ne)) (set_other_at cursors i j moved cursor ne at)
 ]
 
--- all streams have come to rest
-pub all_rested : (cursors : List CursorState) (n : ℕ) → length cursors ≤ n → ((j : ℕ) (cursor : CursorState) → j < n → slice_get cursors j ≡ Some cursor → cursor.reading ≡ None) → AreAtRest cursors
-all_rested cursors n all each = λ i d within. each i (get_or cursors i d) (omega (arith, within, all)) (slice_get-get_or cursors i d within)
+-- all streams have become idle
+pub all_idle : (cursors : List CursorState) (n : ℕ) → length cursors ≤ n → ((j : ℕ) (cursor : CursorState) → j < n → slice_get cursors j ≡ Some cursor → cursor.reading ≡ None) → AreIdle cursors
+all_idle cursors n all each = λ i d within. each i (get_or cursors i d) (omega (arith, within, all)) (slice_get-get_or cursors i d within)
 
--- before a close there is room for the next mark, if there is one
-pub next_fits : (studio : Studio) (events : List TraceEvent) (mixer : MixerState) (feeds : List Feed) (next number : ℕ) (cursor : CursorState) → IsAwaited studio events next → HasRooms studio mixer
-    → number < length feeds → Plays studio events feeds next number mixer cursor → length events ≤ cursor.place → IfSome (next_of cursor) (λ mark. has_room_of mixer number mark ≡ true)
-next_fits studio events mixer feeds next number cursor awaited roomy within plays taken = by_mark (next_of cursor) refl
+-- before a close there is space for the next mark, if there is one
+pub next_fits : (studio : Studio) (events : List TraceEvent) (mixer : MixerState) (feeds : List Feed) (next number : ℕ) (cursor : CursorState) → IsAwaited studio events next → HasCapacities studio mixer
+    → number < length feeds → Plays studio events feeds next number mixer cursor → length events ≤ cursor.place → IfSome (next_of cursor) (λ mark. has_space_of mixer number mark ≡ true)
+next_fits studio events mixer feeds next number cursor awaited sized within plays taken = by_mark (next_of cursor) refl
   where
-    by_mark : (o : Option MarkView) → next_of cursor ≡ o → IfSome o (λ mark. has_room_of mixer number mark ≡ true)
+    by_mark : (o : Option MarkView) → next_of cursor ≡ o → IfSome o (λ mark. has_space_of mixer number mark ≡ true)
     by_mark None is = tt
-    by_mark (Some mark) is = lent_has_room studio events mixer feeds next number cursor mark awaited roomy within plays taken is
+    by_mark (Some mark) is = lent_has_space studio events mixer feeds next number cursor mark awaited sized within plays taken is

@@ -1,4 +1,4 @@
--- The marks of a studio's streams lie near one another: while a block is not ready, the lanes have room for all marks.
+-- The marks of a studio's streams lie near one another: while a block is not ready, the lanes have space for all marks.
 use Rattle.std.proofs.Common.{◌≡◌, ℕ, suc, ◌+◌, ◌-◌, ◌<◌, ◌≤◌, Bool, true, false, not, ◌&&◌, ◌||◌, List, [], ◌∷◌, ◌++◌, length, set, Option, Some, None, slice_get, ℤ, pos, negsuc, ◌+ℤ◌, ◌-ℤ◌, ◌≤ℤ◌, ◌<ℤ◌, All, refl, sym, ap, subst, ◌∙◌, arith, if◌then◌else◌}
 use Rattle.std.specs.Prelude.{nat_eq, nat_le, option_map}
 use Rattle.std.specs.Int.{int_max}
@@ -10,7 +10,7 @@ use Rattle.std.proofs.lemmas.List.Elements.{All-head, All-tail, All-weaker}
 use Rattle.std.proofs.lemmas.Option.{slice_get-map}
 use Rattle.rtp_stream.specs.declared.stream_spec.Stream.{Stream}
 use Rattle.rtp_stream.specs.declared.event.Event.{Event}
-use Rattle.rtp_stream.specs.declared.event.Event.TheVariants.{Tick}
+use Rattle.rtp_stream.specs.declared.event.Event.TheVariants.{Tick as StreamTick}
 use Rattle.rtp_stream.specs.declared.mark.PacketFormat.{PacketFormat}
 use Rattle.rtp_stream.specs.declared.mark.MarkKind.{MarkKind}
 use Rattle.rtp_stream.specs.declared.mark.MarkKind.TheVariants.{End, Quiet, Slot}
@@ -30,23 +30,23 @@ use Rattle.path_merge.proofs.HistoryLemmas.{time_of-append}
 use Rattle.path_merge.proofs.ClockLagLemmas.{keep_up}
 use Rattle.path_merge.proofs.LentLemmas.{lent_is_due}
 use Rattle.lane_align.specs.Cover.{cover_of, cover_to, covers, last_quiet, last_slot, quiet_of, slot_of, time_reached}
-use Rattle.lane_align.specs.Lane.{LaneState, frames_to, has_room_for, natural}
+use Rattle.lane_align.specs.Lane.{LaneState, frames_to, has_space_for, natural}
 use Rattle.lane_align.specs.declared.last_slot.LastSlot.{LastSlot}
 use Rattle.mix_packets.specs.Block.{block_start}
 use Rattle.studio_config.specs.Studio.{Studio}
 use Rattle.studio_mix.specs.Feed.{Feed}
-use Rattle.studio_mix.specs.Mixer.{HasFeeds, MixerState, has_room_of, holds_of}
+use Rattle.studio_mix.specs.Mixer.{HasFeeds, MixerState, has_space_of, holds_of}
 use Rattle.studio_mix.specs.Ready.{are_covered, have_ended}
-use Rattle.studio_mix.specs.Room.{greatest_lag, lag_of, capacity_for, room_of}
+use Rattle.studio_mix.specs.LaneCapacity.{greatest_lag, lag_of, capacity_for, capacity_of}
 use Rattle.studio_mix.proofs.MixerLemmas.{next_start}
 use Rattle.studio_session.specs.Cursor.{CursorState, IsRunnable, goal_of, next_of}
-use Rattle.studio_session.specs.Event.{Arrival, Closing, Reading, TraceEvent}
+use Rattle.studio_session.specs.Event.{Arrival, Closing, Tick, TraceEvent}
 use Rattle.studio_session.specs.Fault.{closed_at, time_at}
 use Rattle.studio_session.specs.Play.{Plays, feeds_from, feeds_of, stream_marks}
 use Rattle.studio_session.specs.ReadingSteps.{IsOnWay}
 use Rattle.studio_session.specs.Session.{Datagram, Other, event_in, stream_history}
 use Rattle.studio_session.proofs.PlayLemmas.{set_here, stream_at}
-use Rattle.studio_engine.specs.Near.{HasRooms, IsAwaited, MarksAreNear}
+use Rattle.studio_engine.specs.Near.{HasCapacities, IsAwaited, MarksAreNear}
 
 -- a datagram is no reading and no close
 datagram_time : (time : ℤ) (path : ℕ) (reception : Reception) (history : List Event) → time_of time (event_in (Datagram path reception) ++ history) ≡ time_of time history
@@ -64,7 +64,7 @@ datagram_open path WrongLength history = refl
 -- every stream's time is that of the events
 pub stream_time : (stream : Stream) (number : ℕ) (time : ℤ) (events : List TraceEvent) → time_of time (stream_history stream number events) ≡ time_at time events
 stream_time stream number time [] = refl
-stream_time stream number time (Reading u ∷ events) = stream_time stream number u events
+stream_time stream number time (Tick u ∷ events) = stream_time stream number u events
 stream_time stream number time (Closing ∷ events) = stream_time stream number time events
 stream_time stream number time (Arrival s path octets ∷ events) = by_test (nat_eq s number) ∙ stream_time stream number time events
   where
@@ -74,14 +74,14 @@ stream_time stream number time (Arrival s path octets ∷ events) = by_test (nat
 
 stays_closed : (events : List TraceEvent) → closed_at true events ≡ true
 stays_closed [] = refl
-stays_closed (Reading u ∷ events) = stays_closed events
+stays_closed (Tick u ∷ events) = stays_closed events
 stays_closed (Closing ∷ events) = stays_closed events
 stays_closed (Arrival s path octets ∷ events) = stays_closed events
 
 -- every stream is open if the events have no close
 pub stream_open : (stream : Stream) (number : ℕ) (events : List TraceEvent) → closed_at false events ≡ false → is_closed (stream_history stream number events) ≡ false
 stream_open stream number [] open_yet = refl
-stream_open stream number (Reading u ∷ events) open_yet = stream_open stream number events open_yet
+stream_open stream number (Tick u ∷ events) open_yet = stream_open stream number events open_yet
 stream_open stream number (Closing ∷ events) open_yet = absurd (let shut = stays_closed events in cc)
 stream_open stream number (Arrival s path octets ∷ events) open_yet = by_test (nat_eq s number) ∙ stream_open stream number events open_yet
   where
@@ -174,24 +174,24 @@ at_most : (z : ℤ) (n : ℕ) → z ≤ℤ pos n → natural z ≤ n
 at_most (pos k) n le = omega (arith, ints, le)
 at_most (negsuc k) n le = omega arith
 
--- a lane that lags by no more than its room allows has room for a mark that is due
-room_for : (stream : Stream) (lane : LaneState) (lag block : ℕ) (open_at time begins : ℤ) (mark : MarkView) → lane.format ≡ format_of stream → lane.position ≡ begins → lane.room ≡ capacity_for lag block stream
-    → (time -ℤ pos lag) <ℤ (begins +ℤ pos block) → IsDue stream open_at time mark.kind → has_room_for lane mark ≡ true
-room_for stream lane lag block open_at time begins mark format position room near due = by_kind mark.kind due
+-- a lane that lags by no more than its capacity allows has space for a mark that is due
+space_for : (stream : Stream) (lane : LaneState) (lag block : ℕ) (open_at time begins : ℤ) (mark : MarkView) → lane.format ≡ format_of stream → lane.position ≡ begins → lane.capacity ≡ capacity_for lag block stream
+    → (time -ℤ pos lag) <ℤ (begins +ℤ pos block) → IsDue stream open_at time mark.kind → has_space_for lane mark ≡ true
+space_for stream lane lag block open_at time begins mark format position capacity near due = by_kind mark.kind due
   where
     frames : lane.format.frames ≡ stream.frames
     frames = ap (λ (f : PacketFormat). f.frames) format
 
-    by_kind : (kind : MarkKind) → IsDue stream open_at time kind → nat_le (frames_to lane kind) lane.room ≡ true
+    by_kind : (kind : MarkKind) → IsDue stream open_at time kind → nat_le (frames_to lane kind) lane.capacity ≡ true
     by_kind (Slot epoch number media body) d =
         let split : lag ≤ (lag - stream.latency) + stream.latency = omega arith in
-        let le : ((media +ℤ pos lane.format.frames) -ℤ lane.position) ≤ℤ pos lane.room = omega (arith, ints, frames, position, room, near, d.not_after, split) in
-        let short = at_most ((media +ℤ pos lane.format.frames) -ℤ lane.position) lane.room le in
+        let le : ((media +ℤ pos lane.format.frames) -ℤ lane.position) ≤ℤ pos lane.capacity = omega (arith, ints, frames, position, capacity, near, d.not_after, split) in
+        let short = at_most ((media +ℤ pos lane.format.frames) -ℤ lane.position) lane.capacity le in
         grind (arith, nat_tests, short)
     by_kind (Quiet until) d = grind (arith, nat_tests)
     by_kind End d = absurd d
 
-module _ (studio : Studio) (events : List TraceEvent) (mixer : MixerState) (feeds : List Feed) (next : ℕ) (awaited : IsAwaited studio events next) (fed : HasFeeds studio mixer feeds next) (roomy : HasRooms studio mixer) where
+module _ (studio : Studio) (events : List TraceEvent) (mixer : MixerState) (feeds : List Feed) (next : ℕ) (awaited : IsAwaited studio events next) (fed : HasFeeds studio mixer feeds next) (sized : HasCapacities studio mixer) where
   -- once the time is past the opening, the block ends after what all streams cover
   ends_later : (i : ℕ) (stream : Stream) → slice_get studio.streams i ≡ Some stream → studio.open_at <ℤ time_at studio.open_at events → (time_at studio.open_at events -ℤ pos (greatest_lag studio.streams)) <ℤ (block_start studio.output next +ℤ pos studio.output.frames)
   ends_later i stream at past = by_lt_z _ (block_start studio.output next +ℤ pos studio.output.frames) (λ lt. lt) (λ ge. absurd (
@@ -201,10 +201,10 @@ module _ (studio : Studio) (events : List TraceEvent) (mixer : MixerState) (feed
       let all = all_covered studio.open_at events 0 studio.streams (block_start studio.output (next + 1)) (λ j s there. let n : j ≡ 0 + j = omega arith in subst (λ n. IsRunnable s n studio.open_at events) n (awaited.runs.each j s there)) awaited.open_yet past (omega (arith, ints, ge, e)) in
       cc))
 
-  -- so the lane of a stream has room for each of its marks
-  has_room : (i : ℕ) (stream : Stream) → slice_get studio.streams i ≡ Some stream → (mark : MarkView) → IsDue stream studio.open_at (time_at studio.open_at events) mark.kind → has_room_of mixer i mark ≡ true
-  has_room i stream at mark due = by_lane (slice_get mixer.lanes i) refl (slice_get feeds i) refl
-      (sym (slice_get-map (λ (lane : LaneState). lane.room) mixer.lanes i) ∙ ap (λ l. slice_get l i) roomy.rooms ∙ slice_get-map (room_of studio) studio.streams i ∙ ap (option_map (room_of studio)) at)
+  -- so the lane of a stream has space for each of its marks
+  has_space : (i : ℕ) (stream : Stream) → slice_get studio.streams i ≡ Some stream → (mark : MarkView) → IsDue stream studio.open_at (time_at studio.open_at events) mark.kind → has_space_of mixer i mark ≡ true
+  has_space i stream at mark due = by_lane (slice_get mixer.lanes i) refl (slice_get feeds i) refl
+      (sym (slice_get-map (λ (lane : LaneState). lane.capacity) mixer.lanes i) ∙ ap (λ l. slice_get l i) sized.capacities ∙ slice_get-map (capacity_of studio) studio.streams i ∙ ap (option_map (capacity_of studio)) at)
       (sym (slice_get-map (λ (feed : Feed). feed.stream) feeds i) ∙ ap (λ l. slice_get l i) fed.streams ∙ at)
     where
       past : (kind : MarkKind) → IsDue stream studio.open_at (time_at studio.open_at events) kind → studio.open_at <ℤ time_at studio.open_at events
@@ -212,19 +212,19 @@ module _ (studio : Studio) (events : List TraceEvent) (mixer : MixerState) (feed
       past (Quiet until) d = omega (arith, ints, d.after, d.not_after)
       past End d = absurd d
 
-      by_lane : (o : Option LaneState) → slice_get mixer.lanes i ≡ o → (f : Option Feed) → slice_get feeds i ≡ f → option_map (λ (lane : LaneState). lane.room) o ≡ Some (room_of studio stream) → option_map (λ (feed : Feed). feed.stream) f ≡ Some stream → holds_of (λ lane. has_room_for lane mark) o ≡ true
-      by_lane None lane_at f feed_at room is = absurd (let e : None ≡ Some (room_of studio stream) = room in cc)
-      by_lane (Some lane) lane_at None feed_at room is = absurd (let e : None ≡ Some stream = is in cc)
-      by_lane (Some lane) lane_at (Some feed) feed_at room is =
+      by_lane : (o : Option LaneState) → slice_get mixer.lanes i ≡ o → (f : Option Feed) → slice_get feeds i ≡ f → option_map (λ (lane : LaneState). lane.capacity) o ≡ Some (capacity_of studio stream) → option_map (λ (feed : Feed). feed.stream) f ≡ Some stream → holds_of (λ lane. has_space_for lane mark) o ≡ true
+      by_lane None lane_at f feed_at capacity is = absurd (let e : None ≡ Some (capacity_of studio stream) = capacity in cc)
+      by_lane (Some lane) lane_at None feed_at capacity is = absurd (let e : None ≡ Some stream = is in cc)
+      by_lane (Some lane) lane_at (Some feed) feed_at capacity is =
           let stands = fed.lanes.each i lane feed lane_at feed_at in
           let same : feed.stream ≡ stream = cc in
-          let has : lane.room ≡ room_of studio stream = cc in
-          room_for stream lane (greatest_lag studio.streams) studio.output.frames studio.open_at (time_at studio.open_at events) (block_start studio.output next) mark
+          let has : lane.capacity ≡ capacity_of studio stream = cc in
+          space_for stream lane (greatest_lag studio.streams) studio.output.frames studio.open_at (time_at studio.open_at events) (block_start studio.output next) mark
           (stands.format ∙ ap format_of same) stands.position has (ends_later i stream at (past mark.kind due)) due
 
   pub near : MarksAreNear studio events mixer
   near = record {
-    each = λ i stream at. All-weaker (λ mark. IsDue stream studio.open_at (time_at studio.open_at events) mark.kind) (λ mark. has_room_of mixer i mark ≡ true) (has_room i stream at)
+    each = λ i stream at. All-weaker (λ mark. IsDue stream studio.open_at (time_at studio.open_at events) mark.kind) (λ mark. has_space_of mixer i mark ≡ true) (has_space i stream at)
         (stream_marks stream i studio.open_at events) (kept stream i studio.open_at events (awaited.runs.each i stream at) awaited.open_yet).due;
   }
 
@@ -237,14 +237,14 @@ lent_due stream number open_at events merge None k mark run open_yet way is = ab
     let none : None ≡ Some mark = sym left ∙ is in
     cc)
 lent_due stream number open_at events merge (Some u) k mark run open_yet way is =
-    let there : u ≡ time_at open_at events = sym (time_of-append open_at way.0 (Tick u ∷ [])) ∙ way.3.time ∙ stream_time stream number open_at events in
+    let there : u ≡ time_at open_at events = sym (time_of-append open_at way.0 (StreamTick u ∷ [])) ∙ way.3.time ∙ stream_time stream number open_at events in
     subst (λ time. IsDue stream open_at time mark.kind) there (lent_is_due stream open_at u merge way.0 k run.some_frames way.1 way.2 mark is)
 
--- the lane of a cursor that took all events has room for its next mark
-pub lent_has_room : (studio : Studio) (events : List TraceEvent) (mixer : MixerState) (feeds : List Feed) (next number : ℕ) (cursor : CursorState) (mark : MarkView) → IsAwaited studio events next → HasRooms studio mixer
-    → number < length feeds → Plays studio events feeds next number mixer cursor → length events ≤ cursor.place → next_of cursor ≡ Some mark → has_room_of mixer number mark ≡ true
-lent_has_room studio events mixer feeds next number cursor mark awaited roomy within p taken is =
+-- the lane of a cursor that took all events has space for its next mark
+pub lent_has_space : (studio : Studio) (events : List TraceEvent) (mixer : MixerState) (feeds : List Feed) (next number : ℕ) (cursor : CursorState) (mark : MarkView) → IsAwaited studio events next → HasCapacities studio mixer
+    → number < length feeds → Plays studio events feeds next number mixer cursor → length events ≤ cursor.place → next_of cursor ≡ Some mark → has_space_of mixer number mark ≡ true
+lent_has_space studio events mixer feeds next number cursor mark awaited sized within p taken is =
     let at = stream_at studio mixer (set feeds number p.feed) next number p.feed p.fed (set_here feeds number p.feed within) in
     let way : IsOnWay p.feed.stream studio.open_at cursor.merge cursor.reading (stream_history p.feed.stream number events) (length p.feed.marks) = subst (λ (es : List TraceEvent). IsOnWay p.feed.stream studio.open_at cursor.merge cursor.reading (stream_history p.feed.stream number es) (length p.feed.marks)) (take_all cursor.place events taken) p.given.pulled.stands in
-    has_room studio events mixer (set feeds number p.feed) next awaited p.fed roomy number p.feed.stream at mark
+    has_space studio events mixer (set feeds number p.feed) next awaited p.fed sized number p.feed.stream at mark
     (lent_due p.feed.stream number studio.open_at events cursor.merge cursor.reading (length p.feed.marks) mark (awaited.runs.each number p.feed.stream at) awaited.open_yet way is)

@@ -27,13 +27,13 @@ abbrev pub HaveCome : ℕ → List CursorState → Type 0
 HaveCome count cursors = All (λ (cursor : CursorState). cursor.place ≡ count) cursors
 
 -- no cursor has a reading that it still has to reach
-abbrev pub AreAtRest : List CursorState → Type 0
-AreAtRest cursors = All (λ (cursor : CursorState). cursor.reading ≡ None) cursors
+abbrev pub AreIdle : List CursorState → Type 0
+AreIdle cursors = All (λ (cursor : CursorState). cursor.reading ≡ None) cursors
 
 pub record IsEngine (engine : EngineState) : Type 0 where
   pub streams : length engine.cursors ≡ length engine.mixer.lanes
   pub taken : HaveCome engine.count engine.cursors
-  pub rested : engine.turning ≡ false → AreAtRest engine.cursors
+  pub idle : engine.turning ≡ false → AreIdle engine.cursors
   pub not_early : pos 0 ≤ℤ engine.time
   pub not_late : engine.time ≤ℤ pos (2 ^ 60)
   pub few : pos engine.count ≤ℤ ((pos (2 ^ 62) +ℤ engine.time) +ℤ pos 1)
@@ -44,7 +44,7 @@ pub record IsEngine (engine : EngineState) : Type 0 where
 -- every stream has returned all its marks of the events so far: no turn is under way, and if the engine was closed, it
 -- is settled
 pub record HasAllMarks (engine : EngineState) : Type 0 where
-  pub rested : engine.turning ≡ false
+  pub idle : engine.turning ≡ false
   pub given : engine.closed ≡ true → engine.settled ≡ true
 
 -- why a datagram for a path of a stream is not taken: the stream does not have the path, or 2^62 events were taken

@@ -14,7 +14,7 @@ pub use Rattle.studio_mix.specs.Mixer
 pub use Rattle.studio_mix.specs.Feed
 pub use Rattle.studio_mix.specs.Ready
 pub use Rattle.studio_mix.specs.Blocks
-pub use Rattle.studio_mix.specs.Room
+pub use Rattle.studio_mix.specs.LaneCapacity
 pub use Rattle.studio_mix.specs.Saturated
 pub use Rattle.studio_session.specs.Event
 pub use Rattle.studio_session.specs.Cursor

@@ -4,15 +4,15 @@ use Rattle.std.specs.Ordering.{int_eq}
 use Rattle.mix_packets.specs.OutSpec.{datagram_length}
 use Rattle.studio_config.specs.Studio.{Studio}
 use Rattle.studio_mix.specs.Ready.{is_ready}
-use Rattle.studio_session.specs.Event.{TraceEvent, Reading, Closing}
+use Rattle.studio_session.specs.Event.{TraceEvent, Tick, Closing}
 use Rattle.studio_session.specs.Fault.{closed_at, session_fault_of, time_at}
 use Rattle.studio_session.specs.Play.{IsRunnableBy, feeds_of}
 use Rattle.studio_session.specs.Run.{HasGivenBlocks}
 use Rattle.studio_engine.specs.Engine.{EngineState, session_of}
 use Rattle.studio_engine.specs.Give.{HasNoMore}
-use Rattle.studio_engine.specs.Near.{HasRooms}
+use Rattle.studio_engine.specs.Near.{HasCapacities}
 
--- the engine of this studio, with room in its lanes, took these events, none of which has a fault, and returned these
+-- the engine of this studio, with space in its lanes, took these events, none of which has a fault, and returned these
 -- datagrams: those of the first blocks, each of which is ready
 pub record HasSession (studio : Studio) (engine : EngineState) (events : List TraceEvent) (datagrams : List (List ℕ)) : Type 0 where
   pub lawful : session_fault_of studio events ≡ None
@@ -20,7 +20,7 @@ pub record HasSession (studio : Studio) (engine : EngineState) (events : List Tr
   pub time : engine.time ≡ time_at studio.open_at events
   pub closed : engine.closed ≡ closed_at false events
   pub count : engine.count ≡ length events
-  pub rooms : HasRooms studio engine.mixer
+  pub capacities : HasCapacities studio engine.mixer
   pub given : HasGivenBlocks studio events (session_of engine) datagrams
   pub settled : engine.settled ≡ true → HasNoMore studio given.played.feeds (length datagrams)
 
@@ -38,7 +38,7 @@ pub record HasGivenReady (studio : Studio) (engine : EngineState) (events : List
 
 -- the events after a turn that took the time from `old` to `new`: a turn that does not change the time adds no event
 abbrev pub turned : ℤ → ℤ → List TraceEvent → List TraceEvent
-turned old new events = if int_eq old new then events else events ++ Reading new ∷ []
+turned old new events = if int_eq old new then events else events ++ Tick new ∷ []
 
 -- the events after a close: a second close adds no event
 abbrev pub shut : Bool → List TraceEvent → List TraceEvent

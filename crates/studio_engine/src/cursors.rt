@@ -22,20 +22,20 @@ ghost use Rattle.std.specs.Prelude.{
 ghost use Rattle.rtp_stream.specs.declared.stream_spec.Stream.{Stream};
 ghost use Rattle.mix_packets.specs.OutSpec.{datagram_length};
 ghost use Rattle.studio_config.specs.Studio.{Studio};
-ghost use Rattle.studio_mix.specs.Room.{rooms_of};
-ghost use Rattle.studio_session.specs.Event.{TraceEvent, Arrival, Reading, Closing};
+ghost use Rattle.studio_mix.specs.LaneCapacity.{capacities_of};
+ghost use Rattle.studio_session.specs.Event.{TraceEvent, Arrival, Tick, Closing};
 ghost use Rattle.studio_session.specs.Cursor.{CursorState, HasPulled, at_place};
 ghost use Rattle.studio_session.specs.PushedEvents.{AreHanded, HaveTaken};
-ghost use Rattle.studio_session.specs.ArriveOutcome.{receipt_of};
+ghost use Rattle.studio_session.specs.ArriveOutcome.{outcome_of};
 ghost use Rattle.studio_session.specs.Play.{AreNew, HasPlayed, IsRunnableBy};
 ghost use Rattle.studio_session.specs.Run.{HasGivenBlocks, blocks_left};
-ghost use Rattle.studio_engine.specs.Deadline.{IsAtRest, IsUnreadyBefore};
-ghost use Rattle.studio_engine.specs.Engine.{AreAtRest, HaveCome};
+ghost use Rattle.studio_engine.specs.Deadline.{IsIdle, IsUnreadyBefore};
+ghost use Rattle.studio_engine.specs.Engine.{AreIdle, HaveCome};
 ghost use Rattle.studio_engine.specs.Give.{GivesBlock, HasNoBlock};
-ghost use Rattle.studio_engine.specs.Near.{HasRooms, IsAwaited};
+ghost use Rattle.studio_engine.specs.Near.{HasCapacities, IsAwaited};
 
 use crate::deadline::reading_past;
-use crate::dispatch::{catch_up, push_close, push_datagram, push_reading};
+use crate::dispatch::{catch_up, push_close, push_datagram, push_tick};
 use crate::early_marks::keep_early_marks;
 use crate::next_block::next_datagram;
 use path_merge::Path;
@@ -114,7 +114,7 @@ impl Cursors {
         path: Path,
         octets: &[u8],
     ) -> Option<ArriveOutcome>
-        requires rested { AreAtRest self.old.cursors }
+        requires idle { AreIdle self.old.cursors }
         requires few { self.old.count < usize.MAX }
         requires path { (cursor : CursorState) → slice_get self.old.cursors stream ≡ Some cursor
             → path < cursor.spec.paths }
@@ -122,15 +122,15 @@ impl Cursors {
             self.old.cursors self.new.cursors (length self.old.cursors)) }
         ensures count { IfSome result (λ _. self.new.count ≡ self.old.count + 1) }
         ensures come { HaveCome self.new.count self.new.cursors }
-        ensures rested { AreAtRest self.new.cursors }
+        ensures idle { AreIdle self.new.cursors }
         ensures none { result ≡ None → slice_get self.old.cursors stream ≡ None }
-        ensures receipt { IfSome result (λ receipt.
+        ensures outcome { IfSome result (λ outcome.
             (cursor : CursorState) (spec : Stream) (number : ℕ) (open_at : ℤ) (events : List TraceEvent) (k : ℕ)
             → slice_get self.old.cursors stream ≡ Some cursor → self.old.count ≡ length events
             → HasPulled spec number open_at events cursor k
-            → receipt ≡ receipt_of spec number open_at events path octets.now) }
+            → outcome ≡ outcome_of spec number open_at events path octets.now) }
     {
-        let receipt = push_datagram(
+        let outcome = push_datagram(
             self.cursors.as_mut_slice(),
             self.count,
             stream,
@@ -138,30 +138,30 @@ impl Cursors {
             octets,
         )?;
         self.count += 1;
-        Some(receipt)
+        Some(outcome)
     }
 
     /// Passes a clock reading to every stream.
-    pub(crate) fn push_reading(&mut self, now: i64)
-        requires rested { AreAtRest self.old.cursors }
+    pub(crate) fn push_tick(&mut self, now: i64)
+        requires idle { AreIdle self.old.cursors }
         requires few { self.old.count < usize.MAX }
-        ensures handed { AreHanded (Reading now) self.old.cursors self.new.cursors (length self.old.cursors) }
+        ensures handed { AreHanded (Tick now) self.old.cursors self.new.cursors (length self.old.cursors) }
         ensures count { self.new.count ≡ self.old.count + 1 }
         ensures come { HaveCome self.new.count self.new.cursors }
     {
         catch_up(self.cursors.as_mut_slice(), self.count);
-        push_reading(self.cursors.as_mut_slice(), self.count, now);
+        push_tick(self.cursors.as_mut_slice(), self.count, now);
         self.count += 1;
     }
 
     /// Passes a close to every stream.
     pub(crate) fn push_close(&mut self)
-        requires rested { AreAtRest self.old.cursors }
+        requires idle { AreIdle self.old.cursors }
         requires few { self.old.count < usize.MAX }
         ensures handed { AreHanded Closing self.old.cursors self.new.cursors (length self.old.cursors) }
         ensures count { self.new.count ≡ self.old.count + 1 }
         ensures come { HaveCome self.new.count self.new.cursors }
-        ensures rested { AreAtRest self.new.cursors }
+        ensures idle { AreIdle self.new.cursors }
     {
         catch_up(self.cursors.as_mut_slice(), self.count);
         push_close(self.cursors.as_mut_slice(), self.count);
@@ -171,7 +171,7 @@ impl Cursors {
     /// Writes the next datagram of the events so far to the start of `out` and returns its length in octets, or `None`
     /// if no block is ready.
     pub(crate) fn next_datagram(&mut self, mixer: &mut Mixer, out: &mut [u8]) -> Option<usize>
-        requires room { datagram_length mixer.old.packer.spec ≤ length out.old }
+        requires space { datagram_length mixer.old.packer.spec ≤ length out.old }
         requires streams { length self.old.cursors ≡ length mixer.old.lanes }
         ensures some { IfSome result (λ len. (studio : Studio) (events : List TraceEvent) (datagrams : List (List ℕ))
             → IsRunnableBy studio events → HaveTaken events self.old.cursors
@@ -186,35 +186,35 @@ impl Cursors {
         ensures fewer { IfSome result (λ _. blocks_left mixer.new.packer < blocks_left mixer.old.packer) }
         ensures left { result ≡ None → mixer.new.packer ≡ mixer.old.packer }
         ensures kept { result ≡ None → out.new ≡ out.old }
-        ensures rested { AreAtRest self.old.cursors → AreAtRest self.new.cursors }
+        ensures idle { AreIdle self.old.cursors → AreIdle self.new.cursors }
         ensures count { self.new.count ≡ self.old.count }
         ensures come { HaveCome self.new.count self.new.cursors }
         ensures cursors { length self.new.cursors ≡ length self.old.cursors }
         ensures output { mixer.new.packer.spec ≡ mixer.old.packer.spec }
         ensures streams { length mixer.new.lanes ≡ length mixer.old.lanes }
-        ensures rooms { rooms_of mixer.new.lanes ≡ rooms_of mixer.old.lanes }
+        ensures capacities { capacities_of mixer.new.lanes ≡ capacities_of mixer.old.lanes }
     {
         catch_up(self.cursors.as_mut_slice(), self.count);
         next_datagram(mixer, self.cursors.as_mut_slice(), out)
     }
 
-    /// Keeps each stream's marks of the events so far. Returns false if a lane has no room for one.
+    /// Keeps each stream's marks of the events so far. Returns false if a lane has no space for one.
     pub(crate) fn keep_early_marks(&mut self, mixer: &mut Mixer) -> bool
         requires streams { length self.old.cursors ≡ length mixer.old.lanes }
         ensures stands { (studio : Studio) (events : List TraceEvent) (next : ℕ) → IsRunnableBy studio events
             → HasPlayed studio events (record { mixer = mixer.old; cursors = self.old.cursors }) next
             → HasPlayed studio events (record { mixer = mixer.new; cursors = self.new.cursors }) next }
         ensures all { (studio : Studio) (events : List TraceEvent) (next : ℕ)
-            → IsAwaited studio events next → HasRooms studio mixer.old → HaveTaken events self.old.cursors
+            → IsAwaited studio events next → HasCapacities studio mixer.old → HaveTaken events self.old.cursors
             → HasPlayed studio events (record { mixer = mixer.old; cursors = self.old.cursors }) next
             → result ≡ true }
-        ensures rested { result ≡ true → AreAtRest self.new.cursors }
+        ensures idle { result ≡ true → AreIdle self.new.cursors }
         ensures count { self.new.count ≡ self.old.count }
         ensures come { HaveCome self.new.count self.new.cursors }
         ensures cursors { length self.new.cursors ≡ length self.old.cursors }
         ensures packer { mixer.new.packer ≡ mixer.old.packer }
         ensures streams { length mixer.new.lanes ≡ length mixer.old.lanes }
-        ensures rooms { rooms_of mixer.new.lanes ≡ rooms_of mixer.old.lanes }
+        ensures capacities { capacities_of mixer.new.lanes ≡ capacities_of mixer.old.lanes }
     {
         catch_up(self.cursors.as_mut_slice(), self.count);
         keep_early_marks(mixer, self.cursors.as_mut_slice())
@@ -227,10 +227,10 @@ impl Cursors {
         requires not_late { time ≤ℤ pos (2 ^ 60) }
         ensures later { IfSome result (λ reading. time <ℤ reading) }
         ensures before { IfSome result (λ reading. (studio : Studio) (events : List TraceEvent) (next : ℕ)
-            → IsAtRest studio events mixer.now self.now.cursors time next
+            → IsIdle studio events mixer.now self.now.cursors time next
             → IsUnreadyBefore studio events next reading) }
         ensures never { result ≡ None → (studio : Studio) (events : List TraceEvent) (next : ℕ)
-            → IsAtRest studio events mixer.now self.now.cursors time next
+            → IsIdle studio events mixer.now self.now.cursors time next
             → IsUnreadyBefore studio events next (pos (2 ^ 60 + 1)) }
     {
         // The cursors may be behind: the events that they missed do not change their deadlines, counts or

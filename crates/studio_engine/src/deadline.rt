@@ -22,7 +22,7 @@ ghost use Rattle.path_merge.specs.Steps.{next_deadline_of};
 ghost use Rattle.studio_config.specs.Studio.{Studio};
 ghost use Rattle.studio_session.specs.Event.{TraceEvent};
 ghost use Rattle.studio_engine.specs.Cursors.{all_at};
-ghost use Rattle.studio_engine.specs.Deadline.{IsAtRest, IsNotPast, IsUnreadyBefore};
+ghost use Rattle.studio_engine.specs.Deadline.{IsIdle, IsNotPast, IsUnreadyBefore};
 
 use path_merge::clock_fault;
 use studio_mix::Mixer;
@@ -35,10 +35,10 @@ pub(crate) fn reading_past(time: i64, mixer: &Mixer, cursors: &[Cursor]) -> Opti
     requires not_late { time ≤ℤ pos (2 ^ 60) }
     ensures later { IfSome result (λ reading. time <ℤ reading) }
     ensures before { IfSome result (λ reading. (studio : Studio) (events : List TraceEvent) (next : ℕ)
-        (count : ℕ) → IsAtRest studio events mixer.now (all_at count cursors.now) time next
+        (count : ℕ) → IsIdle studio events mixer.now (all_at count cursors.now) time next
         → IsUnreadyBefore studio events next reading) }
     ensures never { result ≡ None → (studio : Studio) (events : List TraceEvent) (next count : ℕ)
-        → IsAtRest studio events mixer.now (all_at count cursors.now) time next
+        → IsIdle studio events mixer.now (all_at count cursors.now) time next
         → IsUnreadyBefore studio events next (pos (2 ^ 60 + 1)) }
 {
     let reading = latest_reading(time, mixer, cursors);
@@ -55,7 +55,7 @@ fn latest_reading(time: i64, mixer: &Mixer, cursors: &[Cursor]) -> i64
     requires not_late { time ≤ℤ pos (2 ^ 60) }
     ensures later { time <ℤ result }
     ensures before { (studio : Studio) (events : List TraceEvent) (next count : ℕ)
-        → IsAtRest studio events mixer.now (all_at count cursors.now) time next
+        → IsIdle studio events mixer.now (all_at count cursors.now) time next
         → IsUnreadyBefore studio events next result }
 {
     let end = mixer.block_end();

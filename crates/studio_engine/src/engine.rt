@@ -32,11 +32,11 @@ ghost use Rattle.mix_packets.specs.Block.{block_start};
 ghost use Rattle.mix_packets.specs.OutSpec.{datagram_length};
 ghost use Rattle.path_merge.specs.Clock.{clock_fault_of};
 ghost use Rattle.studio_config.specs.Studio.{Studio};
-ghost use Rattle.studio_session.specs.Event.{TraceEvent, Arrival, Reading, Closing};
+ghost use Rattle.studio_session.specs.Event.{TraceEvent, Arrival, Tick, Closing};
 ghost use Rattle.studio_mix.specs.Changed.{gains_fault_of, with_gains};
 ghost use Rattle.studio_mix.specs.Saturated.{AreSaturated};
 ghost use Rattle.studio_session.specs.Play.{feeds_of};
-ghost use Rattle.studio_session.specs.ArriveOutcome.{receipt_of};
+ghost use Rattle.studio_session.specs.ArriveOutcome.{outcome_of};
 ghost use Rattle.studio_session.specs.Counts as received;
 ghost use Rattle.studio_session.specs.Report.{merge_tally_of};
 ghost use Rattle.studio_session.specs.Run.{blocks_left};
@@ -109,13 +109,13 @@ impl Engine {
     pub fn new(alloc: Global, spec: &StudioSpec) -> Result<Engine, AllocError>
         ensures stands { IfOk result (λ engine. HasSession spec.now engine [] []) }
         ensures output { IfOk result (λ engine. engine.mixer.packer.spec ≡ spec.now.output) }
-        ensures rested { IfOk result (λ engine. engine.turning ≡ false) }
+        ensures idle { IfOk result (λ engine. engine.turning ≡ false) }
     {
         // Only the clause of this call is wanted.
         is_runnable(spec);
-        // With room for early marks, every merge can reach a clock reading though the next block waits for one of
+        // With space for early marks, every merge can reach a clock reading though the next block waits for one of
         // them.
-        let mixer = Mixer::with_room(alloc, spec)?;
+        let mixer = Mixer::for_early_marks(alloc, spec)?;
         let cursors = Cursors::new(alloc, spec)?;
         Ok(Engine {
             mixer,
@@ -139,10 +139,10 @@ impl Engine {
         ensures stands { OnOk result ((studio : Studio) (events : List TraceEvent) (datagrams : List (List ℕ))
             → HasSession studio self.old events datagrams
             → HasSession studio self.new (events ++ Arrival stream path octets.now ∷ []) datagrams) }
-        ensures receipt { IfOk result
-            (λ receipt. (studio : Studio) (events : List TraceEvent) (datagrams : List (List ℕ)) (spec : Stream)
+        ensures outcome { IfOk result
+            (λ outcome. (studio : Studio) (events : List TraceEvent) (datagrams : List (List ℕ)) (spec : Stream)
             → HasSession studio self.old events datagrams → slice_get studio.streams stream ≡ Some spec
-            → receipt ≡ receipt_of spec stream studio.open_at events path octets.now) }
+            → outcome ≡ outcome_of spec stream studio.open_at events path octets.now) }
         ensures fine { OnOk result (arrive_fault_of self.old stream path ≡ None) }
         ensures fault { IfErr result (λ fault. arrive_fault_of self.old stream path ≡ Some fault) }
         ensures kept { OnErr result (self.new ≡ self.old) }
@@ -153,10 +153,10 @@ impl Engine {
             return Err(fault);
         }
         // `arrive_fault` has found that there is the stream.
-        let Some(receipt) = self.cursors.push_datagram(stream, path, octets) else {
+        let Some(outcome) = self.cursors.push_datagram(stream, path, octets) else {
             unreachable!()
         };
-        Ok(receipt)
+        Ok(outcome)
     }
 
     /// Returns the reason why a datagram for a stream and a path isn't taken, or `None` if it is.
@@ -178,7 +178,7 @@ impl Engine {
     /// Call it with the same reading until it returns `None`. A turn that isn't finished is finished first. An error
     /// changes nothing: the reading goes back, is past 2^60 or comes after a close.
     pub fn turn(&mut self, now: i64, out: &mut [u8]) -> Result<Option<usize>, ClockFault>
-        requires room { datagram_length self.old.mixer.packer.spec ≤ length out.old }
+        requires space { datagram_length self.old.mixer.packer.spec ≤ length out.old }
         ensures some { IfOk result (λ given.
             IfSome given (λ len. (studio : Studio) (events : List TraceEvent) (datagrams : List (List ℕ))
             → HasSession studio self.old events datagrams
@@ -220,25 +220,25 @@ impl Engine {
 
     /// Takes a later clock reading, and passes it to every stream.
     fn set_out(&mut self, now: i64)
-        requires rested { self.old.turning ≡ false }
+        requires idle { self.old.turning ≡ false }
         requires open_yet { self.old.closed ≡ false }
         requires later { self.old.time <ℤ now }
         requires not_far { now ≤ℤ pos (2 ^ 60) }
         ensures stands { (studio : Studio) (events : List TraceEvent) (datagrams : List (List ℕ))
             → HasSession studio self.old events datagrams
-            → HasSession studio self.new (events ++ Reading now ∷ []) datagrams }
+            → HasSession studio self.new (events ++ Tick now ∷ []) datagrams }
         ensures time { self.new.time ≡ now }
         ensures closed { self.new.closed ≡ false }
         ensures packer { self.new.mixer.packer ≡ self.old.mixer.packer }
     {
-        self.cursors.push_reading(now);
+        self.cursors.push_tick(now);
         self.time = now;
         self.turning = true;
     }
 
     /// Moves the merges on to the last clock reading, and writes the next datagram.
     fn continue_turn(&mut self, out: &mut [u8]) -> Option<usize>
-        requires room { datagram_length self.old.mixer.packer.spec ≤ length out.old }
+        requires space { datagram_length self.old.mixer.packer.spec ≤ length out.old }
         requires open_yet { self.old.closed ≡ false }
         ensures some { IfSome result (λ len. (studio : Studio) (events : List TraceEvent) (datagrams : List (List ℕ))
             → HasSession studio self.old events datagrams
@@ -256,7 +256,7 @@ impl Engine {
         ensures output { self.new.mixer.packer.spec ≡ self.old.mixer.packer.spec }
     {
         let given = self.cursors.next_datagram(&mut self.mixer, out);
-        // Early marks come second: only while no block is ready are the marks near enough for all to find room
+        // Early marks come second: only while no block is ready are the marks near enough for all to find space
         // (`marks_are_near`).
         if given.is_none() {
             let there = self.cursors.keep_early_marks(&mut self.mixer);
@@ -318,7 +318,7 @@ impl Engine {
     /// Writes the next datagram that is left after a close to the start of `out`, and returns its length in octets,
     /// or `None` if none is left or the engine isn't closed.
     pub fn drain(&mut self, out: &mut [u8]) -> Option<usize>
-        requires room { datagram_length self.old.mixer.packer.spec ≤ length out.old }
+        requires space { datagram_length self.old.mixer.packer.spec ≤ length out.old }
         ensures some { IfSome result (λ len. (studio : Studio) (events : List TraceEvent) (datagrams : List (List ℕ))
             → HasSession studio self.old events datagrams
             → Gives studio self.new events datagrams out.old out.new len) }
@@ -344,7 +344,7 @@ impl Engine {
     /// finished, after a close, and if no reading up to 2^60 sampling instants leads to one.
     pub fn next_deadline(&self) -> Option<i64>
         ensures later { IfSome result (λ reading. self.now.time <ℤ reading) }
-        ensures rested { IfSome result (λ _. self.now.turning ≡ false) }
+        ensures idle { IfSome result (λ _. self.now.turning ≡ false) }
         ensures open_yet { IfSome result (λ _. self.now.closed ≡ false) }
         ensures before { IfSome result
             (λ reading. (studio : Studio) (events : List TraceEvent) (datagrams : List (List ℕ))

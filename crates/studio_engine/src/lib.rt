@@ -13,16 +13,16 @@
 #![tactic(auto)]
 
 mod cursors;
+mod datagram_laws;
 mod deadline;
 mod dispatch;
 mod early_marks;
 mod engine;
 mod fault;
-mod given;
 mod laws;
 mod next_block;
 
+pub use datagram_laws::an_engine_gives_the_datagrams_of_its_events;
 pub use engine::Engine;
 pub use fault::{ArriveFault, Unfinished};
-pub use given::an_engine_gives_the_datagrams_of_its_events;
 pub use laws::marks_are_near;

@@ -2,12 +2,12 @@
 ghost use Rattle.std.specs.Prelude.{◌≡◌, ℕ, ◌<◌, ◌≤◌, List, length, None, IfSome};
 ghost use Rattle.mix_packets.specs.OutSpec.{datagram_length};
 ghost use Rattle.studio_config.specs.Studio.{Studio};
-ghost use Rattle.studio_mix.specs.Room.{rooms_of};
+ghost use Rattle.studio_mix.specs.LaneCapacity.{capacities_of};
 ghost use Rattle.studio_session.specs.Event.{TraceEvent};
 ghost use Rattle.studio_session.specs.PushedEvents.{HaveTaken};
 ghost use Rattle.studio_session.specs.Play.{HasFilled, HasPlayed, IsRunnableBy};
 ghost use Rattle.studio_session.specs.Run.{HasGivenBlocks, blocks_left};
-ghost use Rattle.studio_engine.specs.Engine.{AreAtRest, HaveCome};
+ghost use Rattle.studio_engine.specs.Engine.{AreIdle, HaveCome};
 ghost use Rattle.studio_engine.specs.Give.{GivesBlock, HasNoBlock};
 
 use studio_mix::Mixer;
@@ -21,10 +21,10 @@ fn fill(mixer: &mut Mixer, cursors: &mut [Cursor])
         → HasPlayed studio events (record { mixer = mixer.old; cursors = cursors.old }) next
         → HasFilled studio events (record { mixer = mixer.new; cursors = cursors.new }) next (length cursors.old) }
     ensures come { (count : ℕ) → HaveCome count cursors.old → HaveCome count cursors.new }
-    ensures rested { AreAtRest cursors.old → AreAtRest cursors.new }
+    ensures idle { AreIdle cursors.old → AreIdle cursors.new }
     ensures packer { mixer.new.packer ≡ mixer.old.packer }
     ensures streams { length mixer.new.lanes ≡ length mixer.old.lanes }
-    ensures rooms { rooms_of mixer.new.lanes ≡ rooms_of mixer.old.lanes }
+    ensures capacities { capacities_of mixer.new.lanes ≡ capacities_of mixer.old.lanes }
 {
     // The loop goes by index, since a proof knows nothing of the elements after `iter_mut().enumerate()`.
     for stream in 0..cursors.len() {
@@ -48,7 +48,7 @@ pub(crate) fn next_datagram(
     cursors: &mut [Cursor],
     out: &mut [u8],
 ) -> Option<usize>
-    requires room { datagram_length mixer.old.packer.spec ≤ length out.old }
+    requires space { datagram_length mixer.old.packer.spec ≤ length out.old }
     requires streams { length cursors.old ≡ length mixer.old.lanes }
     ensures some { IfSome result (λ len. (studio : Studio) (events : List TraceEvent) (datagrams : List (List ℕ))
         → IsRunnableBy studio events → HaveTaken events cursors.old
@@ -64,10 +64,10 @@ pub(crate) fn next_datagram(
     ensures left { result ≡ None → mixer.new.packer ≡ mixer.old.packer }
     ensures kept { result ≡ None → out.new ≡ out.old }
     ensures come { (count : ℕ) → HaveCome count cursors.old → HaveCome count cursors.new }
-    ensures rested { AreAtRest cursors.old → AreAtRest cursors.new }
+    ensures idle { AreIdle cursors.old → AreIdle cursors.new }
     ensures output { mixer.new.packer.spec ≡ mixer.old.packer.spec }
     ensures streams { length mixer.new.lanes ≡ length mixer.old.lanes }
-    ensures rooms { rooms_of mixer.new.lanes ≡ rooms_of mixer.old.lanes }
+    ensures capacities { capacities_of mixer.new.lanes ≡ capacities_of mixer.old.lanes }
 {
     fill(mixer, cursors);
     has_frames(mixer);

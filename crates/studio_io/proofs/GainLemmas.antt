@@ -6,9 +6,9 @@ use Rattle.std.proofs.lemmas.List.{take-append-drop}
 use Rattle.std.proofs.lemmas.Nat.{mul-le}
 use Rattle.gain_mix.specs.Changes.{Changes, matrix_at}
 use Rattle.gain_mix.specs.Gain.{ins_of, rows_of}
-use Rattle.gain_mix.specs.Live.{change_fault_of}
-use Rattle.gain_mix.specs.declared.live.ChangeFault.{ChangeFault}
-use Rattle.gain_mix.specs.declared.live.ChangeFault.TheVariants.{Shape}
+use Rattle.gain_mix.specs.LiveSchedule.{change_fault_of}
+use Rattle.gain_mix.specs.declared.live_schedule.ChangeFault.{ChangeFault}
+use Rattle.gain_mix.specs.declared.live_schedule.ChangeFault.TheVariants.{Shape}
 use Rattle.studio_io.specs.Gains.{answer_at, change_answer, fits_request, fitting_answer, gains_in, is_change, wanted_gains}
 use Rattle.studio_io.specs.declared.gain_source.GainAction.{GainAction}
 use Rattle.studio_io.specs.declared.gain_source.GainAnswer.TheVariants.{Refused, Shown}

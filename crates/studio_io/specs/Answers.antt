@@ -29,10 +29,10 @@ Tells (next ∷ told) octets answer rest = (answer_of octets answer ≡ next) ×
 
 -- a datagram is at most as long as the buffer
 abbrev pub IsWithin : FeedAnswer → ℕ → Type 0
-IsWithin (Datagram n) room = n ≤ room
-IsWithin Nothing room = Unit {0}
-IsWithin Fault room = Unit {0}
-IsWithin Ended room = Unit {0}
+IsWithin (Datagram n) capacity = n ≤ capacity
+IsWithin Nothing capacity = Unit {0}
+IsWithin Fault capacity = Unit {0}
+IsWithin Ended capacity = Unit {0}
 
 -- whether a feed ends with these results, after `faults` faults in a row: it says so, or fails 1,000 times in a row
 unfoldable pub reaches_end : ℕ → List Answer → Bool

@@ -3,9 +3,9 @@ use Rattle.std.specs.Prelude.{◌≡◌, ℕ, ◌+◌, ◌*◌, ◌&&◌, ◌==�
 use Rattle.std.specs.Int.{int_max}
 use Rattle.gain_mix.specs.Changes.{Changes, matrix_at}
 use Rattle.gain_mix.specs.Gain.{ins_of}
-use Rattle.gain_mix.specs.Live.{change_fault_of}
-use Rattle.gain_mix.specs.declared.live.ChangeFault.{ChangeFault}
-use Rattle.gain_mix.specs.declared.live.ChangeFault.TheVariants.{Shape}
+use Rattle.gain_mix.specs.LiveSchedule.{change_fault_of}
+use Rattle.gain_mix.specs.declared.live_schedule.ChangeFault.{ChangeFault}
+use Rattle.gain_mix.specs.declared.live_schedule.ChangeFault.TheVariants.{Shape}
 use Rattle.studio_io.specs.declared.gain_source.GainAction.{GainAction}
 use Rattle.studio_io.specs.declared.gain_source.GainAction.TheVariants.{SetAll, SetOne, Show}
 use Rattle.studio_io.specs.declared.gain_source.GainAnswer.{GainAnswer}

@@ -11,4 +11,4 @@ pub use Rattle.rtp_stream.specs.PathCounts
 pub use Rattle.rtp_stream.specs.Marks
 pub use Rattle.gain_mix.specs.Gain
 pub use Rattle.gain_mix.specs.Changes
-pub use Rattle.gain_mix.specs.Live
+pub use Rattle.gain_mix.specs.LiveSchedule

@@ -9,7 +9,7 @@ pub enum FeedAnswer {
     Datagram(usize),
     /// No datagram has arrived yet.
     Nothing,
-    /// The device failed. After 1,000 faults in a row, with a rest after each, the feed is not called again.
+    /// The device failed. After 1,000 faults in a row, with a pause after each, the feed is not called again.
     Fault,
     /// No datagram will arrive any more.
     Ended,
@@ -29,7 +29,7 @@ pub trait Feed: Drop {
 
     /// Returns true if `next` waits by itself before it returns `Nothing`. The path's worker then calls it again at
     /// once.
-    // A rest of the worker in addition would delay the datagrams that arrive meanwhile.
+    // A pause of the worker in addition would delay the datagrams that arrive meanwhile.
     fn waits(&self) -> bool {
         false
     }

@@ -5,7 +5,7 @@ ghost use Rattle.studio_io.specs.FeedStates.{Notes, NotesFault, faults_in, new_s
 use crate::feed::FeedAnswer;
 
 /// The number of faults in a row that end a feed.
-// After each of them a run rests for up to 2 ms, so a device may fail for two seconds before its path is given up.
+// After each of them a run pauses for up to 2 ms, so a device may fail for two seconds before its path is given up.
 const MAX_FAULTS_IN_A_ROW: u32 = 1_000;
 
 /// The state of reading a feed.

@@ -2,7 +2,7 @@
 use crate::explanation::{Explanation, explained};
 use crate::fault::ProgramFault;
 use crate::live_host::LiveHost;
-use crate::run_files::{RunFiles, files_of};
+use crate::run_files::{RunPaths, files_of};
 use crate::token_file::token_of;
 use command_line::LiveArgs;
 use file_commands::{CommandFault, output_result, parse_studio, table_in};
@@ -124,7 +124,7 @@ fn run_loaded<
     rt: &R,
     alloc: Global,
     loaded: &LoadedRun<'_>,
-    files: RunFiles<'_, '_, H>,
+    files: RunPaths<'_, '_, H>,
     token: Option<Token>,
     output: &mut W,
     faults: &mut H::Stderr,

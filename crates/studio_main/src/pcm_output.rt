@@ -9,13 +9,13 @@ use std::os::fd::AsRawFd;
 use std::os::unix::fs::FileTypeExt;
 use std::{fs, io};
 use studio_io::{OutputEnd, OutputKind};
-use wav_file::{PcmOutput, PcmRoom};
+use wav_file::{PcmOutput, PcmSpace};
 
 /// The descriptor of standard output.
 const STDOUT: i32 = 1;
 
 /// The greatest number of octets that are written at once.
-// PIPE_BUF of Linux: a pipe that poll(2) reports as ready has room for this many octets, so the write does not block.
+// PIPE_BUF of Linux: a pipe that poll(2) reports as ready has space for this many octets, so the write does not block.
 const MAX_WRITE: usize = 4096;
 
 /// The output of a live run's raw PCM, which reports its end on standard error.
@@ -82,7 +82,7 @@ impl Write for SystemPcm {
 }
 
 impl PcmOutput for SystemPcm {
-    fn room(&mut self, milliseconds: u32) -> PcmRoom {
+    fn space(&mut self, milliseconds: u32) -> PcmSpace {
         let mut polled = [pollfd {
             fd: self.descriptor(),
             events: POLLOUT,
@@ -90,18 +90,18 @@ impl PcmOutput for SystemPcm {
         }];
         let timeout = i32::try_from(milliseconds).unwrap_or(i32::MAX);
         if libc::net::poll(&mut polled, timeout) <= 0 {
-            return PcmRoom::Full;
+            return PcmSpace::Full;
         }
         if polled[0].revents & POLLERR == 0 {
             // A descriptor that cannot be written is ready too: the write then says why.
             self.is_unread = false;
-            return PcmRoom::Ready;
+            return PcmSpace::Ready;
         }
         // A pipe reports an error exactly while nobody reads it.
         if self.is_unread {
-            PcmRoom::Unread
+            PcmSpace::Unread
         } else {
-            PcmRoom::Closed
+            PcmSpace::Closed
         }
     }
 

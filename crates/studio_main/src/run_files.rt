@@ -22,7 +22,7 @@ pub(crate) struct RunPath<'h, 'p, H> {
 
 /// The paths at which a run creates its files, each if it is wanted.
 #[derive(Drop)]
-pub(crate) struct RunFiles<'h, 'p, H> {
+pub(crate) struct RunPaths<'h, 'p, H> {
     record: Option<RunPath<'h, 'p, H>>,
     wav: Option<RunPath<'h, 'p, H>>,
     pcm: Option<RunPath<'h, 'p, H>>,
@@ -36,13 +36,13 @@ type RunOutputs<'a, P> = (
     (Option<WavOutput<'a, P>>, Option<RawPcmOutput<'a, P>>),
 );
 
-impl<'h, 'p, H> RunFiles<'h, 'p, H> {
+impl<'h, 'p, H> RunPaths<'h, 'p, H> {
     /// Returns the outputs that are written to these files, and set this progress.
     pub(crate) fn outputs<'a>(
         self,
         progress: &'a RunProgress,
     ) -> RunOutputs<'a, RunPath<'h, 'p, H>> {
-        let RunFiles {
+        let RunPaths {
             record,
             wav,
             pcm,
@@ -113,7 +113,7 @@ pub(crate) fn files_of<'h, 'p, H: LiveHost>(
     host: &'h H,
     args: LiveArgs<'p>,
     parts: Option<AudioParts>,
-) -> Result<RunFiles<'h, 'p, H>, ProgramFault> {
+) -> Result<RunPaths<'h, 'p, H>, ProgramFault> {
     let begins = parts.map(|parts| parts.at);
     match (args.wav, begins) {
         (Some(path), Some(at)) => {
@@ -123,7 +123,7 @@ pub(crate) fn files_of<'h, 'p, H: LiveHost>(
         _ => refuse_files(host, args, args.wav)?,
     }
     let place = |path| RunPath { host, path, begins };
-    Ok(RunFiles {
+    Ok(RunPaths {
         record: args.record.map(place),
         wav: args.wav.map(place),
         pcm: args.pcm.map(place),

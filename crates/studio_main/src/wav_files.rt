@@ -68,7 +68,7 @@ impl WavFiles for SystemWavFiles<'_> {
     }
 
     fn next(&mut self, file: &mut SystemAudio, at: u64) -> Result<(), LiveWavFault> {
-        // Not for a run of one file, which has room for more blocks than a run has.
+        // Not for a run of one file, which has space for more blocks than a run has.
         *file = self.create_part(at)?;
         Ok(())
     }

@@ -17,7 +17,7 @@ use Rattle.lane_align.specs.Lane.{LaneState, HasFeed, HasSameFacts}
 use Rattle.gain_mix.specs.Mix.{Is24Bits}
 use Rattle.studio_mix.specs.Feed.{Feed, studio_values}
 use Rattle.studio_mix.specs.Lanes.{AreFed, AreRead, IsLaneAt, lane_channels}
-use Rattle.studio_mix.specs.Room.{rooms_of}
+use Rattle.studio_mix.specs.LaneCapacity.{capacities_of}
 use Rattle.studio_mix.proofs.MixerLemmas.{AreFedTo, fed_set, fed_at}
 use Rattle.studio_mix.proofs.RowLemmas.{row_at}
 
@@ -44,7 +44,7 @@ pub record IsRead (first lanes : List LaneState) (ins : List ℤ) (frames width 
   pub others : (k : ℕ) (d : LaneState) → i ≤ k → get_or lanes k d ≡ get_or first k d
   pub moved : (time : ℤ) → All (IsLaneAt frames time) first → (k : ℕ) (d : LaneState) → k < i → k < length lanes → IsLaneAt frames (time +ℤ pos frames) (get_or lanes k d)
   pub channels : lane_channels lanes ≡ lane_channels first
-  pub rooms : rooms_of lanes ≡ rooms_of first
+  pub capacities : capacities_of lanes ≡ capacities_of first
   pub fed : (from : ℤ) (feeds : List Feed) (t : ℤ) → AreFed from frames first feeds t → AreFedTo from frames lanes feeds (moved_to t frames i)
   pub laid : (from : ℤ) (feeds : List Feed) (t : ℤ) → AreFed from frames first feeds t → (f : ℕ) → f < frames
       → take at (drop (f * width) ins) ≡ studio_values (take i feeds) (t +ℤ pos f)
@@ -90,7 +90,7 @@ read_start lanes ins frames width in_24_bits = record {
   others = λ k d h. refl;
   moved = λ time each k d h. absurd (omega arith);
   channels = refl;
-  rooms = refl;
+  capacities = refl;
   fed = λ from feeds t fed. record { count = fed.count; each = λ i lane feed l f. subst (HasFeed feed.stream from frames lane feed.marks) (sym (not_moved t frames 0 i (omega arith))) (fed.each i lane feed l f) };
   laid = λ from feeds t fed f h. refl;
   in_24_bits = in_24_bits;
@@ -127,7 +127,7 @@ read_more first lanes ins laid frames width at i c lane next values before h is 
           let f : lane_channels (set lanes i next) + lane.format.channels ≡ lane_channels lanes + next.format.channels = ap (λ (l : LaneState). lane_channels (set lanes i next) + l.format.channels) is ∙ e in
           let g : next.format.channels ≡ lane.format.channels = ap (λ (f : PacketFormat). f.channels) facts in
           let r : lane_channels (set lanes i next) ≡ lane_channels lanes = omega (arith, f, g) in r) ∙ before.channels;
-      rooms = map-set_same (λ (l : LaneState). l.room) lanes i next lane (reads.facts.room ∙ ap (λ (l : LaneState). l.room) is) ∙ before.rooms;
+      capacities = map-set_same (λ (l : LaneState). l.capacity) lanes i next lane (reads.facts.capacity ∙ ap (λ (l : LaneState). l.capacity) is) ∙ before.capacities;
       fed = λ from feeds t fed.
           let so_far = before.fed from feeds t fed in
           let many = so_far.count in
@@ -176,7 +176,7 @@ were_read first lanes ins frames width at i read all wide =
       stands = λ from feeds t fed. let many = fed.count in read_all from frames lanes feeds t i (read.fed from feeds t fed) (omega (arith, many, all));
       moved = λ time each k d h. read.moved time each k d (omega (arith, count, h, all)) h;
       channels = read.channels;
-      rooms = read.rooms;
+      capacities = read.capacities;
       in_24_bits = read.in_24_bits;
     }
 

@@ -6,7 +6,7 @@ use Rattle.gain_mix.specs.Changes.{Changes, matrix_at, rest_at, with_change}
 use Rattle.gain_mix.specs.Gain.{ins_of}
 use Rattle.gain_mix.specs.Mix.{mixed_frame}
 use Rattle.gain_mix.specs.Saturated.{saturated_at}
-use Rattle.gain_mix.proofs.LiveLemmas.{matrix_at_rest, rest_with_change, unchanged_before}
+use Rattle.gain_mix.proofs.LiveScheduleLemmas.{matrix_at_rest, rest_with_change, unchanged_before}
 use Rattle.mix_packets.specs.Block.{block_start, block_datagram}
 use Rattle.mix_packets.specs.OutSpec.{shift_of}
 use Rattle.studio_config.specs.Studio.{Studio}

@@ -5,7 +5,7 @@ pub mod RowLemmas
 pub mod BlockLemmas
 pub mod NextLemmas
 pub mod NewLemmas
-pub mod RoomLemmas
+pub mod CapacityLemmas
 pub mod LawLemmas
 pub mod SaturatedLemmas
 pub mod FirstBlockLemmas

@@ -14,20 +14,20 @@ use Rattle.lane_align.specs.Lane.{LaneState, HasFeed}
 use Rattle.studio_config.specs.Studio.{channel_total}
 use Rattle.studio_mix.specs.Feed.{Feed, unfed}
 use Rattle.studio_mix.specs.Lanes.{AreFed, IsLaneAt, lane_channels}
-use Rattle.studio_mix.specs.Room.{capacity_for, rooms_of}
+use Rattle.studio_mix.specs.LaneCapacity.{capacity_for, capacities_of}
 
 pub record AreNew (start : ℤ) (block lag : ℕ) (streams : List Stream) (lanes : List LaneState) (i : ℕ) : Type 0 where
   pub count : length lanes ≡ i
   pub each : All (IsLaneAt block start) lanes
   pub channels : lane_channels lanes ≡ channel_total (take i streams)
-  pub rooms : rooms_of lanes ≡ map (capacity_for lag block) (take i streams)
+  pub capacities : capacities_of lanes ≡ map (capacity_for lag block) (take i streams)
   pub fed : (k : ℕ) (lane : LaneState) (stream : Stream) → slice_get lanes k ≡ Some lane → slice_get streams k ≡ Some stream → HasFeed stream start block lane [] start
 
 pub new_more : (start : ℤ) (block lag : ℕ) (streams : List Stream) (lanes : List LaneState) (i : ℕ) (stream : Stream) (lane : LaneState)
     → AreNew start block lag streams lanes i → i < length streams → stream ≡ get_or streams i stream
-    → HasFeed stream start block lane [] start → lane.room ≡ capacity_for lag block stream → 0 < lane.format.channels → lane.format.channels ≤ 64
+    → HasFeed stream start block lane [] start → lane.capacity ≡ capacity_for lag block stream → 0 < lane.format.channels → lane.format.channels ≤ 64
     → AreNew start block lag streams (lanes ++ lane ∷ []) (i + 1)
-new_more start block lag streams lanes i stream lane before h is new room some few =
+new_more start block lag streams lanes i stream lane before h is new capacity some few =
     let count = before.count in
     record {
       count = length_push lanes lane ∙ ap (λ k. k + 1) before.count;
@@ -37,10 +37,10 @@ new_more start block lag streams lanes i stream lane before h is new room some f
           ∙ ap (λ k. k + lane.format.channels) before.channels
           ∙ ap (λ k. channel_total (take i streams) + k) (ap (λ (f : PacketFormat). f.channels) new.format ∙ ap (λ (s : Stream). s.channels) is)
           ∙ sym (sum_by_more (λ (s : Stream). s.channels) streams i stream h);
-      rooms =
-          map_push (λ (l : LaneState). l.room) lanes lane
-          ∙ ap (λ rs. rs ++ lane.room ∷ []) before.rooms
-          ∙ ap (λ r. map (capacity_for lag block) (take i streams) ++ r ∷ []) (room ∙ ap (capacity_for lag block) is)
+      capacities =
+          map_push (λ (l : LaneState). l.capacity) lanes lane
+          ∙ ap (λ rs. rs ++ lane.capacity ∷ []) before.capacities
+          ∙ ap (λ r. map (capacity_for lag block) (take i streams) ++ r ∷ []) (capacity ∙ ap (capacity_for lag block) is)
           ∙ sym (map_push (capacity_for lag block) (take i streams) (get_or streams i stream))
           ∙ ap (map (capacity_for lag block)) (sym (take_more streams i stream h));
       fed = λ k l s l_is s_is.
@@ -79,9 +79,9 @@ pub all_channels : (start : ℤ) (block lag : ℕ) (streams : List Stream) (lane
     → lane_channels lanes ≡ channel_total streams
 all_channels start block lag streams lanes i new e = new.channels ∙ ap channel_total (take_all i streams (omega arith))
 
-pub all_rooms : (start : ℤ) (block lag : ℕ) (streams : List Stream) (lanes : List LaneState) (i : ℕ) → AreNew start block lag streams lanes i → i ≡ length streams
-    → rooms_of lanes ≡ map (capacity_for lag block) streams
-all_rooms start block lag streams lanes i new e = new.rooms ∙ ap (map (capacity_for lag block)) (take_all i streams (omega (arith)))
+pub all_capacities : (start : ℤ) (block lag : ℕ) (streams : List Stream) (lanes : List LaneState) (i : ℕ) → AreNew start block lag streams lanes i → i ≡ length streams
+    → capacities_of lanes ≡ map (capacity_for lag block) streams
+all_capacities start block lag streams lanes i new e = new.capacities ∙ ap (map (capacity_for lag block)) (take_all i streams (omega (arith)))
 
 pub unfed_streams : (streams : List Stream) → map (λ (feed : Feed). feed.stream) (unfed streams) ≡ streams
 unfed_streams [] = refl

@@ -9,7 +9,7 @@ use Rattle.rtp_wire.specs.declared.encoding.Enc.TheVariants.{L16, L24}
 use Rattle.rtp_wire.specs.Sample.{FitsEncoding}
 use Rattle.lane_align.specs.Lane.{LaneState}
 use Rattle.gain_mix.specs.Changes.{Changes, matrix_at, rest_at}
-use Rattle.gain_mix.proofs.LiveLemmas.{rest_rest}
+use Rattle.gain_mix.proofs.LiveScheduleLemmas.{rest_rest}
 use Rattle.gain_mix.specs.Gain.{ins_of}
 use Rattle.gain_mix.specs.Mix.{Is24Bits, IsMixed, mixed_frame, output_sample, rounded_sum, saturated_sum, weighted_sum}
 use Rattle.mix_packets.specs.declared.out_spec.Output.{Output}
@@ -104,9 +104,9 @@ next_sound mixer out time one ins outs lanes packer one' ins' outs' later counts
   some_lanes = let s = sound.some_lanes in omega (arith, s, count);
   width = wide ∙ sound.width ∙ sym channels;
   height = high ∙ sound.height;
-  one_room = len_one ∙ sound.one_room;
-  ins_room = len_ins ∙ sound.ins_room ∙ ap (λ w. out.frames * w) (sym wide);
-  outs_room = len_outs ∙ sound.outs_room;
+  one_length = len_one ∙ sound.one_length;
+  ins_length = len_ins ∙ sound.ins_length ∙ ap (λ w. out.frames * w) (sym wide);
+  outs_length = len_outs ∙ sound.outs_length;
   in_24_bits = in_24_bits;
   counts = len_counts ∙ sound.counts;
 }

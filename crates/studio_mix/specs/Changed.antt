@@ -2,8 +2,8 @@
 use Rattle.std.specs.Prelude.{ℤ, List, [], ◌∷◌, map, Option}
 use Rattle.gain_mix.specs.Changes.{Changes, with_change}
 use Rattle.gain_mix.specs.Gain.{rows_of}
-use Rattle.gain_mix.specs.Live.{change_fault_of}
-use Rattle.gain_mix.specs.declared.live.ChangeFault.{ChangeFault}
+use Rattle.gain_mix.specs.LiveSchedule.{change_fault_of}
+use Rattle.gain_mix.specs.declared.live_schedule.ChangeFault.{ChangeFault}
 use Rattle.mix_packets.specs.Block.{block_start}
 use Rattle.studio_config.specs.Studio.{Studio, channel_total}
 use Rattle.studio_mix.specs.Mixer.{MixerState}

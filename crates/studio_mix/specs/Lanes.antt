@@ -4,7 +4,7 @@ use Rattle.lane_align.specs.Cover.{covers}
 use Rattle.lane_align.specs.Lane.{LaneState, HasFeed, cover_at, end_at}
 use Rattle.gain_mix.specs.Mix.{Is24Bits}
 use Rattle.studio_mix.specs.Feed.{Feed, studio_values}
-use Rattle.studio_mix.specs.Room.{rooms_of}
+use Rattle.studio_mix.specs.LaneCapacity.{capacities_of}
 
 -- each lane was fed its stream's marks, and has come to this time
 pub record AreFed (from : ℤ) (size : ℕ) (lanes : List LaneState) (feeds : List Feed) (t : ℤ) : Type 0 where
@@ -42,5 +42,5 @@ pub record AreRead (old new : List LaneState) (ins : List ℤ) (frames width : �
   pub stands : (from : ℤ) (feeds : List Feed) (t : ℤ) → AreFed from frames old feeds t → AreFed from frames new feeds (t +ℤ pos frames)
   pub moved : (time : ℤ) → All (IsLaneAt frames time) old → All (IsLaneAt frames (time +ℤ pos frames)) new
   pub channels : lane_channels new ≡ lane_channels old
-  pub rooms : rooms_of new ≡ rooms_of old
+  pub capacities : capacities_of new ≡ capacities_of old
   pub in_24_bits : All Is24Bits ins

@@ -4,7 +4,7 @@ pub mod Ready
 pub mod Output
 pub mod Blocks
 pub mod Lanes
-pub mod Room
+pub mod LaneCapacity
 pub mod Saturated
 pub mod Mixer
 pub mod Changed

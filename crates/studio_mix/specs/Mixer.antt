@@ -1,7 +1,7 @@
 -- The state of a mixer, and what holds after its lanes were fed marks and it has come to a block.
 use Rattle.std.specs.Prelude.{◌≡◌, ℕ, ◌+◌, ◌*◌, ◌^◌, ◌≤◌, Bool, false, ℤ, pos, ◌+ℤ◌, ◌≤ℤ◌, List, length, map, slice_get, Option, Some, None, All}
 use Rattle.rtp_stream.specs.MarkFacts.{MarkView}
-use Rattle.lane_align.specs.Lane.{LaneState, has_room_for, is_next, is_wanting}
+use Rattle.lane_align.specs.Lane.{LaneState, has_space_for, is_next, is_wanting}
 use Rattle.gain_mix.specs.Gain.{ins_of}
 use Rattle.gain_mix.specs.Mix.{Is24Bits}
 use Rattle.gain_mix.specs.Changes.{Changes, rest_at}
@@ -49,9 +49,9 @@ is_wanted_by mixer stream = holds_of (λ lane. is_wanting lane (lane.position +�
 abbrev pub is_next_of : MixerState → ℕ → MarkView → Bool
 is_next_of mixer stream mark = holds_of (λ lane. is_next lane mark) (slice_get mixer.lanes stream)
 
--- there is room for the mark, even if the next block needs no more marks of the stream
-abbrev pub has_room_of : MixerState → ℕ → MarkView → Bool
-has_room_of mixer stream mark = holds_of (λ lane. has_room_for lane mark) (slice_get mixer.lanes stream)
+-- there is space for the mark, even if the next block needs no more marks of the stream
+abbrev pub has_space_of : MixerState → ℕ → MarkView → Bool
+has_space_of mixer stream mark = holds_of (λ lane. has_space_for lane mark) (slice_get mixer.lanes stream)
 
 -- what holds for every mixer
 pub record IsMixer (mixer : MixerState) (out : Output) (time : ℤ) (one ins outs : List ℤ) : Type 0 where
@@ -63,8 +63,8 @@ pub record IsMixer (mixer : MixerState) (out : Output) (time : ℤ) (one ins out
   pub some_lanes : 1 ≤ length mixer.lanes
   pub width : ins_of mixer.schedule.first ≡ lane_channels mixer.lanes
   pub height : length mixer.schedule.first ≡ out.channels
-  pub one_room : length one ≡ out.frames * 64
-  pub ins_room : length ins ≡ out.frames * ins_of mixer.schedule.first
-  pub outs_room : length outs ≡ sample_total out
+  pub one_length : length one ≡ out.frames * 64
+  pub ins_length : length ins ≡ out.frames * ins_of mixer.schedule.first
+  pub outs_length : length outs ≡ sample_total out
   pub in_24_bits : All Is24Bits ins
   pub counts : length mixer.saturated ≡ out.channels

@@ -7,7 +7,7 @@ ghost use Rattle.lane_align.specs.Lane.{LaneState, cover_at};
 ghost use Rattle.gain_mix.specs.Mix.{Is24Bits};
 ghost use Rattle.studio_config.specs.Studio.{channel_total};
 ghost use Rattle.studio_mix.specs.Feed.{unfed};
-ghost use Rattle.studio_mix.specs.Room.{capacity_for, rooms_of};
+ghost use Rattle.studio_mix.specs.LaneCapacity.{capacity_for, capacities_of};
 ghost use Rattle.studio_mix.specs.Lanes.{AreFed, AreRead, IsLaneAt, IsReadyLane, lane_channels, reaches_past};
 
 use crate::interleave::lay_stream;
@@ -16,7 +16,7 @@ use lane_align::{Cover, Lane};
 use rtp_stream::StreamSpec;
 use std::alloc::{AllocError, Global};
 
-/// Returns a lane for each stream, without marks, and with room next to a stream of this lag, in frames.
+/// Returns a lane for each stream, without marks, and with space next to a stream of this lag, in frames.
 pub(crate) fn new_lanes(
     alloc: Global,
     streams: &[StreamSpec],
@@ -32,12 +32,12 @@ pub(crate) fn new_lanes(
     ensures each { IfOk result (λ lanes. All (IsLaneAt block start) lanes.items) }
     ensures channels { IfOk result (λ lanes. lane_channels lanes.items ≡ channel_total streams.now) }
     ensures count { IfOk result (λ lanes. length lanes.items ≡ length streams.now) }
-    ensures rooms { IfOk result (λ lanes. rooms_of lanes.items ≡ map (capacity_for lag block) streams.now) }
+    ensures capacities { IfOk result (λ lanes. capacities_of lanes.items ≡ map (capacity_for lag block) streams.now) }
 {
     let mut lanes = Vec::new(alloc);
     for stream in streams {
-        let room = capacity_for(stream, block, lag);
-        let lane = Lane::with_room(alloc, *stream, start, block, room)?;
+        let capacity = capacity_for(stream, block, lag);
+        let lane = Lane::with_capacity(alloc, *stream, start, block, capacity)?;
         // Only the clauses of this call are wanted: they bound the channels of every lane.
         let _format = lane.format();
         lanes.push(lane)?;

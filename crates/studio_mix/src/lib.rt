@@ -10,8 +10,8 @@
 //!
 //! After all streams have ended, `next_block` writes the blocks that are left.
 //!
-//! `Mixer::with_room` makes a mixer that also takes marks before they are wanted: `keep_ref` takes a
-//! mark if the mixer `has_room` for it.
+//! `Mixer::for_early_marks` makes a mixer that also takes marks before they are wanted: `keep_ref` takes a
+//! mark if the mixer `has_space` for it.
 //!
 //! `change_gains` changes the gains between blocks. `answer_request` answers a request of a
 //! `GainSource`, which may ask for such a change.

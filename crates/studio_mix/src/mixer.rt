@@ -39,7 +39,7 @@ ghost use Rattle.lane_align.specs.Cover.{covers, cover_of};
 ghost use Rattle.mix_packets.specs.OutSpec.{datagram_length};
 ghost use Rattle.mix_packets.specs.Block.{block_start};
 ghost use Rattle.studio_mix.specs.Lanes.{IsReadyLane};
-ghost use Rattle.studio_mix.specs.Room.{capacity_for, room_of, rooms_of};
+ghost use Rattle.studio_mix.specs.LaneCapacity.{capacity_for, capacity_of, capacities_of};
 ghost use Rattle.studio_config.specs.Studio.{Studio};
 ghost use Rattle.studio_mix.specs.Feed.{Feed, unfed};
 ghost use Rattle.studio_mix.specs.Ready.{is_ready};
@@ -60,9 +60,9 @@ use studio_config::StudioSpec;
 /// A mixer of a studio's streams: a lane for each stream, the gains and the output, block by block.
 ///
 /// While the mixer `wants` a mark of a stream, `feed` takes one that it `accepts`. `feed_ref` and `accepts_ref` do so
-/// with a borrowed mark. `keep_ref` takes a mark before it is wanted, if the mixer `has_room` for it. `next_block`
+/// with a borrowed mark. `keep_ref` takes a mark before it is wanted, if the mixer `has_space` for it. `next_block`
 /// writes the next datagram. `change_gains` changes the gains from a time on that is not before the next block. Only
-/// `new` and `with_room` allocate.
+/// `new` and `for_early_marks` allocate.
 #[derive(Drop)]
 pub struct Mixer {
     lanes: Vec<Lane>,
@@ -71,7 +71,7 @@ pub struct Mixer {
     packer: Packer,
     /// The media time of the next block, in sampling instants.
     time: i64,
-    /// Room for one stream's block, for the frames of all streams, and for the output's block.
+    /// Space for one stream's block, for the frames of all streams, and for the output's block.
     one: Vec<i32>,
     ins: Vec<i32>,
     outs: Vec<i32>,
@@ -91,7 +91,7 @@ impl Model for Mixer {
 }
 
 impl Mixer {
-    ghost use Rattle.studio_mix.specs.Mixer.{MixerState, HasFeeds, has_room_of, is_wanted_by, is_next_of};
+    ghost use Rattle.studio_mix.specs.Mixer.{MixerState, HasFeeds, has_space_of, is_wanted_by, is_next_of};
 
     /// Returns a mixer of a studio's streams, without marks.
     pub fn new(alloc: Global, spec: &StudioSpec) -> Result<Mixer, AllocError>
@@ -100,23 +100,24 @@ impl Mixer {
         Mixer::with_lag(alloc, spec, 0)
     }
 
-    /// Returns a mixer as `new` does, with room for all marks that the streams' merges produce up to one time, though
+    /// Returns a mixer as `new` does, with space for all marks that the streams' merges produce up to one time, though
     /// a block wants only some of them.
     ///
-    /// Each lane has room for a block, a packet, and the frames by which the stream that lags most, by its latency
+    /// Each lane has space for a block, a packet, and the frames by which the stream that lags most, by its latency
     /// and a window of packets, may be behind this one.
-    pub fn with_room(alloc: Global, spec: &StudioSpec) -> Result<Mixer, AllocError>
+    pub fn for_early_marks(alloc: Global, spec: &StudioSpec) -> Result<Mixer, AllocError>
         ensures stands { IfOk result (λ mixer. HasFeeds spec.now mixer (unfed spec.now.streams) 0) }
-        ensures rooms { IfOk result (λ mixer. rooms_of mixer.lanes ≡ map (room_of spec.now) spec.now.streams) }
+        ensures capacities { IfOk result (λ mixer. capacities_of mixer.lanes ≡ map
+            (capacity_of spec.now) spec.now.streams) }
     {
         Mixer::with_lag(alloc, spec, greatest_lag(spec.streams()))
     }
 
-    /// Returns a mixer with room in each lane next to a stream of this lag, in frames.
+    /// Returns a mixer with space in each lane next to a stream of this lag, in frames.
     fn with_lag(alloc: Global, spec: &StudioSpec, lag: u32) -> Result<Mixer, AllocError>
         requires short { lag ≤ 2 ^ 23 }
         ensures stands { IfOk result (λ mixer. HasFeeds spec.now mixer (unfed spec.now.streams) 0) }
-        ensures rooms { IfOk result (λ mixer. rooms_of mixer.lanes
+        ensures capacities { IfOk result (λ mixer. capacities_of mixer.lanes
             ≡ map (capacity_for lag spec.now.output.frames) spec.now.streams) }
     {
         let output = *spec.output();
@@ -264,7 +265,7 @@ impl Mixer {
             (record { stream = feed.stream; marks = feed.marks ++ mark ∷ [] })) number }
         ensures packer { self.new.packer ≡ self.old.packer }
         ensures streams { length self.new.lanes ≡ length self.old.lanes }
-        ensures rooms { rooms_of self.new.lanes ≡ rooms_of self.old.lanes }
+        ensures capacities { capacities_of self.new.lanes ≡ capacities_of self.old.lanes }
     {
         self.feed_ref(stream, &mark.as_ref());
     }
@@ -279,32 +280,32 @@ impl Mixer {
             (record { stream = feed.stream; marks = feed.marks ++ mark.now ∷ [] })) number }
         ensures packer { self.new.packer ≡ self.old.packer }
         ensures streams { length self.new.lanes ≡ length self.old.lanes }
-        ensures rooms { rooms_of self.new.lanes ≡ rooms_of self.old.lanes }
+        ensures capacities { capacities_of self.new.lanes ≡ capacities_of self.old.lanes }
     {
         let lane = &mut self.lanes[stream];
         lane.feed_ref(mark);
     }
 
-    /// Returns true if a stream's lane has room for a mark, though none may be wanted.
-    pub fn has_room(&self, stream: usize, mark: &MarkRef<'_>) -> bool
+    /// Returns true if a stream's lane has space for a mark, though none may be wanted.
+    pub fn has_space(&self, stream: usize, mark: &MarkRef<'_>) -> bool
         requires { stream < length self.now.lanes }
-        ensures value { result ≡ has_room_of self.now stream mark.now }
+        ensures value { result ≡ has_space_of self.now stream mark.now }
     {
         let lane = &self.lanes[stream];
-        lane.has_room(mark)
+        lane.has_space(mark)
     }
 
-    /// Takes the next mark of a stream, borrowed, whether or not one is wanted. The lane has to have room for it.
+    /// Takes the next mark of a stream, borrowed, whether or not one is wanted. The lane has to have space for it.
     pub fn keep_ref(&mut self, stream: usize, mark: &MarkRef<'_>)
         requires accepted { is_next_of self.old stream mark.now ≡ true }
-        requires room { has_room_of self.old stream mark.now ≡ true }
+        requires space { has_space_of self.old stream mark.now ≡ true }
         ensures stands { (studio : Studio) (feeds : List Feed) (number : ℕ) (feed : Feed)
             → HasFeeds studio self.old feeds number → slice_get feeds stream ≡ Some feed
             → HasFeeds studio self.new (slice_set feeds stream
             (record { stream = feed.stream; marks = feed.marks ++ mark.now ∷ [] })) number }
         ensures packer { self.new.packer ≡ self.old.packer }
         ensures streams { length self.new.lanes ≡ length self.old.lanes }
-        ensures rooms { rooms_of self.new.lanes ≡ rooms_of self.old.lanes }
+        ensures capacities { capacities_of self.new.lanes ≡ capacities_of self.old.lanes }
     {
         let lane = &mut self.lanes[stream];
         lane.keep_ref(mark);
@@ -325,7 +326,7 @@ impl Mixer {
     /// Writes the next datagram to the start of `out` and returns its length in octets, or returns `None` and changes
     /// nothing if its block isn't ready.
     pub fn next_block(&mut self, out: &mut [u8]) -> Option<usize>
-        requires room { datagram_length self.old.packer.spec ≤ length out.old }
+        requires space { datagram_length self.old.packer.spec ≤ length out.old }
         ensures ready { (studio : Studio) (feeds : List Feed) (number : ℕ)
             → HasFeeds studio self.old feeds number → is_some result ≡ is_ready studio.output feeds number }
         ensures none { result ≡ None → (self.new ≡ self.old) × (out.new ≡ out.old) }
@@ -340,7 +341,7 @@ impl Mixer {
             (λ _. block_start self.old.packer.spec self.old.packer.number ≤ℤ pos (2 ^ 61 + 192)) }
         ensures spec { self.new.packer.spec ≡ self.old.packer.spec }
         ensures streams { length self.new.lanes ≡ length self.old.lanes }
-        ensures rooms { rooms_of self.new.lanes ≡ rooms_of self.old.lanes }
+        ensures capacities { capacities_of self.new.lanes ≡ capacities_of self.old.lanes }
     {
         if !self.is_ready() {
             return None;

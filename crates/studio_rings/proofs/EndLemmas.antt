@@ -226,11 +226,11 @@ arrived_count stream open_at before shut few =
     ap length same ∙ (counted_arrivals stream open_at before shut ∙ omega (arith, few))
 
 module _ {F : Type 0} (told : F → List Answer) where
-  has_marks : {C : Type 0} (clock_told : C → List ℤ) (stream : Stream) (open_at : ℤ) (places room : ℕ) (paths : List (PathJob F)) (s : StreamEnd) (t : ClockedStream C) (after : List Event) (results : List PathResult) (result : StreamResult) (marks : List MarkView) (clock : List ℤ) (turns : List (List Event))
+  has_marks : {C : Type 0} (clock_told : C → List ℤ) (stream : Stream) (open_at : ℤ) (places capacity : ℕ) (paths : List (PathJob F)) (s : StreamEnd) (t : ClockedStream C) (after : List Event) (results : List PathResult) (result : StreamResult) (marks : List MarkView) (clock : List ℤ) (turns : List (List Event))
       → IsFreshStream open_at places stream (ends_of paths) s → AllZip (IsPathResult told) paths results → PathsGiveTokens results → result.counts.paths.items ≡ map (λ (r : PathResult). r.counts) results
-      → (e : HasEnded clock_told stream open_at t after (map told_by results) result marks) → e.before ≡ events_in turns → GoByClock stream open_at room open_at clock [] turns
-      → HasMarks open_at room stream (told_of told paths) clock result marks
-  has_marks clock_told stream open_at places room paths s t after results result marks clock turns fresh zip given counts_are e made timed =
+      → (e : HasEnded clock_told stream open_at t after (map told_by results) result marks) → e.before ≡ events_in turns → GoByClock stream open_at capacity open_at clock [] turns
+      → HasMarks open_at capacity stream (told_of told paths) clock result marks
+  has_marks clock_told stream open_at places capacity paths s t after results result marks clock turns fresh zip given counts_are e made timed =
       let all = e.before ++ Close ∷ [] in
       let total : arrival_count e.before ≡ sent_total (map (λ (r : PathResult). r.counts) results) = sym (count_all e.before) ∙ counted told stream places 0 paths s.sides.items results e.before fresh.paths zip given e.arrived in
       record {
@@ -261,16 +261,16 @@ module _ {F : Type 0} (told : F → List Answer) where
       → IfSome result.done (λ done. (stream : Stream) (open_at : ℤ) (places : ℕ) → IsFreshStream open_at places stream (ends_of paths) end → HasMarks open_at (producer_capacity end.marks) stream (told_of told paths) (clock_told clock) result (all_sent done.token))
   stream-result {C = C} clock_told paths end clock s t results result end_is clock_is now_is zip goes ends =
       by_token result.done _ results _ ends.given ends.ended (λ d given says. λ stream open_at places fresh.
-      let room = producer_capacity end.marks in
+      let capacity = producer_capacity end.marks in
       let first : StreamHasHistory stream open_at s.end [] = subst (λ (x : StreamEnd). StreamHasHistory stream open_at x []) (sym end_is) fresh.stands in
-      let own : producer_capacity s.end.marks ≡ room = ap (λ (x : StreamEnd). producer_capacity x.marks) end_is in
+      let own : producer_capacity s.end.marks ≡ capacity = ap (λ (x : StreamEnd). producer_capacity x.marks) end_is in
       let after = events_in (goes.turns stream) in
       let e = says stream open_at after (goes.stands stream open_at [] first) in
-      let rest : GoByClock stream open_at room t.now (clock_told t.clock) after e.turns = subst (λ n. GoByClock stream open_at n t.now (clock_told t.clock) after e.turns) (goes.marks.1 ∙ own) e.timed in
-      let all : GoByClock stream open_at room s.now (clock_told s.clock) [] (goes.turns stream ++ e.turns) = goes.timed stream open_at [] room e.turns first own rest in
-      let timed : GoByClock stream open_at room open_at (clock_told clock) [] (goes.turns stream ++ e.turns) =
-      subst (λ n. GoByClock stream open_at room n (clock_told clock) [] (goes.turns stream ++ e.turns)) (now_is ∙ fresh.time) (subst (λ (c : C). GoByClock stream open_at room s.now (clock_told c) [] (goes.turns stream ++ e.turns)) clock_is all) in
-      has_marks clock_told stream open_at places room paths end t after results result (all_sent d.token) (clock_told clock) (goes.turns stream ++ e.turns) fresh zip given ends.paths e
+      let rest : GoByClock stream open_at capacity t.now (clock_told t.clock) after e.turns = subst (λ n. GoByClock stream open_at n t.now (clock_told t.clock) after e.turns) (goes.marks.1 ∙ own) e.timed in
+      let all : GoByClock stream open_at capacity s.now (clock_told s.clock) [] (goes.turns stream ++ e.turns) = goes.timed stream open_at [] capacity e.turns first own rest in
+      let timed : GoByClock stream open_at capacity open_at (clock_told clock) [] (goes.turns stream ++ e.turns) =
+      subst (λ n. GoByClock stream open_at capacity n (clock_told clock) [] (goes.turns stream ++ e.turns)) (now_is ∙ fresh.time) (subst (λ (c : C). GoByClock stream open_at capacity s.now (clock_told c) [] (goes.turns stream ++ e.turns)) clock_is all) in
+      has_marks clock_told stream open_at places capacity paths end t after results result (all_sent d.token) (clock_told clock) (goes.turns stream ++ e.turns) fresh zip given ends.paths e
       (e.before_is ∙ sym (events-joined (goes.turns stream) e.turns)) timed)
 
 pub is-stream-result : {F C : Type 0} (told : F → List Answer) (clock_told : C → List ℤ) (job : StreamJob F C) (s t : ClockedStream C) (results : List PathResult) (result : StreamResult) → s.end ≡ job.end → s.clock ≡ job.clock → s.now ≡ job.end.merge.time

@@ -63,7 +63,7 @@ counts-offer WrongType a b h = rw h (refl, refl)
 counts-offer WrongLength a b h = rw h (refl, refl)
 
 -- offers of a packet found the ring full, and changed no other count
-pub record FoundNoRoom (p e : PathEnd) : Type 0 where
+pub record FoundNoSpace (p e : PathEnd) : Type 0 where
   pub spec : e.spec ≡ p.spec
   pub same : sent e.ring ≡ sent p.ring
   pub full : p.counts.full ≤ e.counts.full
@@ -74,7 +74,7 @@ pub record FoundNoRoom (p e : PathEnd) : Type 0 where
   pub few : e.counts.offered ≤ p.counts.offered + 1000
 
 -- after offers that found the ring full, the datagram was received
-received-then : (octets : List ℕ) (p e q : PathEnd) (o : Reception) → FoundNoRoom p e → SameProducer p.ring q.ring → q.spec ≡ p.spec
+received-then : (octets : List ℕ) (p e q : PathEnd) (o : Reception) → FoundNoSpace p e → SameProducer p.ring q.ring → q.spec ≡ p.spec
     → Receives octets e o q → sent q.ring ≡ sent e.ring ++ packet_in o → OffersAgain octets p q
 received-then octets p e q o before ring spec h sends =
     let received : reception_of p.spec octets ≡ o = rw before.spec at h.received in
@@ -97,7 +97,7 @@ received-then octets p e q o before ring spec h sends =
     }
 
 -- after offers that found the ring full, no more can be counted
-refused-then : (octets : List ℕ) (p e q : PathEnd) → FoundNoRoom p e → SameProducer p.ring q.ring → q.spec ≡ p.spec → q ≡ e → e.counts.offered ≡ 2 ^ 62 → OffersAgain octets p q
+refused-then : (octets : List ℕ) (p e q : PathEnd) → FoundNoSpace p e → SameProducer p.ring q.ring → q.spec ≡ p.spec → q ≡ e → e.counts.offered ≡ 2 ^ 62 → OffersAgain octets p q
 refused-then octets p e q before ring spec same many =
     let offered = ap (λ (x : PathEnd). x.counts.offered) same in
     record {
@@ -112,7 +112,7 @@ refused-then octets p e q before ring spec same many =
     }
 
 -- after offers that found the ring full, the result was not `Full`
-pub offers-then : (octets : List ℕ) (p e q : PathEnd) (answer : Offer) → FoundNoRoom p e → SameProducer p.ring q.ring → q.spec ≡ p.spec
+pub offers-then : (octets : List ℕ) (p e q : PathEnd) (answer : Offer) → FoundNoSpace p e → SameProducer p.ring q.ring → q.spec ≡ p.spec
     → (answer ≡ Full → ⊥) → Offers octets e answer q → OffersAgain octets p q
 offers-then octets p e q CountersFull before ring spec other h = refused-then octets p e q before ring spec h.0 h.1
 offers-then octets p e q (BadOffer fault) before ring spec other h = received-then octets p e q (Bad fault) before ring spec h.0 (h.1 ∙ sym (append-nil (sent e.ring)))

@@ -5,7 +5,7 @@ use Rattle.studio_ends.specs.FreshEnds.{AllFreshStreams, IsFreshStream}
 use Rattle.studio_ends.specs.declared.path_end.PathEnd.{PathEnd}
 use Rattle.studio_ends.specs.declared.stream_end.StreamEnd.{StreamEnd}
 use Rattle.studio_rings.specs.declared.jobs.PathJob.{PathJob}
-use Rattle.studio_rings.specs.Jobs.{AreJobsOf, HasRoom, HaveRoom, feeds_in}
+use Rattle.studio_rings.specs.Jobs.{AreJobsOf, HasCapacity, HaveCapacity, feeds_in}
 use Rattle.studio_rings.specs.StreamWorkers.{ends_of}
 use Rattle.studio_rings.specs.declared.jobs.StreamJob.{StreamJob}
 
@@ -87,9 +87,9 @@ module _ {F C : Type 0} where
       none_left [] e = (a, b, k)
       none_left (x ∷ xs) e = absurd (let f = ap length e in omega (arith, f))
 
-  pub room-more : (jobs : List (StreamJob F C)) (job : StreamJob F C) → HaveRoom jobs → HasRoom job → HaveRoom (jobs ++ job ∷ [])
-  room-more [] job h one = (one, tt)
-  room-more (j ∷ js) job h one = (h.0, room-more js job h.1 one)
+  pub space-more : (jobs : List (StreamJob F C)) (job : StreamJob F C) → HaveCapacity jobs → HasCapacity job → HaveCapacity (jobs ++ job ∷ [])
+  space-more [] job h one = (one, tt)
+  space-more (j ∷ js) job h one = (h.0, space-more js job h.1 one)
 
 -- the ends that are left are still fresh
 pub fresh-left : {F : Type 0} (before after : List PathEnd) (paths : List (PathJob F)) (end : StreamEnd) (more : List StreamEnd) → AreSomeFresh before (end ∷ more) → before ≡ ends_of paths ++ after → length paths ≡ end.spec.paths → AreSomeFresh after more

@@ -32,7 +32,7 @@ use Rattle.studio_rings.specs.Runs.{HaveStreamHistories, IsSettledRun, IsSettled
 use Rattle.studio_rings.specs.StreamTokens.{AllGiveTokens, AllTellMarks, AreTold}
 use Rattle.studio_rings.specs.declared.jobs.PathJob.{PathJob}
 use Rattle.studio_rings.proofs.StreamTokenLemmas.{AreTokensFor}
-use Rattle.studio_rings.specs.Jobs.{AreJobsOf, HaveRoom, feeds_in}
+use Rattle.studio_rings.specs.Jobs.{AreJobsOf, HaveCapacity, feeds_in}
 use Rattle.studio_rings.specs.StreamResults.{AreOpenedTogether, counts_in, dones_in, fault_numbers}
 use Rattle.studio_rings.specs.StreamWorkers.{AllReady, ArePairs, HasMarks, IsStreamResult, ends_of, told_of}
 use Rattle.studio_rings.specs.declared.jobs.StreamJob.{StreamJob}
@@ -105,28 +105,28 @@ module _ {F C : Type 0} where
       subst (λ (e : StreamEnd). IsFreshStream open_at places stream (ends_of job.paths.items) e) (sym h.6) (subst (λ (l : List PathEnd). IsFreshStream open_at places stream l end) cut.0 fresh.3) in
       (here, fresh_jobs open_at places specs h.0 h.1 h.2 ends jobs (subst (λ (l : List PathEnd). AllFreshStreams open_at places specs l ends) cut.1 fresh.4) h.8)
 
-  ready_jobs : (open_at : ℤ) (places : ℕ) (specs : List Stream) (jobs : List (StreamJob F C)) → open_at ≤ℤ pos (2 ^ 60) → AreFreshJobs open_at places specs jobs → HaveRoom jobs → AllReady jobs
-  ready_jobs open_at places specs [] le fresh room = tt
-  ready_jobs open_at places [] (job ∷ jobs) le fresh room = absurd fresh
-  ready_jobs open_at places (stream ∷ specs) (job ∷ jobs) le fresh room = (
+  ready_jobs : (open_at : ℤ) (places : ℕ) (specs : List Stream) (jobs : List (StreamJob F C)) → open_at ≤ℤ pos (2 ^ 60) → AreFreshJobs open_at places specs jobs → HaveCapacity jobs → AllReady jobs
+  ready_jobs open_at places specs [] le fresh space = tt
+  ready_jobs open_at places [] (job ∷ jobs) le fresh space = absurd fresh
+  ready_jobs open_at places (stream ∷ specs) (job ∷ jobs) le fresh space = (
     record {
       open_yet = fresh.0.open_yet;
       in_time = subst (λ t. t ≤ℤ pos (2 ^ 60)) (sym fresh.0.time) le;
       pairs = pairs_of stream places job.paths.items job.end.sides.items fresh.0.paths;
-      ended = room.0.ended;
-      no_results = room.0.no_results;
-      results = room.0.results;
-      no_counts = room.0.no_counts;
-      counts = room.0.counts;
-      no_faults = room.0.no_faults;
-      faults = room.0.faults;
+      ended = space.0.ended;
+      no_results = space.0.no_results;
+      results = space.0.results;
+      no_counts = space.0.no_counts;
+      counts = space.0.counts;
+      no_faults = space.0.no_faults;
+      faults = space.0.faults;
     },
-    ready_jobs open_at places specs jobs le fresh.1 room.1,
+    ready_jobs open_at places specs jobs le fresh.1 space.1,
   )
 
   -- the jobs are ready
-  pub jobs-ready : (open_at : ℤ) (places : ℕ) (specs : List Stream) (paths : List PathEnd) (feeds : List F) (clocks : List C) (ends : List StreamEnd) (jobs : List (StreamJob F C)) → open_at ≤ℤ pos (2 ^ 60) → AllFreshStreams open_at places specs paths ends → AreJobsOf paths feeds clocks ends jobs → HaveRoom jobs → AllReady jobs
-  jobs-ready open_at places specs paths feeds clocks ends jobs le fresh h room = ready_jobs open_at places specs jobs le (fresh_jobs open_at places specs paths feeds clocks ends jobs fresh h) room
+  pub jobs-ready : (open_at : ℤ) (places : ℕ) (specs : List Stream) (paths : List PathEnd) (feeds : List F) (clocks : List C) (ends : List StreamEnd) (jobs : List (StreamJob F C)) → open_at ≤ℤ pos (2 ^ 60) → AllFreshStreams open_at places specs paths ends → AreJobsOf paths feeds clocks ends jobs → HaveCapacity jobs → AllReady jobs
+  jobs-ready open_at places specs paths feeds clocks ends jobs le fresh h space = ready_jobs open_at places specs jobs le (fresh_jobs open_at places specs paths feeds clocks ends jobs fresh h) space
 
   -- each token is that of its stream's ring of marks
   pub tokens-for : (told : F → List Answer) (clock_told : C → List ℤ) (paths : List PathEnd) (feeds : List F) (clocks : List C) (ends : List StreamEnd) (jobs : List (StreamJob F C)) (results : List StreamResult) → AreJobsOf paths feeds clocks ends jobs → AllZip (IsStreamResult told clock_told) jobs results → AreTokensFor ends (dones_in results)
@@ -154,17 +154,17 @@ module _ {F C : Type 0} where
 
   have_all : (told : F → List Answer) (clock_told : C → List ℤ) (open_at : ℤ) (places : ℕ) (specs : List Stream) (paths : List PathEnd) (feeds : List F) (clocks : List C) (ends : List StreamEnd) (jobs : List (StreamJob F C)) (results : List StreamResult)
       → AreFreshJobs open_at places specs jobs → HavePlaces places ends → AreJobsOf paths feeds clocks ends jobs → AllZip (IsStreamResult told clock_told) jobs results → AllGiveTokens (dones_in results) → HaveAll open_at places specs (map told feeds) (map clock_told clocks) results
-  have_all told clock_told open_at places [] paths feeds clocks [] [] [] fresh room h zip given = record { histories = []; streams = (ap (map told) h.1, ap (map clock_told) h.2); tells = tt; of_these = refl }
-  have_all told clock_told open_at places [] paths feeds clocks (end ∷ ends) [] results fresh room h zip given = absurd h
-  have_all told clock_told open_at places [] paths feeds clocks [] [] (r ∷ rs) fresh room h zip given = absurd zip
-  have_all told clock_told open_at places [] paths feeds clocks ends (job ∷ jobs) results fresh room h zip given = absurd fresh
-  have_all told clock_told open_at places (stream ∷ specs) paths feeds clocks ends [] results fresh room h zip given = absurd fresh
-  have_all told clock_told open_at places (stream ∷ specs) paths feeds clocks [] (job ∷ jobs) results fresh room h zip given = absurd h
-  have_all told clock_told open_at places (stream ∷ specs) paths feeds clocks (end ∷ ends) (job ∷ jobs) [] fresh room h zip given = absurd zip
-  have_all told clock_told open_at places (stream ∷ specs) paths feeds clocks (end ∷ ends) (job ∷ jobs) (r ∷ rs) fresh room h zip given =
-      let rest = have_all told clock_told open_at places specs h.0 h.1 h.2 ends jobs rs fresh.1 room.1 h.8 zip.1 given.1 in
+  have_all told clock_told open_at places [] paths feeds clocks [] [] [] fresh space h zip given = record { histories = []; streams = (ap (map told) h.1, ap (map clock_told) h.2); tells = tt; of_these = refl }
+  have_all told clock_told open_at places [] paths feeds clocks (end ∷ ends) [] results fresh space h zip given = absurd h
+  have_all told clock_told open_at places [] paths feeds clocks [] [] (r ∷ rs) fresh space h zip given = absurd zip
+  have_all told clock_told open_at places [] paths feeds clocks ends (job ∷ jobs) results fresh space h zip given = absurd fresh
+  have_all told clock_told open_at places (stream ∷ specs) paths feeds clocks ends [] results fresh space h zip given = absurd fresh
+  have_all told clock_told open_at places (stream ∷ specs) paths feeds clocks [] (job ∷ jobs) results fresh space h zip given = absurd h
+  have_all told clock_told open_at places (stream ∷ specs) paths feeds clocks (end ∷ ends) (job ∷ jobs) [] fresh space h zip given = absurd zip
+  have_all told clock_told open_at places (stream ∷ specs) paths feeds clocks (end ∷ ends) (job ∷ jobs) (r ∷ rs) fresh space h zip given =
+      let rest = have_all told clock_told open_at places specs h.0 h.1 h.2 ends jobs rs fresh.1 space.1 h.8 zip.1 given.1 in
       let one = some_of _ r.done given.0 zip.0.history in
-      let own : producer_capacity job.end.marks ≡ places = ap (λ (e : StreamEnd). producer_capacity e.marks) h.6 ∙ room.0 in
+      let own : producer_capacity job.end.marks ≡ places = ap (λ (e : StreamEnd). producer_capacity e.marks) h.6 ∙ space.0 in
       let m : HasMarks open_at places stream (told_of told job.paths.items) (clock_told job.clock) r (all_sent (one.0).token) =
       subst (λ n. HasMarks open_at n stream (told_of told job.paths.items) (clock_told job.clock) r (all_sent (one.0).token)) own (one.2 stream open_at places fresh.0) in
       let split : map told feeds ≡ told_of told job.paths.items ++ map told h.1 =
@@ -189,8 +189,8 @@ module _ {F C : Type 0} where
       let paths = ends.paths.items in
       let own = ends.streams.items in
       let fresh = fresh_jobs studio.open_at places studio.streams paths feeds clocks own jobs opened.streams h in
-      let room = have-places studio.open_at places studio.streams paths own opened.monitors ends.mix.sides.items opened.streams opened.rings in
-      let all = have_all told clock_told studio.open_at places studio.streams paths feeds clocks own jobs results fresh room h zip tokens in
+      let space = have-places studio.open_at places studio.streams paths own opened.monitors ends.mix.sides.items opened.streams opened.rings in
+      let all = have_all told clock_told studio.open_at places studio.streams paths feeds clocks own jobs results fresh space h zip tokens in
       record {
         changes = mixes.changes;
         taken = mixes.taken;

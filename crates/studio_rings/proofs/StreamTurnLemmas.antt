@@ -124,9 +124,9 @@ one_more stream open_at places time answer now (next ∷ told) rest before turn 
     )
 
 stopped : (why : StopReason) (reached now : ℤ) (marks free : ℕ) (A B : Type 0) → StopsFor why reached now marks free → (marks ≡ 64 → A) → (free ≡ 0 → B) → (reached ≡ now) ⊎ (A ⊎ B)
-stopped CaughtUp reached now marks free A B h batch room = inl h
-stopped Batch reached now marks free A B h batch room = inr (inl (batch h))
-stopped NoRoom reached now marks free A B h batch room = inr (inr (room h))
+stopped CaughtUp reached now marks free A B h batch space = inl h
+stopped Batch reached now marks free A B h batch space = inr (inl (batch h))
+stopped NoRoom reached now marks free A B h batch space = inr (inr (space h))
 
 -- all marks of an open stream's history were sent
 sent_all : (stream : Stream) (open_at : ℤ) (s : StreamEnd) (events : List Event) → s.merge.closed ≡ false → StreamHasHistory stream open_at s events → length (sent s.marks) ≡ length (marks_of stream open_at events)
@@ -170,7 +170,7 @@ few-taken (o ∷ os) (n ∷ ns) [] h = absurd h
 
 pub is-turn-at : (stream : Stream) (open_at : ℤ) (places : ℕ) (s m t : StreamEnd) (now : ℤ) (note : TurnNote) (events : List Event) (f : ReadsFirst s now m) (n : TakesTurn m now note t)
     → s.merge.closed ≡ false → producer_capacity s.marks ≡ places → StreamHasHistory stream open_at s events → IsTurnAt stream open_at places now events (f.first ++ turn_events stream n.taken note.reached)
-is-turn-at stream open_at places s m t now note events f n shut room h =
+is-turn-at stream open_at places s m t now note events f n shut space h =
     let turn = f.first ++ turn_events stream n.taken note.reached in
     let whole : (events ++ f.first) ++ turn_events stream n.taken note.reached ≡ events ++ turn = append_assoc events f.first (turn_events stream n.taken note.reached) in
     let stands : StreamHasHistory stream open_at t (events ++ turn) = subst (StreamHasHistory stream open_at t) whole (n.stands stream open_at (events ++ f.first) (f.stands stream open_at events h)) in
@@ -188,7 +188,7 @@ is-turn-at stream open_at places s m t now note events f n shut room h =
       reached = note.reached;
       ends = refl;
       most = n.not_after;
-      caught_up = stopped note.why_stopped note.reached now note.marks (known_free t.marks) _ _ n.stop (λ e. omega (arith, e, before, after, first, gained)) (λ e. omega (arith, e, after, same, within, room));
+      caught_up = stopped note.why_stopped note.reached now note.marks (known_free t.marks) _ _ n.stop (λ e. omega (arith, e, before, after, first, gained)) (λ e. omega (arith, e, after, same, within, space));
     }
 
 -- how far a turn came, whatever came before its packets
@@ -210,7 +210,7 @@ module _ {C : Type 0} (told : C → List ℤ) where
     spec = spec;
     turns = λ stream. [];
     stands = λ stream open_at events h. subst (StreamHasHistory stream open_at t.end) (sym (append-nil events)) (stands stream open_at events h);
-    timed = λ stream open_at events places later h room g.
+    timed = λ stream open_at events places later h space g.
         subst (λ es. GoByClock stream open_at places s.now (told s.clock) es later) (append-nil events)
         (subst (λ n. GoByClock stream open_at places n (told s.clock) (events ++ []) later) now
         (subst (λ (c : C). GoByClock stream open_at places t.now (told c) (events ++ []) later) clock g));
@@ -226,10 +226,10 @@ module _ {C : Type 0} (told : C → List ℤ) where
     spec = g.spec ∙ f.spec;
     turns = λ stream. f.turns stream ++ g.turns stream;
     stands = λ stream open_at events h. subst (StreamHasHistory stream open_at u.end) (whole stream events) (g.stands stream open_at (events ++ events_in (f.turns stream)) (f.stands stream open_at events h));
-    timed = λ stream open_at events places later h room last.
+    timed = λ stream open_at events places later h space last.
         subst (λ l. GoByClock stream open_at places s.now (told s.clock) events l) (sym (append_assoc (f.turns stream) (g.turns stream) later))
-        (f.timed stream open_at events places (g.turns stream ++ later) h room
-        (g.timed stream open_at (events ++ events_in (f.turns stream)) places later (f.stands stream open_at events h) (f.marks.1 ∙ room)
+        (f.timed stream open_at events places (g.turns stream ++ later) h space
+        (g.timed stream open_at (events ++ events_in (f.turns stream)) places later (f.stands stream open_at events h) (f.marks.1 ∙ space)
         (subst (λ es. GoByClock stream open_at places u.now (told u.clock) es later) (sym (whole stream events)) last)));
   }
     where
@@ -249,9 +249,9 @@ module _ {C : Type 0} (told : C → List ℤ) where
         stands = λ stream open_at events h.
             subst (StreamHasHistory stream open_at t.end) (append_assoc events f.first (turn_events stream n.taken note.reached) ∙ ap (λ l. events ++ l) (sym (append-nil (f.first ++ turn_events stream n.taken note.reached))))
             (n.stands stream open_at (events ++ f.first) (f.stands stream open_at events h));
-        timed = λ stream open_at events places later h room last.
+        timed = λ stream open_at events places later h space last.
             one_more stream open_at places s.now answer t.now (told s.clock) (told t.clock) events (f.first ++ turn_events stream n.taken note.reached) later tells is
-            (is-turn-at stream open_at places s.end m t.end t.now note events f n s.open_yet room h) last;
+            (is-turn-at stream open_at places s.end m t.end t.now note events f n s.open_yet space h) last;
       }
 
   -- a stream went on by a look that found a path open

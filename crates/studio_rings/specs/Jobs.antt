@@ -21,8 +21,8 @@ module _ {F C : Type 0} where
   AreJobsOf paths feeds clocks [] (job ∷ jobs) = ⊥
   AreJobsOf paths feeds clocks (end ∷ ends) [] = ⊥
 
-  -- a job has a flag for each path, and room for the path's result, counts and number of faults
-  pub record HasRoom (job : StreamJob F C) : Type 0 where
+  -- a job has a flag for each path, and space for the path's result, counts and number of faults
+  pub record HasCapacity (job : StreamJob F C) : Type 0 where
     pub ended : vec_len job.paths ≤ vec_len job.ended
     pub no_results : vec_len job.results ≡ 0
     pub results : vec_len job.paths ≤ vec_capacity job.results
@@ -31,6 +31,6 @@ module _ {F C : Type 0} where
     pub no_faults : vec_len job.faults ≡ 0
     pub faults : vec_len job.paths ≤ vec_capacity job.faults
 
-  abbrev pub HaveRoom : List (StreamJob F C) → Type 0
-  HaveRoom [] = Unit {0}
-  HaveRoom (job ∷ jobs) = HasRoom job × HaveRoom jobs
+  abbrev pub HaveCapacity : List (StreamJob F C) → Type 0
+  HaveCapacity [] = Unit {0}
+  HaveCapacity (job ∷ jobs) = HasCapacity job × HaveCapacity jobs

@@ -100,7 +100,7 @@ module _ {F : Type 0} where
   told_of told paths = map (λ (path : PathJob F). told path.feed) paths
 
 module _ {F C : Type 0} where
-  -- the stream of a job is not closed, its paths are those of its rings, and there is room for their results
+  -- the stream of a job is not closed, its paths are those of its rings, and there is space for their results
   pub record IsReady (job : StreamJob F C) : Type 0 where
     pub open_yet : job.end.merge.closed ≡ false
     pub in_time : job.end.merge.time ≤ℤ pos (2 ^ 60)

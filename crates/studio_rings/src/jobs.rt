@@ -3,7 +3,7 @@ ghost use Rattle.std.specs.Prelude.{◌≡◌, ◌+◌, ◌<◌, ◌≤◌, ◌�
 ghost use Rattle.std.specs.Vec.Iter.{into_iter_items, into_iter_len};
 ghost use Rattle.rtp_stream.specs.declared.stream_spec.Stream.{Stream};
 ghost use Rattle.studio_ends.specs.FreshEnds.{AllFreshStreams};
-ghost use Rattle.studio_rings.specs.Jobs.{AreJobsOf, HasRoom, HaveRoom, feeds_in};
+ghost use Rattle.studio_rings.specs.Jobs.{AreJobsOf, HasCapacity, HaveCapacity, feeds_in};
 ghost use Rattle.studio_rings.specs.StreamWorkers.{ends_of};
 
 use rtp_stream::{PathCounts, StreamCounts};
@@ -37,11 +37,11 @@ pub(crate) struct StreamJob<F, C> {
     pub(crate) paths: Vec<PathJob<F>>,
     /// A flag for each path, set once it has ended.
     pub(crate) ended: Vec<AtomicBool>,
-    /// The room for the result of each path's worker.
+    /// The space for the result of each path's worker.
     pub(crate) results: Vec<PathResult>,
-    /// The room for the counts of each path.
+    /// The space for the counts of each path.
     pub(crate) counts: Vec<PathCounts>,
-    /// The room for the number of each feed's faults.
+    /// The space for the number of each feed's faults.
     pub(crate) faults: Vec<u64>,
 }
 
@@ -94,27 +94,27 @@ fn next_paths<F: Drop>(
     Ok(own)
 }
 
-/// The room for the results of the workers of a stream's paths.
+/// The space for the results of the workers of a stream's paths.
 #[derive(Drop)]
-struct PathRoom {
+struct PathBuffers {
     ended: Vec<AtomicBool>,
     results: Vec<PathResult>,
     counts: Vec<PathCounts>,
     faults: Vec<u64>,
 }
 
-/// Allocates room for `count` paths, none of which has ended.
-fn room_for_paths(alloc: Global, count: usize) -> Result<PathRoom, AllocError>
-    ensures ended { IfOk result (λ room. vec_len room.ended ≡ count) }
-    ensures results { IfOk result (λ room. (vec_len room.results ≡ 0) × (count ≤ vec_capacity room.results)) }
-    ensures counts { IfOk result (λ room. (vec_len room.counts ≡ 0) × (count ≤ vec_capacity room.counts)) }
-    ensures faults { IfOk result (λ room. (vec_len room.faults ≡ 0) × (count ≤ vec_capacity room.faults)) }
+/// Allocates space for `count` paths, none of which has ended.
+fn path_buffers(alloc: Global, count: usize) -> Result<PathBuffers, AllocError>
+    ensures ended { IfOk result (λ buffers. vec_len buffers.ended ≡ count) }
+    ensures results { IfOk result (λ buffers. (vec_len buffers.results ≡ 0) × (count ≤ vec_capacity buffers.results)) }
+    ensures counts { IfOk result (λ buffers. (vec_len buffers.counts ≡ 0) × (count ≤ vec_capacity buffers.counts)) }
+    ensures faults { IfOk result (λ buffers. (vec_len buffers.faults ≡ 0) × (count ≤ vec_capacity buffers.faults)) }
 {
     let ended = unset_flags(alloc, count)?;
     let results = Vec::with_capacity(alloc, count)?;
     let counts = Vec::with_capacity(alloc, count)?;
     let faults = Vec::with_capacity(alloc, count)?;
-    Ok(PathRoom {
+    Ok(PathBuffers {
         ended,
         results,
         counts,
@@ -130,15 +130,15 @@ fn stream_job<F: Drop, C: Drop>(
     paths: Vec<PathJob<F>>,
 ) -> Result<StreamJob<F, C>, AllocError>
     ensures parts { IfOk result (λ job. (job.end ≡ end) × (job.clock ≡ clock) × (job.paths ≡ paths)) }
-    ensures room { IfOk result (λ job. HasRoom job) }
+    ensures space { IfOk result (λ job. HasCapacity job) }
 {
-    let room = room_for_paths(alloc, paths.len())?;
-    let PathRoom {
+    let buffers = path_buffers(alloc, paths.len())?;
+    let PathBuffers {
         ended,
         results,
         counts,
         faults,
-    } = room;
+    } = buffers;
     Ok(StreamJob {
         end,
         clock,
@@ -171,7 +171,7 @@ fn next_job<F: Drop, C: Drop>(
     ensures left { IfOk result (λ job. (into_iter_len paths.new + end.spec.paths ≡ into_iter_len paths.old)
         × (into_iter_len feeds.new + end.spec.paths ≡ into_iter_len feeds.old)
         × (into_iter_len clocks.new + 1 ≡ into_iter_len clocks.old)) }
-    ensures room { IfOk result (λ job. HasRoom job) }
+    ensures space { IfOk result (λ job. HasCapacity job) }
 {
     let Some(clock) = clocks.next() else {
         unreachable!();
@@ -195,7 +195,7 @@ pub(crate) fn stream_jobs<F: Drop, C: Drop>(
     requires feeds { length feeds.items ≡ length paths.items }
     requires clocks { length clocks.items ≡ length streams.items }
     ensures jobs { IfOk result (λ jobs. AreJobsOf paths.items feeds.items clocks.items streams.items jobs.items) }
-    ensures room { IfOk result (λ jobs. HaveRoom jobs.items) }
+    ensures space { IfOk result (λ jobs. HaveCapacity jobs.items) }
     ensures count { IfOk result (λ jobs. vec_len jobs ≡ vec_len streams) }
 {
     let mut jobs = Vec::with_capacity(alloc, streams.len())?;

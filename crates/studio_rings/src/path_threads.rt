@@ -59,7 +59,7 @@ pub(crate) fn run_paths<R: Threads + Wait + Sync, F: Feed + Send, C: Clock>(
     ended: &[AtomicBool],
     stop: &AtomicBool,
 ) -> Result<(Vec<PathResult>, ClockedStream<C>), WorkerStopped>
-    requires room { vec_len results + vec_len jobs ≤ vec_capacity results }
+    requires space { vec_len results + vec_len jobs ≤ vec_capacity results }
     requires flags { vec_len jobs ≤ length ended.now }
     ensures results { IfOk result (λ r. (own : List PathResult) × (r.0.items ≡ results.items ++ own)
         × AllZip (IsPathResult F.told) jobs.items own) }
@@ -84,7 +84,7 @@ pub(crate) fn run_paths<R: Threads + Wait + Sync, F: Feed + Send, C: Clock>(
         rt,
         move |scope| -> Result<(Vec<PathResult>, ClockedStream<C>), WorkerStopped>
             requires sync { IsSync R.row }
-            requires room { vec_len results + vec_len jobs + 1 ≤ vec_capacity results }
+            requires space { vec_len results + vec_len jobs + 1 ≤ vec_capacity results }
             requires flags { vec_len jobs ≤ length ended.now }
             requires promise { promise.job.value ≡ job }
             ensures results { IfOk result (λ r. (own : List PathResult) × (r.0.items ≡ results.items ++ own)

@@ -15,7 +15,7 @@ pub(crate) struct RunResults {
     pub(crate) feed_faults: Vec<u64>,
 }
 
-/// Allocates room for the results of this number of streams and feeds.
+/// Allocates space for the results of this number of streams and feeds.
 pub(crate) fn reserve_results(
     alloc: Global,
     streams: usize,
@@ -35,7 +35,7 @@ pub(crate) fn reserve_results(
     })
 }
 
-/// Splits the results into the parts of a report. The room for them was allocated before, so nothing grows.
+/// Splits the results into the parts of a report. The space for them was allocated before, so nothing grows.
 pub(crate) fn collect_results(results: Vec<StreamResult>, parts: RunResults) -> RunResults
     requires dones { (vec_len parts.dones ≡ 0) × (vec_len results ≤ vec_capacity parts.dones) }
     requires streams { (vec_len parts.streams ≡ 0) × (vec_len results ≤ vec_capacity parts.streams) }

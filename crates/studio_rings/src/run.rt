@@ -9,7 +9,7 @@ ghost use Rattle.studio_ends.specs.FreshEnds.{AllFreshStreams};
 ghost use Rattle.studio_io.specs.Balances.{Balances};
 ghost use Rattle.studio_rings.specs.Runs.{IsSettledRun, IsSettledRunWith};
 ghost use Rattle.studio_rings.specs.StreamTokens.{AllGiveTokens, AreAllDrained, AreTokensOf, AreTold};
-ghost use Rattle.studio_rings.specs.Jobs.{AreJobsOf, HaveRoom};
+ghost use Rattle.studio_rings.specs.Jobs.{AreJobsOf, HaveCapacity};
 ghost use Rattle.studio_rings.specs.StreamResults.{AreOpenedTogether};
 
 use crate::jobs::{StreamJob, StreamResult, stream_jobs, unset_flags};
@@ -24,7 +24,7 @@ use std::thread::Threads;
 use studio_ends::{Ends, PathEnd, StreamEnd};
 use studio_io::{Clock, Feed, GainSource, NoGains, SendCounts, Sink, WorkFault, WorkReport};
 
-/// The jobs of the workers, and the room for all their results.
+/// The jobs of the workers, and the space for all their results.
 #[derive(Drop)]
 struct RunMemory<F, C> {
     jobs: Vec<StreamJob<F, C>>,
@@ -33,29 +33,30 @@ struct RunMemory<F, C> {
     parts: RunResults,
 }
 
-/// The room for the results of a run, and a flag for each stream.
+/// The space for the results of a run, and a flag for each stream.
 #[derive(Drop)]
-struct RunRoom {
+struct RunBuffers {
     results: Vec<StreamResult>,
     ended: Vec<AtomicBool>,
     parts: RunResults,
 }
 
-/// Allocates the room for the results of this number of streams and feeds.
-fn reserve_room(alloc: Global, streams: usize, feeds: usize) -> Result<RunRoom, AllocError>
-    ensures results { IfOk result (λ room. (vec_len room.results ≡ 0) × (streams ≤ vec_capacity room.results)) }
-    ensures ended { IfOk result (λ room. vec_len room.ended ≡ streams) }
-    ensures dones { IfOk result (λ room. (vec_len room.parts.dones ≡ 0)
-        × (streams ≤ vec_capacity room.parts.dones)) }
-    ensures counts { IfOk result (λ room. (vec_len room.parts.streams ≡ 0)
-        × (streams ≤ vec_capacity room.parts.streams)) }
-    ensures faults { IfOk result (λ room. (vec_len room.parts.feed_faults ≡ 0)
-        × (feeds ≤ vec_capacity room.parts.feed_faults)) }
+/// Allocates the space for the results of this number of streams and feeds.
+fn reserve_buffers(alloc: Global, streams: usize, feeds: usize) -> Result<RunBuffers, AllocError>
+    ensures results { IfOk result (λ buffers. (vec_len buffers.results ≡ 0) ×
+        (streams ≤ vec_capacity buffers.results)) }
+    ensures ended { IfOk result (λ buffers. vec_len buffers.ended ≡ streams) }
+    ensures dones { IfOk result (λ buffers. (vec_len buffers.parts.dones ≡ 0)
+        × (streams ≤ vec_capacity buffers.parts.dones)) }
+    ensures counts { IfOk result (λ buffers. (vec_len buffers.parts.streams ≡ 0)
+        × (streams ≤ vec_capacity buffers.parts.streams)) }
+    ensures faults { IfOk result (λ buffers. (vec_len buffers.parts.feed_faults ≡ 0)
+        × (feeds ≤ vec_capacity buffers.parts.feed_faults)) }
 {
     let parts = reserve_results(alloc, streams, feeds)?;
     let results = Vec::with_capacity(alloc, streams)?;
     let ended = unset_flags(alloc, streams)?;
-    Ok(RunRoom {
+    Ok(RunBuffers {
         results,
         ended,
         parts,
@@ -76,7 +77,7 @@ fn reserve_memory<F: Drop, C: Drop>(
     requires feeds { length feeds.items ≡ length paths.items }
     requires clocks { length clocks.items ≡ length streams.items }
     ensures jobs { IfOk result (λ m. AreJobsOf paths.items feeds.items clocks.items streams.items m.jobs.items
-        × HaveRoom m.jobs.items) }
+        × HaveCapacity m.jobs.items) }
     ensures results { IfOk result (λ m. (vec_len m.results ≡ 0) × (vec_len m.jobs ≤ vec_capacity m.results)) }
     ensures ended { IfOk result (λ m. vec_len m.ended ≡ vec_len m.jobs) }
     ensures dones { IfOk result (λ m. (vec_len m.parts.dones ≡ 0) × (vec_len m.jobs ≤ vec_capacity m.parts.dones)) }
@@ -85,13 +86,13 @@ fn reserve_memory<F: Drop, C: Drop>(
     ensures faults { IfOk result (λ m. (vec_len m.parts.feed_faults ≡ 0)
         × (vec_len feeds ≤ vec_capacity m.parts.feed_faults)) }
 {
-    let room = reserve_room(alloc, streams.len(), feeds.len())?;
+    let buffers = reserve_buffers(alloc, streams.len(), feeds.len())?;
     let jobs = stream_jobs(alloc, paths, feeds, streams, clocks)?;
-    let RunRoom {
+    let RunBuffers {
         results,
         ended,
         parts,
-    } = room;
+    } = buffers;
     Ok(RunMemory {
         jobs,
         results,

@@ -65,7 +65,7 @@ pub(crate) fn run_streams<R: Threads + Wait + Sync, F: Feed + Send, C: Clock + S
     stop: &AtomicBool,
 ) -> Result<(Vec<StreamResult>, M), WorkerStopped>
     requires ready { AllReady jobs.items }
-    requires room { vec_len results + vec_len jobs ≤ vec_capacity results }
+    requires space { vec_len results + vec_len jobs ≤ vec_capacity results }
     requires flags { vec_len jobs ≤ length ended.now }
     ensures results { IfOk result (λ r. (own : List StreamResult) × (r.0.items ≡ results.items ++ own)
         × AllZip (IsStreamResult F.told C.told) jobs.items own) }
@@ -92,7 +92,7 @@ pub(crate) fn run_streams<R: Threads + Wait + Sync, F: Feed + Send, C: Clock + S
             requires sync { IsSync R.row }
             requires ready { AllReady jobs.items }
             requires own { IsReady job }
-            requires room { vec_len results + vec_len jobs + 1 ≤ vec_capacity results }
+            requires space { vec_len results + vec_len jobs + 1 ≤ vec_capacity results }
             requires flags { vec_len jobs ≤ length ended.now }
             requires promise { promise.job.value ≡ job }
             ensures results { IfOk result (λ r. (own : List StreamResult) × (r.0.items ≡ results.items ++ own)

@@ -17,7 +17,7 @@ pub(crate) mod stream;
 const FIRST: u64 = 1_000;
 
 /// Pauses that grow while nothing arrives: each is twice the one before, up to a longest.
-// A worker rests instead of being woken for each packet, which costs more: packets are passed on at deadlines, not at
+// A worker pauses instead of being woken for each packet, which costs more: packets are passed on at deadlines, not at
 // arrivals. So nobody wakes the parker.
 #[derive(Drop)]
 pub struct Backoff {

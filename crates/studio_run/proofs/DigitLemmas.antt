@@ -68,12 +68,12 @@ some_text true o h = cc
 some_text false o h = refl
 
 -- all octets are decoded
-pub octets_are : (text room : List ℕ) (count : ℕ) → is_some (octets_of text) ≡ true → length text ≤ 2 * count + 1 → decode_pairs 0 text ≡ prepend (take count room) (decode_pairs (2 * count) (drop (2 * count) text)) → octets_of text ≡ Some (take count room)
+pub octets_are : (text space : List ℕ) (count : ℕ) → is_some (octets_of text) ≡ true → length text ≤ 2 * count + 1 → decode_pairs 0 text ≡ prepend (take count space) (decode_pairs (2 * count) (drop (2 * count) text)) → octets_of text ≡ Some (take count space)
 unfolding decode_pairs
-octets_are text room count spelled half inv =
+octets_are text space count spelled half inv =
     let even = (spelled_parts text spelled).1 in
     let rest : drop (2 * count) text ≡ [] = drop_all (2 * count) text (omega arith) in
-    let pairs : decode_pairs 0 text ≡ Ok (take count room) = inv ∙ ap (λ (l : List ℕ). prepend (take count room) (decode_pairs (2 * count) l)) rest ∙ ap Ok (append-nil (take count room)) in
+    let pairs : decode_pairs 0 text ≡ Ok (take count space) = inv ∙ ap (λ (l : List ℕ). prepend (take count space) (decode_pairs (2 * count) l)) rest ∙ ap Ok (append-nil (take count space)) in
     ap (λ (b : Bool). cond b None (result_ok (decode_of text))) (some_text (eqb (length text) 0) (result_ok (decode_of text)) spelled)
     ∙ ap result_ok (decode_of-even text even ∙ pairs)
 

@@ -3,8 +3,8 @@ use Rattle.std.proofs.Common.{◌≡◌, ◌≢◌, ◌⊎◌, inl, inr, ℕ, ze
 use Rattle.std.specs.Int.RustNames.{int_lt}
 use Rattle.std.proofs.lemmas.List.{get_or-set_same, get_or-set_other}
 use Rattle.gain_mix.specs.Changes.{Changes, matrix_at, with_change}
-use Rattle.gain_mix.specs.Live.{has_place}
-use Rattle.gain_mix.proofs.LiveLemmas.{changed_from, unchanged_before}
+use Rattle.gain_mix.specs.LiveSchedule.{has_place}
+use Rattle.gain_mix.proofs.LiveScheduleLemmas.{changed_from, unchanged_before}
 use Rattle.studio_run.specs.Gains.{with_gain}
 use Rattle.studio_run.specs.GainsLines.{changed}
 use Rattle.studio_run.specs.declared.gains.fault.GainsFaultKind.TheVariants.{Order, TooMany}

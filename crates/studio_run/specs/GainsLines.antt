@@ -2,7 +2,7 @@
 use Rattle.std.specs.Prelude.{ℕ, ◌+◌, ℤ, pos, List, [], ◌∷◌, Result, Ok, Err, if◌then◌else◌}
 use Rattle.std.specs.Int.RustNames.{int_lt}
 use Rattle.gain_mix.specs.Changes.{Changes, with_change}
-use Rattle.gain_mix.specs.Live.{has_place}
+use Rattle.gain_mix.specs.LiveSchedule.{has_place}
 use Rattle.studio_run.specs.Fields.{fields_of}
 use Rattle.studio_run.specs.Trace.{is_silent, lines_of}
 use Rattle.studio_run.specs.Gains.{fields_said}

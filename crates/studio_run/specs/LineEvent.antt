@@ -2,10 +2,10 @@
 use Rattle.std.specs.Prelude.{◌≡◌, ℕ, ◌≤◌, List, [], ◌∷◌, ◌++◌, length, Option, Some, None, IsSome, IfSome, Result, Ok, Err, unwrap_or}
 use Rattle.std.specs.Borrow.{Bor}
 use Rattle.studio_run.specs.Fields.{EndsWith}
-use Rattle.studio_session.specs.Event.{TraceEvent, Arrival, Reading, Closing}
+use Rattle.studio_session.specs.Event.{TraceEvent, Arrival, Tick, Closing}
 use Rattle.studio_run.specs.Trace.{octets_of, ReadsLine}
 use Rattle.studio_run.specs.declared.trace.line.LineEvent.{LineEvent}
-use Rattle.studio_run.specs.declared.trace.line.LineEvent.TheVariants.{Arrive, Tick, Close}
+use Rattle.studio_run.specs.declared.trace.line.LineEvent.TheVariants.{Arrive, Tick as LineTick, Close}
 use Rattle.studio_run.specs.declared.trace.fault.TraceFaultKind.{TraceFaultKind}
 
 -- the octets that digits spell, or none if they spell no octets
@@ -15,7 +15,7 @@ octets_by digits = unwrap_or (octets_of digits) []
 -- the event of a line, as contracts see it
 abbrev pub said_in : LineEvent → TraceEvent
 said_in (Arrive stream path digits) = Arrival stream path (octets_by digits.now)
-said_in (Tick time) = Reading time
+said_in (LineTick time) = Tick time
 said_in Close = Closing
 
 -- the event of a line's fields, as contracts see it, or their fault
@@ -32,14 +32,14 @@ line_event_of (Err kind) = Err kind
 -- the digits of a datagram are valid, and are at the end of this text
 abbrev pub IsLast : List ℕ → LineEvent → Type 0
 IsLast text (Arrive stream path digits) = EndsWith text digits.now × IsSome (octets_of digits.now)
-IsLast text (Tick time) = Unit {0}
+IsLast text (LineTick time) = Unit {0}
 IsLast text Close = Unit {0}
 
 -- `IsLast` for the text that follows the line's word, if there is any
 abbrev pub IsLastIn : Option (Bor (List ℕ)) → LineEvent → Type 0
 IsLastIn (Some text) event = IsLast text.now event
 IsLastIn None (Arrive stream path digits) = ⊥
-IsLastIn None (Tick time) = Unit {0}
+IsLastIn None (LineTick time) = Unit {0}
 IsLastIn None Close = Unit {0}
 
 -- the event of a line, if it has one

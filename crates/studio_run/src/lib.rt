@@ -18,17 +18,16 @@
 //! This crate also exports the types of a studio and of its run.
 #![tactic(auto)]
 
-mod buffer;
 mod gains;
 mod laws;
 mod lines;
 mod outputs;
 mod player;
+mod text_buffer;
 mod text_field;
 mod text_io;
 mod trace;
 
-pub use buffer::TextBuffer;
 pub use gains::fault::{GainsFault, GainsFaultKind};
 pub use gains::laws::{a_change_is_in_force_from_its_time_on, one_gain_changes_alone};
 pub use gains::studio::studio_with_gains;
@@ -45,6 +44,7 @@ pub use rtp_stream::{PathCounts, StreamCounts};
 pub use studio_config::{ConfigTable, Key, SpecError, SpecErrorKind, StudioSpec};
 pub use studio_mix::Mixer;
 pub use studio_session::{Report, StudioEvent, StudioFault, run_studio};
+pub use text_buffer::TextBuffer;
 pub use text_io::{ReadFault, WriteFault, read_octets, write_text};
 pub use trace::events::read_trace;
 pub use trace::fault::{MAX_EVENTS as MAX_TRACE_EVENTS, TraceFault, TraceFaultKind};

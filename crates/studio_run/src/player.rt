@@ -17,9 +17,9 @@ ghost use Rattle.studio_run.specs.Play.{
 ghost use Rattle.studio_run.specs.StudioReport.{IsReport};
 ghost use Rattle.studio_run.specs.declared.player.PlayFault.TheVariants as fault;
 
-use crate::buffer::TextBuffer;
 use crate::outputs::listing::write_whole_listing;
 use crate::outputs::report::write_whole_report;
+use crate::text_buffer::TextBuffer;
 use crate::text_io::{ReadFault, WriteFault, read_octets};
 use crate::trace::fault::{TraceFault, TraceFaultKind};
 use crate::trace::text_events::TracedEvents;

@@ -65,10 +65,11 @@ fn push_chunk(text: &mut Vec<u8>, chunk: &[u8]) -> Result<(), AllocError>
     requires fits { vec_len text.old + length chunk.now ≤ MAX_TRACE_OCTETS }
     ensures items { OnOk result (text.new.items ≡ text.old.items ++ chunk.now) }
 {
-    // The room doubles, but not past the longest text: the old room and the new one together are at most 3/2 of that.
+    // The capacity doubles, but not past the longest text: the old memory and the new one together are at most 3/2 of
+    // that.
     if text.capacity() - text.len() < chunk.len() {
-        let room = text.capacity().saturating_mul(2).min(MAX_TRACE_OCTETS);
-        text.reserve_exact(room - text.len())?;
+        let capacity = text.capacity().saturating_mul(2).min(MAX_TRACE_OCTETS);
+        text.reserve_exact(capacity - text.len())?;
     }
     text.extend_from_slice(chunk)
 }

@@ -15,14 +15,14 @@ use Rattle.path_merge.specs.Steps.{Drains, is_slot_mark}
 use Rattle.path_merge.specs.Goal.{CanReach, Gives, HasGivenAll, MovesTo}
 use Rattle.studio_session.proofs.ReadingStepsLemmas.{in_time, next_in_whole, went_on}
 use Rattle.path_merge.proofs.HistoryLemmas.{is_well_timed_from-append}
-use Rattle.rtp_stream.specs.declared.event.Event.TheVariants.{Tick}
+use Rattle.rtp_stream.specs.declared.event.Event.TheVariants.{Tick as StreamTick}
 use Rattle.path_merge.specs.MergeState.{MergeState}
 use Rattle.path_merge.specs.Merge.{HasHistory}
 use Rattle.studio_session.specs.ReadingSteps.{IsOnWay, WentOn, on_way_after}
 use Rattle.studio_session.specs.Cursor.{IsRunnable, CursorState, HasPulled, IsOnTheWay, goal_of, next_of}
 use Rattle.std.proofs.lemmas.Bool.Decides.{nat_tests}
 use Rattle.rtp_stream.specs.History.{is_well_timed}
-use Rattle.studio_session.specs.Event.{TraceEvent, Arrival, Reading, Closing, outline_of}
+use Rattle.studio_session.specs.Event.{TraceEvent, Arrival, Tick, Closing, outline_of}
 use Rattle.studio_session.specs.declared.event.EventHeader.{EventHeader}
 use Rattle.studio_session.specs.declared.event.EventHeader.TheVariants.{Arrive as ArriveOf, Tick as TickOf, Close as CloseOf}
 use Rattle.rtp_stream.specs.Reception.{reception_of}
@@ -78,17 +78,17 @@ settled stream open_at merge (Some u) events k e way = absurd (let f : Some u �
 
 -- a merge can begin to move to a reading that is in order
 pub set_out : (stream : Stream) (number : ℕ) (open_at : ℤ) (events : List TraceEvent) (i k : ℕ) (u : ℤ) (merge : MergeState) → IsRunnable stream number open_at events
-    → slice_get events i ≡ Some (Reading u) → HasHistory stream open_at merge (stream_history stream number (take i events)) k
-    → IsOnWay stream open_at merge (Some u) (stream_history stream number (take i events) ++ Tick u ∷ []) k
+    → slice_get events i ≡ Some (Tick u) → HasHistory stream open_at merge (stream_history stream number (take i events)) k
+    → IsOnWay stream open_at merge (Some u) (stream_history stream number (take i events) ++ StreamTick u ∷ []) k
 set_out stream number open_at events i k u merge run at stands =
     let one = λ (e : TraceEvent). event_in (step_of stream number e) in
     let first = stream_history stream number (take i events) in
     let more = stream_history stream number (take (i + 1) events) in
     let rest = stream_history stream number (drop (i + 1) events) in
-    let is : more ≡ first ++ Tick u ∷ [] = history_more stream number events i (Reading u) at in
+    let is : more ≡ first ++ StreamTick u ∷ [] = history_more stream number events i (Tick u) at in
     let whole : more ++ rest ≡ stream_history stream number events = sym (flat_map-append one (take (i + 1) events) (drop (i + 1) events)) ∙ ap (stream_history stream number) (take-append-drop (i + 1) events) in
-    let timed : is_well_timed open_at ((first ++ Tick u ∷ []) ++ rest) ≡ true = ap (λ l. is_well_timed open_at (l ++ rest)) (sym is) ∙ ap (is_well_timed open_at) whole ∙ run.well_timed in
-    (first, stands, in_time open_at merge first u stands.time stands.closed (both_left (is_well_timed open_at (first ++ Tick u ∷ [])) _ (sym (is_well_timed_from-append open_at false (first ++ Tick u ∷ []) rest) ∙ timed)), alike-refl stream open_at (first ++ Tick u ∷ []))
+    let timed : is_well_timed open_at ((first ++ StreamTick u ∷ []) ++ rest) ≡ true = ap (λ l. is_well_timed open_at (l ++ rest)) (sym is) ∙ ap (is_well_timed open_at) whole ∙ run.well_timed in
+    (first, stands, in_time open_at merge first u stands.time stands.closed (both_left (is_well_timed open_at (first ++ StreamTick u ∷ [])) _ (sym (is_well_timed_from-append open_at false (first ++ StreamTick u ∷ []) rest) ∙ timed)), alike-refl stream open_at (first ++ StreamTick u ∷ []))
 
 way_of : (stream : Stream) (open_at : ℤ) (merge : MergeState) (reading : Option ℤ) (events : List Event) (k : ℕ) → reading ≡ None → HasHistory stream open_at merge events k → IsOnWay stream open_at merge reading events k
 way_of stream open_at merge reading events k e stands = subst (λ r. IsOnWay stream open_at merge r events k) (sym e) stands
@@ -194,17 +194,17 @@ reading_in CloseOf d = d
 
 pub arrival_of : (event : TraceEvent) (s p : ℕ) → ArriveOf s p ≡ outline_of event → (octets : List ℕ) × (event ≡ Arrival s p octets)
 arrival_of (Arrival s' p' octets) s p e = (octets, ap (λ n. Arrival n p' octets) (sym (ap stream_in e)) ∙ ap (λ n. Arrival s n octets) (sym (ap path_in e)))
-arrival_of (Reading u) s p e = absurd (let f : ArriveOf s p ≡ TickOf u = e in cc)
+arrival_of (Tick u) s p e = absurd (let f : ArriveOf s p ≡ TickOf u = e in cc)
 arrival_of Closing s p e = absurd (let f : ArriveOf s p ≡ CloseOf = e in cc)
 
-pub reading_of : (event : TraceEvent) (u : ℤ) → TickOf u ≡ outline_of event → event ≡ Reading u
+pub reading_of : (event : TraceEvent) (u : ℤ) → TickOf u ≡ outline_of event → event ≡ Tick u
 reading_of (Arrival s p octets) u e = absurd (let f : TickOf u ≡ ArriveOf s p = e in cc)
-reading_of (Reading t) u e = ap Reading (sym (ap (λ o. reading_in o u) e))
+reading_of (Tick t) u e = ap Tick (sym (ap (λ o. reading_in o u) e))
 reading_of Closing u e = absurd (let f : TickOf u ≡ CloseOf = e in cc)
 
 pub closing_of : (event : TraceEvent) → CloseOf ≡ outline_of event → event ≡ Closing
 closing_of (Arrival s p octets) e = absurd (let f : CloseOf ≡ ArriveOf s p = e in cc)
-closing_of (Reading u) e = absurd (let f : CloseOf ≡ TickOf u = e in cc)
+closing_of (Tick u) e = absurd (let f : CloseOf ≡ TickOf u = e in cc)
 closing_of Closing e = refl
 
 -- what an arrival is to its own stream

@@ -10,7 +10,7 @@ use Rattle.rtp_stream.specs.History.{is_tick_in_order, is_well_timed_from}
 use Rattle.mix_packets.specs.OutSpec.{IsOutput}
 use Rattle.studio_config.specs.Studio.{Studio}
 use Rattle.studio_session.specs.Play.{HasPathsBy, IsRunnableBy}
-use Rattle.studio_session.specs.Event.{TraceEvent, Arrival, Reading, Closing, outline_of}
+use Rattle.studio_session.specs.Event.{TraceEvent, Arrival, Tick, Closing, outline_of}
 use Rattle.studio_session.specs.declared.event.EventHeader.{EventHeader}
 use Rattle.studio_session.specs.declared.fault.StudioFault.{StudioFault}
 use Rattle.studio_session.specs.declared.fault.StudioFault.TheVariants.{Clock, Memory, Path as NoPath, Stream as NoStream}
@@ -47,9 +47,9 @@ same_time time closed path WrongLength history e = e
 pub timed_from : (streams : List Stream) (stream : Stream) (number place : ℕ) (time : ℤ) (closed : Bool) (events : List TraceEvent)
     → session_fault_from streams place time closed events ≡ None → is_well_timed_from time closed (stream_history stream number events) ≡ true
 timed_from streams stream number place time closed [] e = refl
-timed_from streams stream number place time closed (Reading u ∷ events) e =
-    let rest = timed_from streams stream number (suc place) u closed events (later_none (event_fault streams place time closed (Reading u)) _ e) in
-    let here = in_order place (is_tick_in_order time closed u) (first_none (event_fault streams place time closed (Reading u)) _ e) in
+timed_from streams stream number place time closed (Tick u ∷ events) e =
+    let rest = timed_from streams stream number (suc place) u closed events (later_none (event_fault streams place time closed (Tick u)) _ e) in
+    let here = in_order place (is_tick_in_order time closed u) (first_none (event_fault streams place time closed (Tick u)) _ e) in
     ap (λ b. b && is_well_timed_from u closed (stream_history stream number events)) here ∙ rest
 timed_from streams stream number place time closed (Closing ∷ events) e = timed_from streams stream number (suc place) time true events e
 timed_from streams stream number place time closed (Arrival s path octets ∷ events) e =
@@ -174,7 +174,7 @@ of_first (Some fault) later h l = h
 
 of_event : (streams : List Stream) (place : ℕ) (time : ℤ) (closed : Bool) (event : TraceEvent) → IsOfEvent (event_fault streams place time closed event)
 of_event streams place time closed (Arrival s path octets) = of_path place (slice_get streams s) path
-of_event streams place time closed (Reading u) = of_clock place (is_tick_in_order time closed u)
+of_event streams place time closed (Tick u) = of_clock place (is_tick_in_order time closed u)
 of_event streams place time closed Closing = tt
 
 of_events : (streams : List Stream) (place : ℕ) (time : ℤ) (closed : Bool) (events : List TraceEvent) → IsOfEvent (session_fault_from streams place time closed events)
@@ -219,7 +219,7 @@ runnable_more studio events event run none = record {
 }
 
 -- a reading that no clock refuses has no fault
-pub reading_fault : (streams : List Stream) (time : ℤ) (closed : Bool) (u : ℤ) → clock_fault_of time closed u ≡ None → (p : ℕ) → event_fault streams p time closed (Reading u) ≡ None
+pub reading_fault : (streams : List Stream) (time : ℤ) (closed : Bool) (u : ℤ) → clock_fault_of time closed u ≡ None → (p : ℕ) → event_fault streams p time closed (Tick u) ≡ None
 reading_fault streams time true u none p = absurd (no_reading time u none)
   where
     no_reading : (time u : ℤ) → clock_fault_of time true u ≡ None → ⊥

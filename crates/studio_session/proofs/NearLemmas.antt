@@ -6,13 +6,13 @@ use Rattle.std.proofs.lemmas.Int.{ints}
 use Rattle.rtp_stream.specs.Anchor.{anchor_from, can_anchor, is_source_wanted, next_number, restart_from}
 use Rattle.rtp_stream.specs.Copies.{copies_at, copies_of, copies_of_all, copies_under_with, copies_with}
 use Rattle.rtp_stream.specs.Counts.{fates_at, fates_of}
-use Rattle.rtp_stream.specs.Epochs.{anchor_in, anchor_of, anchors_after, anchors_of, can_restart, continues_media_time, last_of, placed, room_in_force}
+use Rattle.rtp_stream.specs.Epochs.{anchor_in, anchor_of, anchors_after, anchors_of, can_restart, continues_media_time, last_of, placed, width_in_force}
 use Rattle.rtp_stream.specs.Fate.{counted_fate, fate_of, is_restart}
-use Rattle.rtp_stream.specs.Grid.{end_of_copies, first_with, in_room}
+use Rattle.rtp_stream.specs.Grid.{end_of_copies, first_with, of_width}
 use Rattle.rtp_stream.specs.History.{arrival_count, is_closed, is_counting, is_well_timed, time_of}
 use Rattle.rtp_stream.specs.Marks.{body_of, end_mark, marks_at, marks_of, slot_mark, slots_at_close, slots_between, slots_from, slots_or_quiet}
 use Rattle.rtp_stream.specs.Probation.{completes_probation, heard_since, is_off}
-use Rattle.rtp_stream.specs.Standing.{are_many, has_wire_size, is_astray, is_following, is_slip, room_after, standing_after, standings_on, standings_since}
+use Rattle.rtp_stream.specs.Follow.{are_many, has_wire_size, is_astray, is_following, is_slip, width_after, standing_after, standings_on, standings_since}
 use Rattle.rtp_stream.specs.declared.anchor.Anchor.{Anchor}
 use Rattle.rtp_stream.specs.declared.event.Event.{Event}
 use Rattle.rtp_stream.specs.declared.event.Event.TheVariants.{Arrive, Close, Tick}
@@ -20,11 +20,11 @@ use Rattle.rtp_stream.specs.declared.fate.Fate.{Fate}
 use Rattle.rtp_stream.specs.declared.fate.Fate.TheVariants.{Closed, CountersFull, Restarted}
 use Rattle.rtp_stream.specs.declared.packet.Packet.{Packet}
 use Rattle.rtp_stream.specs.declared.stream_spec.Stream.{Stream}
-use Rattle.rtp_stream.specs.declared.track.Standing.{Standing}
+use Rattle.rtp_stream.specs.declared.follow.Standing.{Standing}
 use Rattle.path_merge.specs.Merge.{heard_of, standings_of}
 use Rattle.path_merge.proofs.CloseLemmas.{marks_of-close}
 use Rattle.path_merge.proofs.DueLemmas.{next_number-rises}
-use Rattle.path_merge.proofs.EpochLemmas.{anchor_is, copies_of-since, heard_by, heard_of-close, heard_of-made, heard_of-push, heard_of-tick, last-push, place_within, room_made, since_of, standings_by, standings_of-close, standings_of-made, standings_of-push, standings_of-tick}
+use Rattle.path_merge.proofs.EpochLemmas.{anchor_is, copies_of-since, heard_by, heard_of-close, heard_of-made, heard_of-push, heard_of-tick, last-push, place_within, width_made, since_of, standings_by, standings_of-close, standings_of-made, standings_of-push, standings_of-tick}
 use Rattle.path_merge.proofs.HistoryLemmas.{anchor_of-close, anchor_of-tick, arrival_count-append, copies_of-tick, copies_of-with, copies_of_all-close, copies_of_all-push, copies_of_all-tick, fates_of-close, fates_of-push, fates_of-tick, is_closed-append, is_well_timed_from-append, or_else, time_of-append}
 use Rattle.path_merge.proofs.LawLemmas.{arrival_keeps}
 use Rattle.path_merge.proofs.MarkGrowthLemmas.{IsTickAt, tick_well_timed, well_timed_tick}
@@ -140,16 +140,16 @@ module _ (stream : Stream) (open_at : ℤ) where
         ∙ ap (shows (time_of open_at f) a (standings_since stream open_at j b f)) stand
         ∙ ap (λ x. shows (time_of open_at f) x (standings_since stream open_at j b f) (standings_since stream open_at j b (f ++ Arrive path packet ∷ []))) is
 
-    -- the room of the window that the arrival finds
-    room_near : (o p : Option (ℕ × Anchor)) → anchor_in o ≡ anchor_in p → standings_of stream open_at o e ≡ standings_of stream open_at p f → room_in_force stream open_at o e ≡ room_in_force stream open_at p f
-    room_near None None same stood = refl
-    room_near None (Some q) same stood = absurd (cc)
-    room_near (Some p) None same stood = absurd (cc)
-    room_near (Some (i, a)) (Some (j, b)) same stood =
+    -- the width of the window that the arrival finds
+    width_near : (o p : Option (ℕ × Anchor)) → anchor_in o ≡ anchor_in p → standings_of stream open_at o e ≡ standings_of stream open_at p f → width_in_force stream open_at o e ≡ width_in_force stream open_at p f
+    width_near None None same stood = refl
+    width_near None (Some q) same stood = absurd (cc)
+    width_near (Some p) None same stood = absurd (cc)
+    width_near (Some (i, a)) (Some (j, b)) same stood =
         let is : a ≡ b = cc in
-        ap (λ t. room_after stream a (next_number stream a t) (standings_since stream open_at i a e)) near.time
-        ∙ ap (room_after stream a (next_number stream a (time_of open_at f))) stood
-        ∙ ap (λ x. room_after stream x (next_number stream x (time_of open_at f)) (standings_since stream open_at j b f)) is
+        ap (λ t. width_after stream a (next_number stream a t) (standings_since stream open_at i a e)) near.time
+        ∙ ap (width_after stream a (next_number stream a (time_of open_at f))) stood
+        ∙ ap (λ x. width_after stream x (next_number stream x (time_of open_at f)) (standings_since stream open_at j b f)) is
 
     -- since these anchors both histories agree in what is heard, and in the standings of arrivals before this one and
     -- with it
@@ -243,61 +243,61 @@ module _ (stream : Stream) (open_at : ℤ) where
         ∙ standings_with (made_of f) (last_of (anchors_of stream open_at e)) (last_of (anchors_of stream open_at f)) standings_near
         ∙ sym (ap (λ o. standings_of stream open_at o (f ++ Arrive path packet ∷ [])) (last_is f))
 
-    -- the room of the window under the anchor that is in force after the arrival
-    room_with : (made : List Anchor) (o p : Option (ℕ × Anchor)) → room_in_force stream open_at o e ≡ room_in_force stream open_at p f
-        → room_in_force stream open_at (or_else (last_of (placed (length e) made)) o) e ≡ room_in_force stream open_at (or_else (last_of (placed (length f) made)) p) f
-    room_with [] o p same = same
-    room_with (a ∷ []) o p same = room_made stream open_at a e ∙ sym (room_made stream open_at a f)
-    room_with (a ∷ b ∷ made) o p same = room_with (b ∷ made) o p same
+    -- the width of the window under the anchor that is in force after the arrival
+    width_with : (made : List Anchor) (o p : Option (ℕ × Anchor)) → width_in_force stream open_at o e ≡ width_in_force stream open_at p f
+        → width_in_force stream open_at (or_else (last_of (placed (length e) made)) o) e ≡ width_in_force stream open_at (or_else (last_of (placed (length f) made)) p) f
+    width_with [] o p same = same
+    width_with (a ∷ []) o p same = width_made stream open_at a e ∙ sym (width_made stream open_at a f)
+    width_with (a ∷ b ∷ made) o p same = width_with (b ∷ made) o p same
 
-    room_same : room_in_force stream open_at (last_of (anchors_of stream open_at e)) e ≡ room_in_force stream open_at (last_of (anchors_of stream open_at f)) f
-    room_same = room_near (last_of (anchors_of stream open_at e)) (last_of (anchors_of stream open_at f)) anchor_near near.standings
+    width_same : width_in_force stream open_at (last_of (anchors_of stream open_at e)) e ≡ width_in_force stream open_at (last_of (anchors_of stream open_at f)) f
+    width_same = width_near (last_of (anchors_of stream open_at e)) (last_of (anchors_of stream open_at f)) anchor_near near.standings
 
-    abbrev room_then_of : List Event → ℕ
-    room_then_of events = room_in_force stream open_at (last_of (anchors_of stream open_at (events ++ Arrive path packet ∷ []))) events
+    abbrev width_then_of : List Event → ℕ
+    width_then_of events = width_in_force stream open_at (last_of (anchors_of stream open_at (events ++ Arrive path packet ∷ []))) events
 
-    room_then : room_then_of e ≡ room_then_of f
-    room_then =
-        ap (λ o. room_in_force stream open_at o e) (last_is e)
-        ∙ ap (λ l. room_in_force stream open_at (or_else (last_of (placed (length e) l)) (last_of (anchors_of stream open_at e))) e) made_same
-        ∙ room_with (made_of f) (last_of (anchors_of stream open_at e)) (last_of (anchors_of stream open_at f)) room_same
-        ∙ sym (ap (λ o. room_in_force stream open_at o f) (last_is f))
+    width_then : width_then_of e ≡ width_then_of f
+    width_then =
+        ap (λ o. width_in_force stream open_at o e) (last_is e)
+        ∙ ap (λ l. width_in_force stream open_at (or_else (last_of (placed (length e) l)) (last_of (anchors_of stream open_at e))) e) made_same
+        ∙ width_with (made_of f) (last_of (anchors_of stream open_at e)) (last_of (anchors_of stream open_at f)) width_same
+        ∙ sym (ap (λ o. width_in_force stream open_at o f) (last_is f))
 
     copies_then : copies_of_all stream open_at (e ++ Arrive path packet ∷ []) ≡ copies_of_all stream open_at (f ++ Arrive path packet ∷ [])
     copies_then =
         copies_of_all-push stream open_at e (Arrive path packet)
         ∙ ap (λ l. l ++ copies_at stream open_at e (Arrive path packet)) near.copies
         ∙ ap (λ l. copies_of_all stream open_at f ++ l)
-        (ap (λ r. copies_under_with (in_room stream r) (time_of open_at e) (is_counting e) (anchor_of stream open_at (e ++ Arrive path packet ∷ [])) packet) room_then
-        ∙ ap (λ t. copies_under_with (in_room stream (room_then_of f)) t (is_counting e) (anchor_of stream open_at (e ++ Arrive path packet ∷ [])) packet) near.time
-        ∙ ap (λ c. copies_under_with (in_room stream (room_then_of f)) (time_of open_at f) c (anchor_of stream open_at (e ++ Arrive path packet ∷ [])) packet) (counting_near e f near)
-        ∙ ap (λ o. copies_under_with (in_room stream (room_then_of f)) (time_of open_at f) (is_counting f) o packet) anchor_then)
+        (ap (λ r. copies_under_with (of_width stream r) (time_of open_at e) (is_counting e) (anchor_of stream open_at (e ++ Arrive path packet ∷ [])) packet) width_then
+        ∙ ap (λ t. copies_under_with (of_width stream (width_then_of f)) t (is_counting e) (anchor_of stream open_at (e ++ Arrive path packet ∷ [])) packet) near.time
+        ∙ ap (λ c. copies_under_with (of_width stream (width_then_of f)) (time_of open_at f) c (anchor_of stream open_at (e ++ Arrive path packet ∷ [])) packet) (counting_near e f near)
+        ∙ ap (λ o. copies_under_with (of_width stream (width_then_of f)) (time_of open_at f) (is_counting f) o packet) anchor_then)
         ∙ sym (copies_of_all-push stream open_at f (Arrive path packet))
 
     -- the fate of the arrival, by what this depends on
     abbrev fate_by : Bool → ℕ → Bool → ℕ → ℤ → Option Anchor → List (ℕ × Packet) → Fate
-    fate_by closed arrived restarts room time anchor copies =
+    fate_by closed arrived restarts space time anchor copies =
         if closed then Closed
         else if not (nat_lt arrived (2 ^ 62)) then CountersFull
         else if restarts then Restarted
-        else counted_fate stream room time anchor copies packet
+        else counted_fate stream space time anchor copies packet
 
     abbrev restarts_of : List Event → Bool
     restarts_of events = is_restart stream open_at (last_of (anchors_of stream open_at events)) events path packet
 
-    abbrev room_of : List Event → ℕ
-    room_of events = room_in_force stream open_at (last_of (anchors_of stream open_at events)) events
+    abbrev width_of : List Event → ℕ
+    width_of events = width_in_force stream open_at (last_of (anchors_of stream open_at events)) events
 
     fate_near : fate_of stream open_at e path packet ≡ fate_of stream open_at f path packet
     fate_near =
         let restart : restarts_of e ≡ restarts_of f = restart_near (last_of (anchors_of stream open_at e)) (last_of (anchors_of stream open_at f)) anchor_near same_since in
-        ap (λ c. fate_by c (arrival_count e) (restarts_of e) (room_of e) (time_of open_at e) (anchor_of stream open_at e) (copies_of stream open_at e)) near.closed
-        ∙ ap (λ n. fate_by (is_closed f) n (restarts_of e) (room_of e) (time_of open_at e) (anchor_of stream open_at e) (copies_of stream open_at e)) near.arrived
-        ∙ ap (λ r. fate_by (is_closed f) (arrival_count f) r (room_of e) (time_of open_at e) (anchor_of stream open_at e) (copies_of stream open_at e)) restart
-        ∙ ap (λ r. fate_by (is_closed f) (arrival_count f) (restarts_of f) r (time_of open_at e) (anchor_of stream open_at e) (copies_of stream open_at e)) room_same
-        ∙ ap (λ t. fate_by (is_closed f) (arrival_count f) (restarts_of f) (room_of f) t (anchor_of stream open_at e) (copies_of stream open_at e)) near.time
-        ∙ ap (λ o. fate_by (is_closed f) (arrival_count f) (restarts_of f) (room_of f) (time_of open_at f) o (copies_of stream open_at e)) near.anchor
-        ∙ ap (fate_by (is_closed f) (arrival_count f) (restarts_of f) (room_of f) (time_of open_at f) (anchor_of stream open_at f)) (copies_near e f near)
+        ap (λ c. fate_by c (arrival_count e) (restarts_of e) (width_of e) (time_of open_at e) (anchor_of stream open_at e) (copies_of stream open_at e)) near.closed
+        ∙ ap (λ n. fate_by (is_closed f) n (restarts_of e) (width_of e) (time_of open_at e) (anchor_of stream open_at e) (copies_of stream open_at e)) near.arrived
+        ∙ ap (λ r. fate_by (is_closed f) (arrival_count f) r (width_of e) (time_of open_at e) (anchor_of stream open_at e) (copies_of stream open_at e)) restart
+        ∙ ap (λ r. fate_by (is_closed f) (arrival_count f) (restarts_of f) r (time_of open_at e) (anchor_of stream open_at e) (copies_of stream open_at e)) width_same
+        ∙ ap (λ t. fate_by (is_closed f) (arrival_count f) (restarts_of f) (width_of f) t (anchor_of stream open_at e) (copies_of stream open_at e)) near.time
+        ∙ ap (λ o. fate_by (is_closed f) (arrival_count f) (restarts_of f) (width_of f) (time_of open_at f) o (copies_of stream open_at e)) near.anchor
+        ∙ ap (fate_by (is_closed f) (arrival_count f) (restarts_of f) (width_of f) (time_of open_at f) (anchor_of stream open_at f)) (copies_near e f near)
 
     fates_then : fates_of stream open_at (e ++ Arrive path packet ∷ []) ≡ fates_of stream open_at (f ++ Arrive path packet ∷ [])
     fates_then =

@@ -17,11 +17,11 @@ pub new_more : (streams : List Stream) (open_at : ℤ) (cursors : List CursorSta
     → AreNew streams open_at cursors i → stream ≡ get_or streams i stream → cursor.place ≡ 0 → cursor.reading ≡ None
     → ((events : List TraceEvent) → HasPulled stream i open_at events cursor 0)
     → AreNew streams open_at (cursors ++ cursor ∷ []) (i + 1)
-new_more streams open_at cursors i stream cursor before is place rests pulled =
+new_more streams open_at cursors i stream cursor before is place stays_idle pulled =
     let count = before.count_is in
     record {
       count_is = length_push cursors cursor ∙ ap (λ k. k + 1) before.count_is;
-      settled = All-push (λ (c : CursorState). c.reading ≡ None) cursors cursor before.settled rests;
+      settled = All-push (λ (c : CursorState). c.reading ≡ None) cursors cursor before.settled stays_idle;
       each = λ k c s c_is s_is.
           let within : k < length (cursors ++ cursor ∷ []) = slice_get_within (cursors ++ cursor ∷ []) k c c_is in
           let long : length (cursors ++ cursor ∷ []) ≡ length cursors + 1 = length_push cursors cursor in

@@ -13,7 +13,7 @@ use Rattle.rtp_stream.specs.MarkList.{has_end}
 use Rattle.rtp_stream.specs.PathCounts.{PathTally}
 use Rattle.rtp_stream.specs.Reception.{is_any, is_bad, is_sent, is_wrong_length, is_wrong_type}
 use Rattle.rtp_stream.specs.StreamSpecFacts.{format_of}
-use Rattle.rtp_stream.specs.declared.event.Event.TheVariants.{Tick}
+use Rattle.rtp_stream.specs.declared.event.Event.TheVariants.{Tick as StreamTick}
 use Rattle.rtp_stream.specs.declared.fate.Fate.{Fate}
 use Rattle.rtp_stream.specs.declared.mark.PacketFormat.{PacketFormat}
 use Rattle.rtp_stream.specs.declared.reception.Reception.{Reception}
@@ -35,7 +35,7 @@ use Rattle.studio_mix.specs.Mixed.{mixed_samples}
 use Rattle.studio_mix.specs.Output.{datagram_of}
 use Rattle.studio_mix.specs.Ready.{are_covered, block_count, greatest_end, have_ended, is_ready}
 use Rattle.studio_session.specs.Counts.{path_counts_of, path_tallies}
-use Rattle.studio_session.specs.Event.{Arrival, Closing, Reading, TraceEvent}
+use Rattle.studio_session.specs.Event.{Arrival, Closing, Tick, TraceEvent}
 use Rattle.studio_session.specs.Fault.{clock_fault, closed_after, event_fault, path_fault, session_fault_from, session_fault_of, time_after}
 use Rattle.studio_session.specs.Play.{IsRunnableBy, feeds_from, feeds_of, stream_marks}
 use Rattle.studio_session.specs.Pruned.{IsSameRun, pruned_events}
@@ -58,7 +58,7 @@ path_anywhere p q (Some stream) path e = by_test (nat_lt path stream.paths) e
 
 event_anywhere : (streams : List Stream) (p q : ℕ) (time : ℤ) (closed : Bool) (event : TraceEvent) → event_fault streams p time closed event ≡ None → event_fault streams q time closed event ≡ None
 event_anywhere streams p q time closed (Arrival stream path octets) e = path_anywhere p q (slice_get streams stream) path e
-event_anywhere streams p q time closed (Reading u) e = ap (clock_fault q) (in_order p (is_tick_in_order time closed u) e)
+event_anywhere streams p q time closed (Tick u) e = ap (clock_fault q) (in_order p (is_tick_in_order time closed u) e)
 event_anywhere streams p q time closed Closing e = refl
 
 events_anywhere : (streams : List Stream) (p q : ℕ) (time : ℤ) (closed : Bool) (events : List TraceEvent) → session_fault_from streams p time closed events ≡ None → session_fault_from streams q time closed events ≡ None
@@ -74,43 +74,43 @@ both_in_order : (time a b : ℤ) (closed : Bool) → is_tick_in_order time close
 both_in_order time a b true one two = one
 both_in_order time a b false one two = grind (arith, ints, nat_tests, one, two)
 
-fault_without : (streams : List Stream) (p : ℕ) (time : ℤ) (closed : Bool) (first rest : List TraceEvent) (a b : ℤ) → session_fault_from streams p time closed (first ++ Reading a ∷ Reading b ∷ rest) ≡ None
-    → session_fault_from streams p time closed (first ++ Reading b ∷ rest) ≡ None
+fault_without : (streams : List Stream) (p : ℕ) (time : ℤ) (closed : Bool) (first rest : List TraceEvent) (a b : ℤ) → session_fault_from streams p time closed (first ++ Tick a ∷ Tick b ∷ rest) ≡ None
+    → session_fault_from streams p time closed (first ++ Tick b ∷ rest) ≡ None
 fault_without streams p time closed [] rest a b e =
-    let one = in_order p (is_tick_in_order time closed a) (first_none (event_fault streams p time closed (Reading a)) _ e) in
-    let after = later_none (event_fault streams p time closed (Reading a)) _ e in
-    let two = in_order (suc p) (is_tick_in_order a closed b) (first_none (event_fault streams (suc p) a closed (Reading b)) _ after) in
-    let last = later_none (event_fault streams (suc p) a closed (Reading b)) _ after in
-    fault_later streams p time closed (Reading b) rest (ap (clock_fault p) (both_in_order time a b closed one two))
+    let one = in_order p (is_tick_in_order time closed a) (first_none (event_fault streams p time closed (Tick a)) _ e) in
+    let after = later_none (event_fault streams p time closed (Tick a)) _ e in
+    let two = in_order (suc p) (is_tick_in_order a closed b) (first_none (event_fault streams (suc p) a closed (Tick b)) _ after) in
+    let last = later_none (event_fault streams (suc p) a closed (Tick b)) _ after in
+    fault_later streams p time closed (Tick b) rest (ap (clock_fault p) (both_in_order time a b closed one two))
     ∙ events_anywhere streams (suc (suc p)) (suc p) b closed rest last
 fault_without streams p time closed (event ∷ first) rest a b e =
     let here = first_none (event_fault streams p time closed event) _ e in
-    fault_later streams p time closed event (first ++ Reading b ∷ rest) here
+    fault_later streams p time closed event (first ++ Tick b ∷ rest) here
     ∙ fault_without streams (suc p) (time_after time event) (closed_after closed event) first rest a b (later_none (event_fault streams p time closed event) _ e)
 
 -- a reading is no datagram
-count_without : (p : TraceEvent → Bool) (a : ℤ) (rest : List TraceEvent) → p (Reading a) ≡ false → (first : List TraceEvent) → count_by p (first ++ Reading a ∷ rest) ≡ count_by p (first ++ rest)
-count_without p a rest not_it [] = count_by-first p (Reading a) rest ∙ ap (λ b. cond b 1 0 + count_by p rest) not_it ∙ none (count_by p rest)
+count_without : (p : TraceEvent → Bool) (a : ℤ) (rest : List TraceEvent) → p (Tick a) ≡ false → (first : List TraceEvent) → count_by p (first ++ Tick a ∷ rest) ≡ count_by p (first ++ rest)
+count_without p a rest not_it [] = count_by-first p (Tick a) rest ∙ ap (λ b. cond b 1 0 + count_by p rest) not_it ∙ none (count_by p rest)
   where
     none : (n : ℕ) → 0 + n ≡ n
     none n = omega arith
-count_without p a rest not_it (x ∷ first) = count_by-first p x (first ++ Reading a ∷ rest) ∙ ap (λ n. cond (p x) 1 0 + n) (count_without p a rest not_it first) ∙ sym (count_by-first p x (first ++ rest))
+count_without p a rest not_it (x ∷ first) = count_by-first p x (first ++ Tick a ∷ rest) ∙ ap (λ n. cond (p x) 1 0 + n) (count_without p a rest not_it first) ∙ sym (count_by-first p x (first ++ rest))
 
-received_without : (test : Reception → Bool) (stream : Stream) (number path : ℕ) (first rest : List TraceEvent) (a : ℤ) → received_on test stream number path (first ++ Reading a ∷ rest) ≡ received_on test stream number path (first ++ rest)
+received_without : (test : Reception → Bool) (stream : Stream) (number path : ℕ) (first rest : List TraceEvent) (a : ℤ) → received_on test stream number path (first ++ Tick a ∷ rest) ≡ received_on test stream number path (first ++ rest)
 received_without test stream number path first rest a = count_without (λ event. is_on test path (step_of stream number event)) a rest refl first
 
 same_tally : (a b c d e a' b' c' d' e' : ℕ) → a ≡ a' → b ≡ b' → c ≡ c' → d ≡ d' → e ≡ e'
     → ◌≡◌ {A = PathTally} (record { offered = a; sent = b; bad = c; wrong_type = d; wrong_length = e; full = 0 }) (record { offered = a'; sent = b'; bad = c'; wrong_type = d'; wrong_length = e'; full = 0 })
 same_tally a b c d e a' b' c' d' e' p q r s t = cc
 
-path_without : (stream : Stream) (number path : ℕ) (first rest : List TraceEvent) (a : ℤ) → path_counts_of stream number path (first ++ Reading a ∷ rest) ≡ path_counts_of stream number path (first ++ rest)
+path_without : (stream : Stream) (number path : ℕ) (first rest : List TraceEvent) (a : ℤ) → path_counts_of stream number path (first ++ Tick a ∷ rest) ≡ path_counts_of stream number path (first ++ rest)
 path_without stream number path first rest a =
     same_tally _ _ _ _ _ _ _ _ _ _ (received_without is_any stream number path first rest a) (received_without is_sent stream number path first rest a) (received_without is_bad stream number path first rest a) (received_without is_wrong_type stream number path first rest a) (received_without is_wrong_length stream number path first rest a)
 
-paths_without : (stream : Stream) (number : ℕ) (first rest : List TraceEvent) (a : ℤ) (count : ℕ) → path_tallies stream number (first ++ Reading a ∷ rest) count ≡ path_tallies stream number (first ++ rest) count
+paths_without : (stream : Stream) (number : ℕ) (first rest : List TraceEvent) (a : ℤ) (count : ℕ) → path_tallies stream number (first ++ Tick a ∷ rest) count ≡ path_tallies stream number (first ++ rest) count
 paths_without stream number first rest a zero = refl
 paths_without stream number first rest a (suc count) =
-    ap (λ l. l ++ path_counts_of stream number count (first ++ Reading a ∷ rest) ∷ []) (paths_without stream number first rest a count)
+    ap (λ l. l ++ path_counts_of stream number count (first ++ Tick a ∷ rest) ∷ []) (paths_without stream number first rest a count)
     ∙ ap (λ t. path_tallies stream number (first ++ rest) count ++ t ∷ []) (path_without stream number count first rest a)
 
 -- the counts are the same for the same fates and for marks that are alike
@@ -121,47 +121,47 @@ tallies_alike format fates others long short same alike =
     ∙ ap (λ n. record (tally_of_fates others long) { got = count_by (λ mark. is_got mark.kind) short; lost = n }) alike.lost
 
 -- the marks and counts of one stream, with a reading and without it
-module _ (studio : Studio) (first rest : List TraceEvent) (a b : ℤ) (none : session_fault_of studio (first ++ Reading a ∷ Reading b ∷ rest) ≡ None) where
-  none_without : session_fault_of studio (first ++ Reading b ∷ rest) ≡ None
+module _ (studio : Studio) (first rest : List TraceEvent) (a b : ℤ) (none : session_fault_of studio (first ++ Tick a ∷ Tick b ∷ rest) ≡ None) where
+  none_without : session_fault_of studio (first ++ Tick b ∷ rest) ≡ None
   none_without = fault_without studio.streams 0 studio.open_at false first rest a b none
 
   module _ (stream : Stream) (number : ℕ) (some : 0 < stream.frames) where
-    long_is : stream_history stream number (first ++ Reading a ∷ Reading b ∷ rest) ≡ ((stream_history stream number first ++ Tick a ∷ []) ++ Tick b ∷ []) ++ stream_history stream number rest
+    long_is : stream_history stream number (first ++ Tick a ∷ Tick b ∷ rest) ≡ ((stream_history stream number first ++ StreamTick a ∷ []) ++ StreamTick b ∷ []) ++ stream_history stream number rest
     long_is =
-        flat_map-append (λ event. event_in (step_of stream number event)) first (Reading a ∷ Reading b ∷ rest)
-        ∙ sym (append_assoc (stream_history stream number first) (Tick a ∷ []) (Tick b ∷ stream_history stream number rest))
-        ∙ sym (append_assoc (stream_history stream number first ++ Tick a ∷ []) (Tick b ∷ []) (stream_history stream number rest))
+        flat_map-append (λ event. event_in (step_of stream number event)) first (Tick a ∷ Tick b ∷ rest)
+        ∙ sym (append_assoc (stream_history stream number first) (StreamTick a ∷ []) (StreamTick b ∷ stream_history stream number rest))
+        ∙ sym (append_assoc (stream_history stream number first ++ StreamTick a ∷ []) (StreamTick b ∷ []) (stream_history stream number rest))
 
-    short_is : stream_history stream number (first ++ Reading b ∷ rest) ≡ (stream_history stream number first ++ Tick b ∷ []) ++ stream_history stream number rest
+    short_is : stream_history stream number (first ++ Tick b ∷ rest) ≡ (stream_history stream number first ++ StreamTick b ∷ []) ++ stream_history stream number rest
     short_is =
-        flat_map-append (λ event. event_in (step_of stream number event)) first (Reading b ∷ rest)
-        ∙ sym (append_assoc (stream_history stream number first) (Tick b ∷ []) (stream_history stream number rest))
+        flat_map-append (λ event. event_in (step_of stream number event)) first (Tick b ∷ rest)
+        ∙ sym (append_assoc (stream_history stream number first) (StreamTick b ∷ []) (stream_history stream number rest))
 
-    timed_long : is_well_timed studio.open_at (stream_history stream number (first ++ Reading a ∷ Reading b ∷ rest)) ≡ true
-    timed_long = timed_from studio.streams stream number 0 studio.open_at false (first ++ Reading a ∷ Reading b ∷ rest) none
+    timed_long : is_well_timed studio.open_at (stream_history stream number (first ++ Tick a ∷ Tick b ∷ rest)) ≡ true
+    timed_long = timed_from studio.streams stream number 0 studio.open_at false (first ++ Tick a ∷ Tick b ∷ rest) none
 
-    timed_short : is_well_timed studio.open_at (stream_history stream number (first ++ Reading b ∷ rest)) ≡ true
-    timed_short = timed_from studio.streams stream number 0 studio.open_at false (first ++ Reading b ∷ rest) none_without
+    timed_short : is_well_timed studio.open_at (stream_history stream number (first ++ Tick b ∷ rest)) ≡ true
+    timed_short = timed_from studio.streams stream number 0 studio.open_at false (first ++ Tick b ∷ rest) none_without
 
-    near : AreNear stream studio.open_at (stream_history stream number (first ++ Reading a ∷ Reading b ∷ rest)) (stream_history stream number (first ++ Reading b ∷ rest))
+    near : AreNear stream studio.open_at (stream_history stream number (first ++ Tick a ∷ Tick b ∷ rest)) (stream_history stream number (first ++ Tick b ∷ rest))
     near =
-        let timed : is_well_timed studio.open_at (((stream_history stream number first ++ Tick a ∷ []) ++ Tick b ∷ []) ++ stream_history stream number rest) ≡ true = sym (ap (is_well_timed studio.open_at) long_is) ∙ timed_long in
-        let others : is_well_timed studio.open_at ((stream_history stream number first ++ Tick b ∷ []) ++ stream_history stream number rest) ≡ true = sym (ap (is_well_timed studio.open_at) short_is) ∙ timed_short in
-        let second : IsTickAt studio.open_at (stream_history stream number first ++ Tick a ∷ []) b = well_timed_tick studio.open_at (stream_history stream number first ++ Tick a ∷ []) b (timed_part studio.open_at ((stream_history stream number first ++ Tick a ∷ []) ++ Tick b ∷ []) (stream_history stream number rest) timed) in
+        let timed : is_well_timed studio.open_at (((stream_history stream number first ++ StreamTick a ∷ []) ++ StreamTick b ∷ []) ++ stream_history stream number rest) ≡ true = sym (ap (is_well_timed studio.open_at) long_is) ∙ timed_long in
+        let others : is_well_timed studio.open_at ((stream_history stream number first ++ StreamTick b ∷ []) ++ stream_history stream number rest) ≡ true = sym (ap (is_well_timed studio.open_at) short_is) ∙ timed_short in
+        let second : IsTickAt studio.open_at (stream_history stream number first ++ StreamTick a ∷ []) b = well_timed_tick studio.open_at (stream_history stream number first ++ StreamTick a ∷ []) b (timed_part studio.open_at ((stream_history stream number first ++ StreamTick a ∷ []) ++ StreamTick b ∷ []) (stream_history stream number rest) timed) in
         let one : IsTickAt studio.open_at (stream_history stream number first) a = well_timed_tick studio.open_at (stream_history stream number first) a second.before in
-        let start = near_two stream studio.open_at some (stream_history stream number first) a b one (omega (arith, ints, second.not_back, time_of-append studio.open_at (stream_history stream number first) (Tick a ∷ []))) second.not_far in
-        subst (λ l. AreNear stream studio.open_at l (stream_history stream number (first ++ Reading b ∷ rest))) (sym long_is)
-        (subst (AreNear stream studio.open_at (((stream_history stream number first ++ Tick a ∷ []) ++ Tick b ∷ []) ++ stream_history stream number rest)) (sym short_is)
-        (near_on stream studio.open_at some ((stream_history stream number first ++ Tick a ∷ []) ++ Tick b ∷ []) (stream_history stream number first ++ Tick b ∷ []) (stream_history stream number rest) start timed others))
+        let start = near_two stream studio.open_at some (stream_history stream number first) a b one (omega (arith, ints, second.not_back, time_of-append studio.open_at (stream_history stream number first) (StreamTick a ∷ []))) second.not_far in
+        subst (λ l. AreNear stream studio.open_at l (stream_history stream number (first ++ Tick b ∷ rest))) (sym long_is)
+        (subst (AreNear stream studio.open_at (((stream_history stream number first ++ StreamTick a ∷ []) ++ StreamTick b ∷ []) ++ stream_history stream number rest)) (sym short_is)
+        (near_on stream studio.open_at some ((stream_history stream number first ++ StreamTick a ∷ []) ++ StreamTick b ∷ []) (stream_history stream number first ++ StreamTick b ∷ []) (stream_history stream number rest) start timed others))
 
-    marks_alike : AreAlike (format_of stream) (stream_marks stream number studio.open_at (first ++ Reading a ∷ Reading b ∷ rest)) (stream_marks stream number studio.open_at (first ++ Reading b ∷ rest))
+    marks_alike : AreAlike (format_of stream) (stream_marks stream number studio.open_at (first ++ Tick a ∷ Tick b ∷ rest)) (stream_marks stream number studio.open_at (first ++ Tick b ∷ rest))
     marks_alike =
-        close_alike stream (format_of stream) (stream_marks stream number studio.open_at (first ++ Reading a ∷ Reading b ∷ rest)) (stream_marks stream number studio.open_at (first ++ Reading b ∷ rest)) near.marks
-        (listed stream studio.open_at (stream_history stream number (first ++ Reading a ∷ Reading b ∷ rest)) some timed_long)
-        (listed stream studio.open_at (stream_history stream number (first ++ Reading b ∷ rest)) some timed_short)
+        close_alike stream (format_of stream) (stream_marks stream number studio.open_at (first ++ Tick a ∷ Tick b ∷ rest)) (stream_marks stream number studio.open_at (first ++ Tick b ∷ rest)) near.marks
+        (listed stream studio.open_at (stream_history stream number (first ++ Tick a ∷ Tick b ∷ rest)) some timed_long)
+        (listed stream studio.open_at (stream_history stream number (first ++ Tick b ∷ rest)) some timed_short)
 
-    tally_same : merge_tally_of stream number studio.open_at (first ++ Reading a ∷ Reading b ∷ rest) ≡ merge_tally_of stream number studio.open_at (first ++ Reading b ∷ rest)
-    tally_same = tallies_alike (format_of stream) (fates_of stream studio.open_at (stream_history stream number (first ++ Reading a ∷ Reading b ∷ rest))) (fates_of stream studio.open_at (stream_history stream number (first ++ Reading b ∷ rest))) (stream_marks stream number studio.open_at (first ++ Reading a ∷ Reading b ∷ rest)) (stream_marks stream number studio.open_at (first ++ Reading b ∷ rest)) near.fates marks_alike
+    tally_same : merge_tally_of stream number studio.open_at (first ++ Tick a ∷ Tick b ∷ rest) ≡ merge_tally_of stream number studio.open_at (first ++ Tick b ∷ rest)
+    tally_same = tallies_alike (format_of stream) (fates_of stream studio.open_at (stream_history stream number (first ++ Tick a ∷ Tick b ∷ rest))) (fates_of stream studio.open_at (stream_history stream number (first ++ Tick b ∷ rest))) (stream_marks stream number studio.open_at (first ++ Tick a ∷ Tick b ∷ rest)) (stream_marks stream number studio.open_at (first ++ Tick b ∷ rest)) near.fates marks_alike
 
 -- all streams, which are numbered from `number` on
 abbrev pub SameMarks : ℤ → List TraceEvent → List TraceEvent → ℕ → List Stream → Type 0
@@ -234,25 +234,25 @@ all_some : (streams : List Stream) → ((i : ℕ) (stream : Stream) → slice_ge
 all_some [] each = tt
 all_some (stream ∷ streams) each = (each 0 stream refl, all_some streams (λ i s at. each (suc i) s at))
 
-module _ (studio : Studio) (runs : IsRunnableBy studio []) (first rest : List TraceEvent) (a b : ℤ) (none : session_fault_of studio (first ++ Reading a ∷ Reading b ∷ rest) ≡ None) where
-  same_marks : (streams : List Stream) (number : ℕ) → AllSome streams → SameMarks studio.open_at (first ++ Reading a ∷ Reading b ∷ rest) (first ++ Reading b ∷ rest) number streams
+module _ (studio : Studio) (runs : IsRunnableBy studio []) (first rest : List TraceEvent) (a b : ℤ) (none : session_fault_of studio (first ++ Tick a ∷ Tick b ∷ rest) ≡ None) where
+  same_marks : (streams : List Stream) (number : ℕ) → AllSome streams → SameMarks studio.open_at (first ++ Tick a ∷ Tick b ∷ rest) (first ++ Tick b ∷ rest) number streams
   same_marks [] number some = tt
   same_marks (stream ∷ streams) number some = (marks_alike studio first rest a b none stream number some.0, same_marks streams (suc number) some.1)
 
-  all_same : SameMarks studio.open_at (first ++ Reading a ∷ Reading b ∷ rest) (first ++ Reading b ∷ rest) 0 studio.streams
+  all_same : SameMarks studio.open_at (first ++ Tick a ∷ Tick b ∷ rest) (first ++ Tick b ∷ rest) 0 studio.streams
   all_same = same_marks studio.streams 0 (all_some studio.streams (λ i stream at. (runs.each i stream at).some_frames))
 
-  paths_same : (stream : Stream) (number count : ℕ) → path_tallies stream number (first ++ Reading a ∷ Reading b ∷ rest) count ≡ path_tallies stream number (first ++ Reading b ∷ rest) count
-  paths_same stream number count = paths_without stream number first (Reading b ∷ rest) a count
+  paths_same : (stream : Stream) (number count : ℕ) → path_tallies stream number (first ++ Tick a ∷ Tick b ∷ rest) count ≡ path_tallies stream number (first ++ Tick b ∷ rest) count
+  paths_same stream number count = paths_without stream number first (Tick b ∷ rest) a count
 
   -- a studio's run with the reading and without it is the same
-  pub reading_left_out : IsSameRun studio (first ++ Reading a ∷ Reading b ∷ rest) (first ++ Reading b ∷ rest)
-  reading_left_out = record {
+  pub tick_left_out : IsSameRun studio (first ++ Tick a ∷ Tick b ∷ rest) (first ++ Tick b ∷ rest)
+  tick_left_out = record {
     no_fault = none_without studio first rest a b none;
-    paths = λ i path stream at. path_without stream i path first (Reading b ∷ rest) a;
+    paths = λ i path stream at. path_without stream i path first (Tick b ∷ rest) a;
     merges = λ i stream at. tally_same studio first rest a b none stream i (runs.each i stream at).some_frames;
-    datagrams = datagrams_on studio (first ++ Reading a ∷ Reading b ∷ rest) (first ++ Reading b ∷ rest) all_same;
-    datagrams_back = datagrams_back studio (first ++ Reading a ∷ Reading b ∷ rest) (first ++ Reading b ∷ rest) all_same;
+    datagrams = datagrams_on studio (first ++ Tick a ∷ Tick b ∷ rest) (first ++ Tick b ∷ rest) all_same;
+    datagrams_back = datagrams_back studio (first ++ Tick a ∷ Tick b ∷ rest) (first ++ Tick b ∷ rest) all_same;
     counts = λ counts are. record {
       count = are.count;
       each = λ i stream c at there.
@@ -295,19 +295,19 @@ module _ (studio : Studio) (runs : IsRunnableBy studio []) where
       subst (λ l. IsSameRun studio l (first ++ event ∷ pruned_events events)) one
       (subst (IsSameRun studio ((first ++ event ∷ []) ++ events)) two (prunes (ap (session_fault_of studio) one ∙ none)))
 
-  by_next : (first : List TraceEvent) (u : ℤ) (events : List TraceEvent) → Prunes (first ++ Reading u ∷ []) events → Prunes first events → Prunes first (Reading u ∷ events)
-  by_next first u [] stays passed none = behind first (Reading u) [] stays none
-  by_next first u (Arrival stream path octets ∷ events) stays passed none = behind first (Reading u) (Arrival stream path octets ∷ events) stays none
-  by_next first u (Closing ∷ events) stays passed none = behind first (Reading u) (Closing ∷ events) stays none
-  by_next first u (Reading v ∷ events) stays passed none =
-      let one = reading_left_out studio runs first events u v none in
-      same_on studio (first ++ Reading u ∷ Reading v ∷ events) (first ++ Reading v ∷ events) (first ++ pruned_events (Reading v ∷ events)) one (passed one.no_fault)
+  by_next : (first : List TraceEvent) (u : ℤ) (events : List TraceEvent) → Prunes (first ++ Tick u ∷ []) events → Prunes first events → Prunes first (Tick u ∷ events)
+  by_next first u [] stays passed none = behind first (Tick u) [] stays none
+  by_next first u (Arrival stream path octets ∷ events) stays passed none = behind first (Tick u) (Arrival stream path octets ∷ events) stays none
+  by_next first u (Closing ∷ events) stays passed none = behind first (Tick u) (Closing ∷ events) stays none
+  by_next first u (Tick v ∷ events) stays passed none =
+      let one = tick_left_out studio runs first events u v none in
+      same_on studio (first ++ Tick u ∷ Tick v ∷ events) (first ++ Tick v ∷ events) (first ++ pruned_events (Tick v ∷ events)) one (passed one.no_fault)
 
   prunes_from : (events first : List TraceEvent) → Prunes first events
   prunes_from [] first none = same_itself studio (first ++ []) none
   prunes_from (Arrival stream path octets ∷ events) first none = behind first (Arrival stream path octets) events (prunes_from events (first ++ Arrival stream path octets ∷ [])) none
   prunes_from (Closing ∷ events) first none = behind first Closing events (prunes_from events (first ++ Closing ∷ [])) none
-  prunes_from (Reading u ∷ events) first none = by_next first u events (prunes_from events (first ++ Reading u ∷ [])) (prunes_from events first) none
+  prunes_from (Tick u ∷ events) first none = by_next first u events (prunes_from events (first ++ Tick u ∷ [])) (prunes_from events first) none
 
   pub pruned_same : (events : List TraceEvent) → session_fault_of studio events ≡ None → IsSameRun studio events (pruned_events events)
   pruned_same events none = prunes_from events [] none

@@ -8,16 +8,16 @@ use Rattle.rtp_stream.specs.Reception.{reception_of}
 use Rattle.rtp_stream.specs.Fate.{fate_of}
 use Rattle.studio_session.specs.Event.{TraceEvent}
 use Rattle.studio_session.specs.Session.{stream_history}
-use Rattle.studio_session.specs.declared.receipt.ArriveOutcome.{ArriveOutcome}
-use Rattle.studio_session.specs.declared.receipt.ArriveOutcome.TheVariants.{Offered, Bad as BadOf, WrongType as WrongTypeOf, WrongLength as WrongLengthOf}
+use Rattle.studio_session.specs.declared.arrive_outcome.ArriveOutcome.{ArriveOutcome}
+use Rattle.studio_session.specs.declared.arrive_outcome.ArriveOutcome.TheVariants.{Offered, Bad as BadOf, WrongType as WrongTypeOf, WrongLength as WrongLengthOf}
 
 -- the number, the timestamp and the fate of a packet after a history, or why the datagram has none
-abbrev pub receipt_in : Stream → ℤ → List Event → ℕ → Reception → ArriveOutcome
-receipt_in stream open_at events path (Sent packet) = Offered (record { seq = packet.seq; ts = packet.ts; fate = fate_of stream open_at events path packet })
-receipt_in stream open_at events path (Bad fault) = BadOf fault
-receipt_in stream open_at events path WrongType = WrongTypeOf
-receipt_in stream open_at events path WrongLength = WrongLengthOf
+abbrev pub outcome_in : Stream → ℤ → List Event → ℕ → Reception → ArriveOutcome
+outcome_in stream open_at events path (Sent packet) = Offered (record { seq = packet.seq; ts = packet.ts; fate = fate_of stream open_at events path packet })
+outcome_in stream open_at events path (Bad fault) = BadOf fault
+outcome_in stream open_at events path WrongType = WrongTypeOf
+outcome_in stream open_at events path WrongLength = WrongLengthOf
 
 -- the outcome of a datagram that comes on a path of a stream after these events of the studio
-abbrev pub receipt_of : Stream → ℕ → ℤ → List TraceEvent → ℕ → List ℕ → ArriveOutcome
-receipt_of stream number open_at events path octets = receipt_in stream open_at (stream_history stream number events) path (reception_of stream octets)
+abbrev pub outcome_of : Stream → ℕ → ℤ → List TraceEvent → ℕ → List ℕ → ArriveOutcome
+outcome_of stream number open_at events path octets = outcome_in stream open_at (stream_history stream number events) path (reception_of stream octets)

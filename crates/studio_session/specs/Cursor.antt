@@ -5,7 +5,7 @@ use Rattle.rtp_stream.specs.declared.stream_spec.Stream.{Stream}
 use Rattle.rtp_stream.specs.MarkFacts.{MarkView}
 use Rattle.path_merge.specs.MergeState.{MergeState}
 use Rattle.path_merge.specs.declared.goal.Goal.{Goal}
-use Rattle.path_merge.specs.declared.goal.Goal.TheVariants.{End, Reading as ToReading}
+use Rattle.path_merge.specs.declared.goal.Goal.TheVariants.{End, Tick as ToTick}
 use Rattle.path_merge.specs.Goal.{CanReach, next_to}
 use Rattle.path_merge.specs.Steps.{marks_left}
 use Rattle.rtp_stream.specs.Marks.{marks_of}
@@ -31,7 +31,7 @@ at_place place cursor = record cursor { place = place }
 
 -- the goal for the marks of the events that were taken: a reading that is still to be reached, or the end
 abbrev pub goal_of : Option ℤ → Goal
-goal_of (Some u) = ToReading u
+goal_of (Some u) = ToTick u
 goal_of None = End
 
 -- no path was offered more datagrams than this number of events

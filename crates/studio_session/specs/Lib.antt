@@ -28,7 +28,7 @@ pub use Rattle.mix_packets.specs.Block
 pub use Rattle.mix_packets.specs.OutSpec
 pub use Rattle.studio_mix.specs.Feed
 pub use Rattle.studio_mix.specs.Mixer
-pub use Rattle.studio_mix.specs.Room
+pub use Rattle.studio_mix.specs.LaneCapacity
 pub use Rattle.studio_mix.specs.Ready
 pub use Rattle.studio_mix.specs.Output
 pub use Rattle.mix_packets.specs.Packer

@@ -3,24 +3,24 @@ use Rattle.std.specs.Prelude.{◌≡◌, ℕ, Bool, true, false, List, [], ◌�
 use Rattle.rtp_stream.specs.declared.stream_counts.StreamCounts.{StreamCounts}
 use Rattle.rtp_stream.specs.declared.stream_spec.Stream.{Stream}
 use Rattle.studio_config.specs.Studio.{Studio}
-use Rattle.studio_session.specs.Event.{TraceEvent, Arrival, Reading, Closing}
+use Rattle.studio_session.specs.Event.{TraceEvent, Arrival, Tick, Closing}
 use Rattle.studio_session.specs.Fault.{session_fault_of}
 use Rattle.studio_session.specs.Counts.{path_counts_of}
 use Rattle.studio_session.specs.Report.{AreCounts, merge_tally_of}
 use Rattle.studio_session.specs.Run.{AreDatagrams}
 
 -- the first event is a clock reading
-abbrev pub begin_with_reading : List TraceEvent → Bool
-begin_with_reading [] = false
-begin_with_reading (Arrival stream path octets ∷ events) = false
-begin_with_reading (Reading time ∷ events) = true
-begin_with_reading (Closing ∷ events) = false
+abbrev pub begin_with_tick : List TraceEvent → Bool
+begin_with_tick [] = false
+begin_with_tick (Arrival stream path octets ∷ events) = false
+begin_with_tick (Tick time ∷ events) = true
+begin_with_tick (Closing ∷ events) = false
 
 -- the events without each clock reading that is directly followed by another reading
 abbrev pub pruned_events : List TraceEvent → List TraceEvent
 pruned_events [] = []
 pruned_events (Arrival stream path octets ∷ events) = Arrival stream path octets ∷ pruned_events events
-pruned_events (Reading time ∷ events) = if begin_with_reading events then pruned_events events else Reading time ∷ pruned_events events
+pruned_events (Tick time ∷ events) = if begin_with_tick events then pruned_events events else Tick time ∷ pruned_events events
 pruned_events (Closing ∷ events) = Closing ∷ pruned_events events
 
 -- `others` have no fault, and both lists of events lead to the same datagrams and to the same counts of each path and

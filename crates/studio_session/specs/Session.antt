@@ -2,9 +2,9 @@
 use Rattle.std.specs.Prelude.{ℕ, Bool, false, ◌&&◌, nat_eq, ℤ, List, [], ◌∷◌, flat_map, count_by, if◌then◌else◌}
 use Rattle.rtp_stream.specs.declared.stream_spec.Stream.{Stream}
 use Rattle.rtp_stream.specs.declared.event.Event.{Event}
-use Rattle.rtp_stream.specs.declared.event.Event.TheVariants.{Arrive, Tick, Close}
+use Rattle.rtp_stream.specs.declared.event.Event.TheVariants.{Arrive, Tick as StreamTick, Close}
 use Rattle.rtp_stream.specs.Reception.{reception_of}
-use Rattle.studio_session.specs.Event.{TraceEvent, Arrival, Reading, Closing}
+use Rattle.studio_session.specs.Event.{TraceEvent, Arrival, Tick, Closing}
 use Rattle.rtp_stream.specs.declared.reception.Reception.{Reception}
 use Rattle.rtp_stream.specs.declared.reception.Reception.TheVariants.{Sent, Bad, WrongType, WrongLength}
 
@@ -18,7 +18,7 @@ pub data Step : Type 0 where
 
 abbrev pub step_of : Stream → ℕ → TraceEvent → Step
 step_of stream number (Arrival s path octets) = if nat_eq s number then Datagram path (reception_of stream octets) else Other
-step_of stream number (Reading time) = Clock time
+step_of stream number (Tick time) = Clock time
 step_of stream number Closing = End
 
 -- the events of the stream's history that a step adds: none for another stream's datagram, or one that is not a packet
@@ -29,7 +29,7 @@ event_in (Datagram path (Sent packet)) = Arrive path packet ∷ []
 event_in (Datagram path (Bad fault)) = []
 event_in (Datagram path WrongType) = []
 event_in (Datagram path WrongLength) = []
-event_in (Clock time) = Tick time ∷ []
+event_in (Clock time) = StreamTick time ∷ []
 event_in End = Close ∷ []
 
 -- the history of one stream

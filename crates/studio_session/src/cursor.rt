@@ -27,7 +27,7 @@ ghost use Rattle.path_merge.specs.Merge.{HasHistory};
 ghost use Rattle.path_merge.specs.Clock.{clock_fault_of};
 ghost use Rattle.path_merge.specs.Goal.{CanReach, HasGivenAll};
 ghost use Rattle.path_merge.specs.Steps.{next_deadline_of};
-ghost use Rattle.studio_session.specs.Event.{TraceEvent, Arrival, Reading, Closing, outline_of};
+ghost use Rattle.studio_session.specs.Event.{TraceEvent, Arrival, Tick, Closing, outline_of};
 ghost use Rattle.rtp_stream.specs.Reception.{reception_from, FitsReception};
 ghost use Rattle.studio_session.specs.Session.{Datagram, Other, step_of, event_in};
 ghost use Rattle.rtp_stream.specs.PathCounts.{path_tally_of, tallies_of};
@@ -46,11 +46,11 @@ ghost use Rattle.studio_session.specs.Cursor.{
 };
 ghost use Rattle.studio_session.specs.Cursor as goal;
 ghost use Rattle.studio_session.specs.PushedEvents.{IsHanded};
-ghost use Rattle.studio_session.specs.ArriveOutcome.{receipt_in, receipt_of};
+ghost use Rattle.studio_session.specs.ArriveOutcome.{outcome_in, outcome_of};
 
+use crate::arrive_outcome::{ArriveOutcome, OfferedPacket};
 use crate::event::EventHeader;
-use crate::receipt::{ArriveOutcome, OfferedPacket};
-use crate::source::{DatagramRoom, EventSource};
+use crate::source::{DatagramBuffer, EventSource};
 use path_merge::{Counts, Goal, MarkRef, Merge, Path, SlotWindow, StreamSpec};
 use rtp_stream::{PathCounts, ReceptionRef, receive_ref};
 use std::alloc::{AllocError, Global};
@@ -59,7 +59,7 @@ use std::marker::Model;
 /// A stream of a run: its merge, its counts, and how many of the run's events it took.
 ///
 /// `take_event` takes the stream's next event from a source. If events come one by one instead, `push_datagram`,
-/// `skip`, `push_reading` and `push_close` take the next, and `pass_to` skips several. After each event `mark` returns
+/// `skip`, `push_tick` and `push_close` take the next, and `pass_to` skips several. After each event `mark` returns
 /// a reference to a mark and `pass` lets it go, until `pass` returns false.
 #[derive(Drop)]
 pub struct Cursor {
@@ -171,7 +171,7 @@ impl Cursor {
             → IsOnTheWay stream number open_at events self.new k (next_of self.old) }
         ensures kept { IsSameCursor self.old self.new }
         ensures settled { result ≡ false → self.new.reading ≡ None }
-        ensures rests { self.old.reading ≡ None → self.new.reading ≡ None }
+        ensures stays_idle { self.old.reading ≡ None → self.new.reading ≡ None }
         ensures all { result ≡ false → HasGivenAll self.new.merge }
         ensures fewer { result ≡ true → way_left self.new < way_left self.old }
     {
@@ -185,8 +185,8 @@ impl Cursor {
     /// Takes the next event of the stream after those of others before it, which it passes over. Returns false if no
     /// event was left.
     ///
-    /// `room` is where the source may lay out a datagram; its contents don't matter.
-    pub fn take_event<E: EventSource>(&mut self, source: &E, room: &mut DatagramRoom) -> bool
+    /// `buffer` is where the source may lay out a datagram; its contents don't matter.
+    pub fn take_event<E: EventSource>(&mut self, source: &E, buffer: &mut DatagramBuffer) -> bool
         requires settled { self.old.reading ≡ None }
         requires ready { IsReadyFor (E.events source.now) self.old }
         ensures ready { IsReadyFor (E.events source.now) self.new }
@@ -202,7 +202,7 @@ impl Cursor {
             return false;
         }
         self.pass_over_others(source);
-        self.take_one(source, room);
+        self.take_one(source, buffer);
         true
     }
 
@@ -241,7 +241,7 @@ impl Cursor {
     }
 
     /// Takes the event that comes next, if one is left.
-    fn take_one<E: EventSource>(&mut self, source: &E, room: &mut DatagramRoom)
+    fn take_one<E: EventSource>(&mut self, source: &E, buffer: &mut DatagramBuffer)
         requires settled { self.old.reading ≡ None }
         requires ready { IsReadyFor (E.events source.now) self.old }
         ensures ready { IsReadyFor (E.events source.now) self.new }
@@ -259,7 +259,7 @@ impl Cursor {
             EventHeader::Arrive { stream, path } => {
                 if stream == self.number {
                     // The outcome is counted as well, and a run over a source needs no more.
-                    let _ = self.take_datagram(path, source.octets(self.place, room));
+                    let _ = self.take_datagram(path, source.octets(self.place, buffer));
                 } else {
                     self.pass_over();
                 }
@@ -281,15 +281,15 @@ impl Cursor {
         ensures stands { (stream : Stream) (number : ℕ) (open_at : ℤ) (events : List TraceEvent) (k : ℕ)
             → slice_get events self.old.place ≡ Some (Arrival number path octets.now)
             → HasPulled stream number open_at events self.old k → HasPulled stream number open_at events self.new k }
-        ensures receipt { (stream : Stream) (number : ℕ) (open_at : ℤ) (events : List TraceEvent) (k : ℕ)
+        ensures outcome { (stream : Stream) (number : ℕ) (open_at : ℤ) (events : List TraceEvent) (k : ℕ)
             → HasPulled stream number open_at events self.old k
-            → result ≡ receipt_of stream number open_at (take self.old.place events) path octets.now }
+            → result ≡ outcome_of stream number open_at (take self.old.place events) path octets.now }
     {
         let reception = receive_ref(&self.spec, octets);
         count_on(&mut self.paths, path, reception);
-        let receipt = offer_received(&mut self.merge, path, reception);
+        let outcome = offer_received(&mut self.merge, path, reception);
         self.place += 1;
-        receipt
+        outcome
     }
 
     /// Takes a datagram of the stream that comes after all events so far, and returns its outcome.
@@ -299,9 +299,9 @@ impl Cursor {
         requires path { path < self.old.spec.paths }
         ensures place { self.new.place ≡ self.old.place + 1 }
         ensures handed { (number : ℕ) → IsHanded (Arrival number path octets.now) number self.old self.new }
-        ensures receipt { (stream : Stream) (number : ℕ) (open_at : ℤ) (events : List TraceEvent) (k : ℕ)
+        ensures outcome { (stream : Stream) (number : ℕ) (open_at : ℤ) (events : List TraceEvent) (k : ℕ)
             → self.old.place ≡ length events → HasPulled stream number open_at events self.old k
-            → result ≡ receipt_of stream number open_at events path octets.now }
+            → result ≡ outcome_of stream number open_at events path octets.now }
         ensures settled { self.new.reading ≡ None }
     {
         self.take_datagram(path, octets)
@@ -330,11 +330,11 @@ impl Cursor {
     }
 
     /// Takes a clock reading, in sampling instants, that comes after all events so far.
-    pub fn push_reading(&mut self, now: i64)
+    pub fn push_tick(&mut self, now: i64)
         requires settled { self.old.reading ≡ None }
         requires place { self.old.place < usize.MAX }
         ensures place { self.new.place ≡ self.old.place + 1 }
-        ensures handed { (number : ℕ) → IsHanded (Reading now) number self.old self.new }
+        ensures handed { (number : ℕ) → IsHanded (Tick now) number self.old self.new }
     {
         self.set_out(now);
     }
@@ -358,7 +358,7 @@ impl Cursor {
         ensures spec { self.new.spec ≡ self.old.spec }
         ensures number { self.new.number ≡ self.old.number }
         ensures stands { (stream : Stream) (number : ℕ) (open_at : ℤ) (events : List TraceEvent) (k : ℕ)
-            → IsRunnable stream number open_at events → slice_get events self.old.place ≡ Some (Reading now)
+            → IsRunnable stream number open_at events → slice_get events self.old.place ≡ Some (Tick now)
             → HasPulled stream number open_at events self.old k → HasPulled stream number open_at events self.new k }
     {
         self.reading = reading_of(&self.merge, now);
@@ -407,9 +407,9 @@ fn offer_received(
     ensures stands { (stream : Stream) (open_at : ℤ) (events : List Event) (k : ℕ)
         → HasHistory stream open_at merge.old events k
         → HasHistory stream open_at merge.new (events ++ event_in (Datagram path (reception_from reception.entry))) k }
-    ensures receipt { (stream : Stream) (open_at : ℤ) (events : List Event) (k : ℕ)
+    ensures outcome { (stream : Stream) (open_at : ℤ) (events : List Event) (k : ℕ)
         → HasHistory stream open_at merge.old events k
-        → result ≡ receipt_in stream open_at events path (reception_from reception.entry) }
+        → result ≡ outcome_in stream open_at events path (reception_from reception.entry) }
 {
     match reception {
         ReceptionRef::Sent(packet) => ArriveOutcome::Offered(OfferedPacket {
@@ -440,7 +440,7 @@ fn goal_of(reading: Option<i64>) -> Goal
     ensures { result ≡ goal.goal_of reading }
 {
     match reading {
-        Some(now) => Goal::Reading(now),
+        Some(now) => Goal::Tick(now),
         None => Goal::End,
     }
 }

@@ -3,13 +3,13 @@ ghost use Rattle.std.specs.Prelude.{◌≡◌, ℕ, ◌<◌, List, length, true,
 ghost use Rattle.studio_config.specs.Studio.{Studio};
 ghost use Rattle.studio_mix.specs.Feed.{Feed};
 ghost use Rattle.studio_mix.specs.Mixer.{is_wanted_by};
-ghost use Rattle.studio_mix.specs.Room.{rooms_of};
+ghost use Rattle.studio_mix.specs.LaneCapacity.{capacities_of};
 ghost use Rattle.studio_session.specs.Event.{TraceEvent};
 ghost use Rattle.studio_session.specs.Cursor.{IsReadyFor, IsSameCursor};
 ghost use Rattle.studio_session.specs.Play.{IsRunnableBy, TakesMark, Plays, PlaysOut, PlaysFinal};
 
 use crate::cursor::Cursor;
-use crate::source::{DatagramRoom, EventSource};
+use crate::source::{DatagramBuffer, EventSource};
 use path_merge::MarkRef;
 use studio_mix::Mixer;
 
@@ -21,7 +21,7 @@ fn hand_on(mixer: &mut Mixer, stream: usize, mark: Option<MarkRef<'_>>)
     ensures none { mark.entry ≡ None → mixer.new ≡ mixer.old }
     ensures packer { mixer.new.packer ≡ mixer.old.packer }
     ensures streams { length mixer.new.lanes ≡ length mixer.old.lanes }
-    ensures rooms { rooms_of mixer.new.lanes ≡ rooms_of mixer.old.lanes }
+    ensures capacities { capacities_of mixer.new.lanes ≡ capacities_of mixer.old.lanes }
 {
     let Some(mark) = mark else {
         return;
@@ -44,11 +44,11 @@ pub fn pull_marks(mixer: &mut Mixer, stream: usize, cursor: &mut Cursor) -> bool
         → Plays studio events feeds next stream mixer.old cursor.old
         → PlaysFinal studio events feeds next stream mixer.new cursor.new }
     ensures settled { result ≡ true → cursor.new.reading ≡ None }
-    ensures rests { cursor.old.reading ≡ None → cursor.new.reading ≡ None }
+    ensures stays_idle { cursor.old.reading ≡ None → cursor.new.reading ≡ None }
     ensures kept { IsSameCursor cursor.old cursor.new }
     ensures packer { mixer.new.packer ≡ mixer.old.packer }
     ensures streams { length mixer.new.lanes ≡ length mixer.old.lanes }
-    ensures rooms { rooms_of mixer.new.lanes ≡ rooms_of mixer.old.lanes }
+    ensures capacities { capacities_of mixer.new.lanes ≡ capacities_of mixer.old.lanes }
 {
     // The label names the loop in its proof.
     'marks: loop {
@@ -69,7 +69,7 @@ pub(crate) fn pull<E: EventSource>(
     stream: usize,
     cursor: &mut Cursor,
     source: &E,
-    room: &mut DatagramRoom,
+    buffer: &mut DatagramBuffer,
 )
     requires stream { stream < length mixer.old.lanes }
     requires ready { IsReadyFor (E.events source.now) cursor.old }
@@ -86,7 +86,7 @@ pub(crate) fn pull<E: EventSource>(
         if !pull_marks(mixer, stream, cursor) {
             return;
         }
-        if !cursor.take_event(source, room) {
+        if !cursor.take_event(source, buffer) {
             return;
         }
     }

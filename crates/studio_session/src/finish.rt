@@ -30,11 +30,11 @@ pub fn finish_stream<E: EventSource>(cursor: &mut Cursor, source: &E)
         → HasPulledSome stream number open_at (E.events source.now) cursor.old
         → HasCounts stream number open_at (E.events source.now) cursor.new }
 {
-    let mut room = [0; MAX_ARRIVAL_OCTETS];
+    let mut buffer = [0; MAX_ARRIVAL_OCTETS];
     // The label names the loop in its proof.
     'events: loop {
         drop_marks(cursor);
-        if !cursor.take_event(source, &mut room) {
+        if !cursor.take_event(source, &mut buffer) {
             return;
         }
     }

@@ -13,13 +13,14 @@
 //!
 //! If events come one by one, pass each to every cursor: the cursor of its stream takes a datagram by
 //! `push_datagram` and the others `skip` it, or pass over all that they missed by `pass_to`; all take a
-//! reading by `push_reading` and a close by `push_close`. `pull_marks` then passes the marks of a cursor
+//! reading by `push_tick` and a close by `push_close`. `pull_marks` then passes the marks of a cursor
 //! on.
 //!
 //! For marks instead of datagrams, `studio_cursors` returns a cursor for each stream, which returns
 //! references to the marks.
 #![tactic(auto)]
 
+mod arrive_outcome;
 mod cursor;
 mod datagrams;
 mod event;
@@ -27,23 +28,22 @@ mod fault;
 mod feed_mixer;
 mod finish;
 mod laws;
-mod receipt;
 mod report;
 mod run_list;
 mod session;
 mod source;
 mod stream_counts;
 
+pub use arrive_outcome::{ArriveOutcome, OfferedPacket};
 pub use cursor::Cursor;
 pub use datagrams::all_datagrams;
 pub use event::{EventHeader, StudioEvent};
 pub use fault::{StudioFault, first_fault, is_runnable};
 pub use feed_mixer::pull_marks;
 pub use finish::finish_stream;
-pub use laws::readings_may_be_left_out;
-pub use receipt::{ArriveOutcome, OfferedPacket};
+pub use laws::ticks_may_be_left_out;
 pub use report::Report;
 pub use rtp_stream::{PathCounts, Reception, ReceptionRef, StreamCounts, receive_ref};
 pub use run_list::run_studio;
 pub use session::{Session, studio_cursors};
-pub use source::{DatagramRoom, EventList, EventSource};
+pub use source::{DatagramBuffer, EventList, EventSource};

@@ -30,7 +30,7 @@ ghost use Rattle.studio_session.specs.Play.{AreNew, HasFilled, HasPathsBy, HasPl
 
 use crate::cursor::Cursor;
 use crate::feed_mixer::pull;
-use crate::source::{DatagramRoom, EventSource};
+use crate::source::{DatagramBuffer, EventSource};
 use crate::stream_counts::all_counts;
 use path_merge::StreamSpec;
 use rtp_stream::StreamCounts;
@@ -48,8 +48,8 @@ pub struct Session {
     mixer: Mixer,
     // Each has its own place in the events, so a long latency holds up no other stream, and no queue grows.
     cursors: Vec<Cursor>,
-    /// The room in which the source of the events lays out datagrams.
-    room: DatagramRoom,
+    /// The buffer in which the source of the events lays out datagrams.
+    buffer: DatagramBuffer,
 }
 
 impl Model for Session {
@@ -81,14 +81,14 @@ impl Session {
         Ok(Session {
             mixer,
             cursors,
-            room: [0; MAX_ARRIVAL_OCTETS],
+            buffer: [0; MAX_ARRIVAL_OCTETS],
         })
     }
 
     /// Writes the datagram of the next block to the start of `out` and returns its length in octets, or `None` if no
     /// block is ready any more.
     pub fn next_datagram<E: EventSource>(&mut self, source: &E, out: &mut [u8]) -> Option<usize>
-        requires room { datagram_length self.old.mixer.packer.spec ≤ length out.old }
+        requires space { datagram_length self.old.mixer.packer.spec ≤ length out.old }
         requires ready { All (IsReadyFor (E.events source.now)) self.old.cursors }
         ensures ready { All (IsReadyFor (E.events source.now)) self.new.cursors }
         ensures given { (studio : Studio) (next : ℕ)
@@ -112,7 +112,7 @@ impl Session {
             &mut self.mixer,
             self.cursors.as_mut_slice(),
             source,
-            &mut self.room,
+            &mut self.buffer,
         );
         self.mixer.next_block(out)
     }
@@ -179,7 +179,7 @@ fn fill<E: EventSource>(
     mixer: &mut Mixer,
     cursors: &mut [Cursor],
     source: &E,
-    room: &mut DatagramRoom,
+    buffer: &mut DatagramBuffer,
 )
     requires streams { length cursors.old ≡ length mixer.old.lanes }
     requires ready { All (IsReadyFor (E.events source.now)) cursors.old }
@@ -193,6 +193,6 @@ fn fill<E: EventSource>(
 {
     // The loop goes by index, since a proof knows nothing of the elements after `iter_mut().enumerate()`.
     for stream in 0..cursors.len() {
-        pull(mixer, stream, &mut cursors[stream], source, room);
+        pull(mixer, stream, &mut cursors[stream], source, buffer);
     }
 }

@@ -5,8 +5,8 @@ ghost use Rattle.studio_session.specs.Event.{TraceEvent, Arrival, outline_of, sa
 use crate::event::{EventHeader, StudioEvent};
 use rtp_wire::MAX_ARRIVAL_OCTETS;
 
-/// Room for the octets of a datagram.
-pub type DatagramRoom = [u8; MAX_ARRIVAL_OCTETS];
+/// A buffer for the octets of a datagram.
+pub type DatagramBuffer = [u8; MAX_ARRIVAL_OCTETS];
 
 /// The events of a run, by their places from 0. No call allocates.
 pub trait EventSource {
@@ -22,8 +22,8 @@ pub trait EventSource {
         requires { place < length (events self.now) }
         ensures { (event : TraceEvent) → slice_get (events self.now) place ≡ Some event → result ≡ outline_of event };
 
-    /// Returns the octets of a datagram that arrived, borrowed from memory or laid out in `room`.
-    fn octets<'a>(&'a self, place: usize, room: &'a mut DatagramRoom) -> &'a [u8]
+    /// Returns the octets of a datagram that arrived, borrowed from memory or laid out in `buffer`.
+    fn octets<'a>(&'a self, place: usize, buffer: &'a mut DatagramBuffer) -> &'a [u8]
         requires { place < length (events self.now) }
         ensures { (stream path : ℕ) (octets : List ℕ)
             → slice_get (events self.now) place ≡ Some (Arrival stream path octets) → result.now ≡ octets };
@@ -46,7 +46,7 @@ impl<'a> EventSource for EventList<'a> {
         outline_at(&self.events[place])
     }
 
-    fn octets<'b>(&'b self, place: usize, _room: &'b mut DatagramRoom) -> &'b [u8] {
+    fn octets<'b>(&'b self, place: usize, _room: &'b mut DatagramBuffer) -> &'b [u8] {
         octets_at(&self.events[place])
     }
 }

@@ -40,7 +40,7 @@ known_whole b xs ys is =
     let all : length ys ≤ length ys = omega arith in
     (length ys, all, is ∙ ap (λ l. Some (l ++ drop (length ys) xs)) (sym (take_all (length ys) ys all)))
 
--- the header has its room
+-- the header has its space
 pub fits_head : (size_of : ℕ) (head octets rest new : List ℕ) → length head ≡ size_of → length new ≡ size_of → length new ≤ length (head ++ octets ++ rest)
 fits_head size_of head octets rest new size same =
     let first = length-append (head ++ octets) rest in

@@ -23,15 +23,15 @@ size_octets more count size = little_bytes 4 (if is_long more count then 2 ^ 32 
 
 -- a chunk of 28 octets with the sizes of the file and of the data, and the number of sampling instants; no table
 -- follows
-abbrev pub room_chunk : List ℕ → ℕ → ℕ → ℕ → List ℕ
-room_chunk name all count frames = name ++ (little_bytes 4 28 ++ little_bytes 8 all ++ little_bytes 8 count ++ little_bytes 8 frames ++ little_bytes 4 0)
+abbrev pub reserved_chunk : List ℕ → ℕ → ℕ → ℕ → List ℕ
+reserved_chunk name all count frames = name ++ (little_bytes 4 28 ++ little_bytes 8 all ++ little_bytes 8 count ++ little_bytes 8 frames ++ little_bytes 4 0)
 
--- the sizes of a long file; in another file room for them
-abbrev pub room_octets : WavFormat → ℕ → ℕ → List ℕ
-room_octets format more count =
+-- the sizes of a long file; in another file space for them
+abbrev pub reserved_octets : WavFormat → ℕ → ℕ → List ℕ
+reserved_octets format more count =
     if is_long more count
-    then room_chunk (codes "ds64") (riff_size more count) count (count / frame_length format)
-    else room_chunk (codes "JUNK") 0 0 0
+    then reserved_chunk (codes "ds64") (riff_size more count) count (count / frame_length format)
+    else reserved_chunk (codes "JUNK") 0 0 0
 
 -- the chunk of the format: linear PCM, 48,000 sampling instants a second
 abbrev pub format_octets : WavFormat → List ℕ
@@ -43,7 +43,7 @@ format_octets format =
 abbrev pub header_with : WavFormat → List ℕ → ℕ → List ℕ
 header_with format chunk count =
     (if is_long (length chunk) count then codes "RF64" else codes "RIFF") ++ size_octets (length chunk) count (riff_size (length chunk) count) ++ codes "WAVE"
-    ++ room_octets format (length chunk) count ++ chunk ++ format_octets format ++ codes "data" ++ size_octets (length chunk) count count
+    ++ reserved_octets format (length chunk) count ++ chunk ++ format_octets format ++ codes "data" ++ size_octets (length chunk) count count
 
 -- the 80 octets before `count` octets of data, without a further chunk
 abbrev pub header_octets : WavFormat → ℕ → List ℕ

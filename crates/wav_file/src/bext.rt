@@ -140,7 +140,7 @@ fn push(text: &mut BextChunk, octets: &[u8])
     ensures items { text.new.items ≡ text.old.items ++ octets.now }
     ensures length { array_vec_len text.new ≡ array_vec_len text.old + length octets.now }
 {
-    // The clause above requires the room.
+    // The clause above requires the space.
     let Ok(()) = text.try_extend_from_slice(octets) else {
         unreachable!()
     };

@@ -7,8 +7,8 @@ ghost use Rattle.wav_file.specs.Header.{
   header_with,
   is_long,
   riff_size,
-  room_chunk,
-  room_octets,
+  reserved_chunk,
+  reserved_octets,
   size_octets,
 };
 ghost use Rattle.arrayvec.specs.ArrayVec.{array_vec_len};
@@ -38,7 +38,7 @@ impl WavFormat {
 type Header = ArrayVec<u8, 690>;
 
 /// Returns the header of a file with `count` octets of data. `chunk` is a chunk more before the format, or empty.
-// Behind the room for `ds64`, which has to be the first chunk of a long file.
+// Behind the space for `ds64`, which has to be the first chunk of a long file.
 pub(crate) fn header_octets(format: WavFormat, chunk: &[u8], count: u64) -> Header
     requires count { count < 2 ^ 63 }
     requires chunk { length chunk.now ≤ 610 }
@@ -100,7 +100,7 @@ fn push(head: &mut Header, octets: &[u8])
     ensures items { head.new.items ≡ head.old.items ++ octets.now }
     ensures length { array_vec_len head.new ≡ array_vec_len head.old + length octets.now }
 {
-    // The clause above requires the room.
+    // The clause above requires the space.
     let Ok(()) = head.try_extend_from_slice(octets) else {
         unreachable!()
     };
@@ -108,7 +108,7 @@ fn push(head: &mut Header, octets: &[u8])
 
 /// Appends a size of 32 bits: all ones in a long file, whose `ds64` chunk has it.
 fn push_size(head: &mut Header, more: u64, count: u64, size: u64)
-    requires room { array_vec_len head.old + 4 ≤ 690 }
+    requires space { array_vec_len head.old + 4 ≤ 690 }
     requires count { count < 2 ^ 63 }
     requires more { more ≤ 610 }
     requires size { size ≤ riff_size more count }
@@ -124,12 +124,12 @@ fn push_size(head: &mut Header, more: u64, count: u64, size: u64)
 }
 
 /// Appends the chunk with the sizes of a long file, or a chunk of the same length that is ignored.
-// The file's length isn't known when its header is first written. `JUNK` keeps the room for `ds64`.
+// The file's length isn't known when its header is first written. `JUNK` keeps the space for `ds64`.
 fn push_ds64_or_junk(head: &mut Header, format: WavFormat, more: u64, count: u64)
-    requires room { array_vec_len head.old + 36 ≤ 690 }
+    requires space { array_vec_len head.old + 36 ≤ 690 }
     requires count { count < 2 ^ 63 }
     requires more { more ≤ 610 }
-    ensures items { head.new.items ≡ head.old.items ++ room_octets format more count }
+    ensures items { head.new.items ≡ head.old.items ++ reserved_octets format more count }
     ensures length { array_vec_len head.new ≡ array_vec_len head.old + 36 }
 {
     if is_long(more, count) {
@@ -147,8 +147,8 @@ fn push_ds64_or_junk(head: &mut Header, format: WavFormat, more: u64, count: u64
 
 /// Appends a chunk of this name, with the sizes of a long file and its number of sampling instants.
 fn push_sizes(head: &mut Header, name: &[u8; 4], all: u64, count: u64, frames: u64)
-    requires room { array_vec_len head.old + 36 ≤ 690 }
-    ensures items { head.new.items ≡ head.old.items ++ room_chunk name.now all count frames }
+    requires space { array_vec_len head.old + 36 ≤ 690 }
+    ensures items { head.new.items ≡ head.old.items ++ reserved_chunk name.now all count frames }
     ensures length { array_vec_len head.new ≡ array_vec_len head.old + 36 }
 {
     push(head, name);

@@ -1,6 +1,6 @@
 //! WAV and RF64 files of PCM samples: their header, and the writers of a file that is closed once or written live.
 //!
-//! - `WavWriter` writes a file whose samples come one after another. `begin` writes the header with room for
+//! - `WavWriter` writes a file whose samples come one after another. `begin` writes the header with space for
 //!   the sizes of a file beyond 4 GiB, `push` the samples of a payload, and `finish` the sizes. If `push` fails,
 //!   call `finish_partial`: it sets the sizes to those of the whole payloads before.
 //! - A live run writes `WavFiles`, one after another, which a `CreateLiveWav` makes, by a `LiveWav`. The
@@ -27,7 +27,7 @@ pub use fault::FileFault;
 pub use files::{CreateFile, Overwrite, SeekFile};
 pub use header::WavFormat;
 pub use live_file::{CreateLiveWav, LiveWavFault, LiveWavFile, WavFiles};
-pub use live_pcm::{CreatePcm, PcmFault, PcmOutput, PcmRoom};
+pub use live_pcm::{CreatePcm, PcmFault, PcmOutput, PcmSpace};
 pub use live_wav::LiveWav;
 pub use samples::to_little_endian;
 pub use writer::{WavFault, WavWriter};

@@ -15,7 +15,7 @@ pub enum PcmFault {
 
 /// The readiness of an output of raw PCM.
 #[derive(Clone, Copy, PartialEq, Eq)]
-pub enum PcmRoom {
+pub enum PcmSpace {
     /// A write does not block.
     Ready,
     /// Its reader has not yet taken what was written.
@@ -30,7 +30,7 @@ pub enum PcmRoom {
 /// write only a part of the octets.
 pub trait PcmOutput: Write {
     /// Returns what the output is ready for. If it is full, waits until it is not, for this many milliseconds at most.
-    fn room(&mut self, milliseconds: u32) -> PcmRoom
+    fn space(&mut self, milliseconds: u32) -> PcmSpace
         ensures { Self.contents self.new ≡ Self.contents self.old };
 
     /// Reports that the output ends before its run, behind this many whole blocks. Called once at most.

@@ -2,7 +2,7 @@
 ghost use Rattle.std.specs.Prelude.{◌≡◌, ◌<◌, ◌+◌, ◌∷◌, ◌++◌, [], ℕ, ℤ, List, None, Some, IfOk, true, false};
 ghost use Rattle.rtp_stream.specs.declared.stream_spec.Stream.{Stream};
 ghost use Rattle.studio_session.specs.Cursor.{HasPulled, IsRunnable};
-ghost use Rattle.studio_session.specs.Event.{Arrival, Closing, Reading, TraceEvent};
+ghost use Rattle.studio_session.specs.Event.{Arrival, Closing, Tick, TraceEvent};
 ghost use Rattle.studio_session.specs.Play.{stream_marks};
 ghost use Rattle.studio_session.specs.PushedEvents.{IsHanded};
 ghost use Rattle.wav_file.specs.File.{wav_octets};
@@ -95,14 +95,14 @@ impl<F: Overwrite + Drop> StreamWav<F> {
     }
 
     /// Takes a clock reading, in sampling instants at 48 kHz.
-    pub fn push_reading(&mut self, now: i64)
+    pub fn push_tick(&mut self, now: i64)
         ensures { (begun : StreamWavState) (events : List TraceEvent) → HasFollowed begun self.old events
-            → HasFollowed begun self.new (events ++ Reading now ∷ []) }
+            → HasFollowed begun self.new (events ++ Tick now ∷ []) }
     {
         if !self.add_due() {
             return;
         }
-        self.cursor.push_reading(now);
+        self.cursor.push_tick(now);
         self.count += 1;
     }
 

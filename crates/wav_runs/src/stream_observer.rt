@@ -15,7 +15,7 @@ impl<F: Overwrite + Drop> ReplayObserver for StreamWav<F> {
     }
 
     fn read(&mut self, time: i64) {
-        self.push_reading(time)
+        self.push_tick(time)
     }
 
     fn closed(&mut self) {

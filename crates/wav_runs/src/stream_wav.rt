@@ -148,11 +148,11 @@ fn add_marks<E: EventSource, F: Write>(
         (samples_behind track.old.wav.format track.old.frames track.old.end
         (stream_marks stream number open_at (E.events source.now)))) }
 {
-    let mut room = [0; MAX_ARRIVAL_OCTETS];
+    let mut buffer = [0; MAX_ARRIVAL_OCTETS];
     // The label names the loop in its proof.
     'events: loop {
         add_taken(track, file, cursor)?;
-        if !cursor.take_event(source, &mut room) {
+        if !cursor.take_event(source, &mut buffer) {
             return Ok(());
         }
     }

@@ -1,4 +1,4 @@
-//! The tests of a mixer that is fed in several orders, of one whose lanes have room, and of failed allocations.
+//! The tests of a mixer that is fed in several orders, of one whose lanes have space, and of failed allocations.
 ghost use Rattle.std.specs.Prelude.{◌≡◌};
 ghost use Rattle.rtp_stream.specs.MarkFacts.{HasLength, payload_length};
 
@@ -58,7 +58,7 @@ fn feed(rt: &impl Abort, mixer: &mut Mixer, spec: &StudioSpec, stream: usize, fe
 /// Returns true if the next block has these octets, or, if there are none, isn't ready.
 fn gives(mixer: &mut Mixer, octets: &[u8]) -> bool {
     let mut out = [0u8; 1452];
-    // Called for its clause: a datagram has at most 1,452 octets, so `out` has room.
+    // Called for its clause: a datagram has at most 1,452 octets, so `out` has space.
     let _short = mixer.output().datagram_len();
     let len = mixer.next_block(&mut out);
     len.unwrap_or(0) == octets.len() && out.starts_with(octets)
@@ -80,7 +80,7 @@ fn the_order_of_feeding_changes_no_block(rt: HostRuntime) {
     for order in &ORDERS {
         mixes_in(
             &rt,
-            &mut without_room(&rt, rt.alloc(), &spec),
+            &mut for_wanted_marks(&rt, rt.alloc(), &spec),
             &spec,
             order,
             &block,
@@ -113,64 +113,68 @@ fn lost(spec: &StreamSpec, media: i16) -> Mark {
     Mark::slot(spec.format(), 0, 65_537, i64::from(media), Body::Lost)
 }
 
-/// Returns a mixer whose lanes have room.
-fn with_room(rt: &impl Abort, alloc: Global, spec: &StudioSpec) -> Mixer {
-    Mixer::with_room(alloc, spec).expect(rt, "there is memory")
+/// Returns a mixer whose lanes have space.
+fn for_early_marks(rt: &impl Abort, alloc: Global, spec: &StudioSpec) -> Mixer {
+    Mixer::for_early_marks(alloc, spec).expect(rt, "there is memory")
 }
 
-/// Returns a mixer whose lanes have no room.
-fn without_room(rt: &impl Abort, alloc: Global, spec: &StudioSpec) -> Mixer {
+/// Returns a mixer whose lanes have no space.
+fn for_wanted_marks(rt: &impl Abort, alloc: Global, spec: &StudioSpec) -> Mixer {
     Mixer::new(alloc, spec).expect(rt, "there is memory")
 }
 
-/// Tests that a mixer with room keeps a stream's slot that is within the room, and has no room for a slot beyond it.
+/// Tests that a mixer for early marks keeps a stream's slot that fits into its lane, and has no space for a slot beyond
+/// it.
 fn keeps(rt: &impl Abort, mixer: &mut Mixer, number: usize, within: &Mark, beyond: &Mark) {
     // The calls of a mixer require a number of one of its streams.
     assert!(rt; number < mixer.streams());
     assert!(rt;
-        !mixer.has_room(number, &beyond.as_ref()),
+        !mixer.has_space(number, &beyond.as_ref()),
         "stream {number}"
     );
-    assert!(rt; mixer.has_room(number, &within.as_ref()), "stream {number}");
+    assert!(rt;
+        mixer.has_space(number, &within.as_ref()),
+        "stream {number}"
+    );
     assert!(rt; mixer.accepts(number, within));
     mixer.keep_ref(number, &within.as_ref());
 }
 
-/// Tests that a mixer has no room for a stream's mark.
+/// Tests that a mixer has no space for a stream's mark.
 fn has_none(rt: &impl Abort, mixer: &Mixer, number: usize, mark: &Mark) {
     assert!(rt; number < mixer.streams());
-    assert!(rt; !mixer.has_room(number, &mark.as_ref()), "stream {number}");
+    assert!(rt; !mixer.has_space(number, &mark.as_ref()), "stream {number}");
 }
 
 /// A stream's number, its sampling instants a packet, its latency, and the media time of the last slot that its lane
-/// has room for.
-type Room = (usize, u16, u32, i16);
+/// has space for.
+type LaneSize = (usize, u16, u32, i16);
 
-const ROOMS: [Room; 2] = [(0, 6, 12, 468), (1, 48, 48, 432)];
+const LANE_SIZES: [LaneSize; 2] = [(0, 6, 12, 468), (1, 48, 48, 432)];
 
-/// Next to a stream that lags by 432 sampling instants, a stream of latency 12 has room for 474: for a slot of 6 at
+/// Next to a stream that lags by 432 sampling instants, a stream of latency 12 has space for 474: for a slot of 6 at
 /// 468.
 #[test]
-fn a_lane_has_room_next_to_the_stream_that_lags_most(rt: HostRuntime) {
+fn a_lane_has_space_next_to_the_stream_that_lags_most(rt: HostRuntime) {
     let studio = six_and_forty_eight(rt.alloc(), 1).expect(&rt, "there is memory");
-    for room in &ROOMS {
-        has_this_room(&rt, rt.alloc(), &studio, *room);
+    for capacity in &LANE_SIZES {
+        has_this_capacity(&rt, rt.alloc(), &studio, *capacity);
     }
 }
 
-/// Tests the room of a stream's lane, which only a mixer with room has.
-fn has_this_room(rt: &impl Abort, alloc: Global, studio: &StudioSpec, room: Room) {
-    let (number, frames, latency, last) = room;
+/// Tests the capacity of a stream's lane, which only a mixer for early marks has.
+fn has_this_capacity(rt: &impl Abort, alloc: Global, studio: &StudioSpec, capacity: LaneSize) {
+    let (number, frames, latency, last) = capacity;
     let spec = stream(frames, latency, 1).expect(rt, "a stream");
     let (within, beyond) = (lost(&spec, last), lost(&spec, last.wrapping_add(1)));
     keeps(
         rt,
-        &mut with_room(rt, alloc, studio),
+        &mut for_early_marks(rt, alloc, studio),
         number,
         &within,
         &beyond,
     );
-    has_none(rt, &without_room(rt, alloc, studio), number, &within);
+    has_none(rt, &for_wanted_marks(rt, alloc, studio), number, &within);
 }
 
 /// A mixer is made twice: if one allocation fails, at most one of the two calls returns an error.

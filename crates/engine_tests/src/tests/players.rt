@@ -63,16 +63,16 @@ impl Read for OctetReader<'_> {
 #[derive(Drop)]
 struct ShortWriter<'a> {
     expected: &'a [u8],
-    room: usize,
+    space: usize,
     taken: usize,
     is_expected: bool,
 }
 
 impl<'a> ShortWriter<'a> {
-    fn new(expected: &'a str, room: usize) -> ShortWriter<'a> {
+    fn new(expected: &'a str, space: usize) -> ShortWriter<'a> {
         ShortWriter {
             expected: expected.as_bytes(),
-            room,
+            space,
             taken: 0,
             is_expected: true,
         }
@@ -86,7 +86,7 @@ impl<'a> ShortWriter<'a> {
 
 impl Write for ShortWriter<'_> {
     fn write(&mut self, buf: &[u8]) -> io::Result<usize> {
-        let count = buf.len().min(self.room.saturating_sub(self.taken));
+        let count = buf.len().min(self.space.saturating_sub(self.taken));
         if count == 0 {
             return Err(io::Error::from(io::ErrorKind::BrokenPipe));
         }
@@ -182,15 +182,15 @@ fn a_failed_write_leaves_the_first_octets(rt: HostRuntime) {
     let studio = one_stream(rt.alloc()).expect(&rt, "there is memory");
     assert!(rt; REPORT.as_bytes().starts_with(b"out 806100"));
     for kind in KINDS {
-        for room in 0..kind.text().len() {
+        for space in 0..kind.text().len() {
             let reader = &mut TRACE.as_bytes();
-            let writer = &mut ShortWriter::new(kind.text(), room);
+            let writer = &mut ShortWriter::new(kind.text(), space);
             let done = kind.write(rt.alloc(), &studio, reader, writer);
             assert!(rt;
                 matches!(done, Err(PlayFault::Write)),
-                "{kind:?}: {room} octets"
+                "{kind:?}: {space} octets"
             );
-            assert!(rt; writer.took(room), "{kind:?}: {room} octets");
+            assert!(rt; writer.took(space), "{kind:?}: {space} octets");
         }
     }
 }

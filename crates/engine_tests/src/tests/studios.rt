@@ -176,7 +176,7 @@ pub fn offered(
 /// Returns true if a turn returns this datagram.
 pub fn gives(engine: &mut Engine, now: i64, want: &[u8]) -> bool {
     let mut out = [0u8; MAX_OCTETS];
-    // Called for its clause: a datagram has at most `MAX_OCTETS` octets, so `out` has room.
+    // Called for its clause: a datagram has at most `MAX_OCTETS` octets, so `out` has space.
     let _short = engine.output().datagram_len();
     engine.turn(now, &mut out) == Ok(Some(want.len())) && out.starts_with(want)
 }

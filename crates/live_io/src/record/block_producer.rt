@@ -100,8 +100,8 @@ impl BlockProducer {
         self.put(len)
     }
 
-    /// Puts the first `len` octets of the buffer as one block, if the ring has room for all of them. The first block
-    /// without room ends the record.
+    /// Puts the first `len` octets of the buffer as one block, if the ring has space for all of them. The first block
+    /// without space ends the record.
     fn put(&mut self, len: usize)
         requires within { len ≤ 32844 }
         ensures puts { Puts self.old (take len self.old.block) self.new }

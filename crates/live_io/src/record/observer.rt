@@ -150,7 +150,7 @@ impl<'r> RecordObserver<'r> {
         }
     }
 
-    /// Sets the record's end if the ring had no room for a block.
+    /// Sets the record's end if the ring had no space for a block.
     fn report_if_slow(&self) {
         if self.end.ended {
             self.recorded.set_end(OutputEnd::Slow);

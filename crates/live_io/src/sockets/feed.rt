@@ -52,7 +52,7 @@ impl<'a, R: Clock> UdpFeed<'a, R> {
     ) -> UdpFeed<'a, R> {
         let health = flags.health.get(path_index);
         let ready = flags.ready.get(path_index);
-        let pace = ReceivePace::new(receiver.rest);
+        let pace = ReceivePace::new(receiver.pause);
         UdpFeed {
             retrying: RetryingSocket::new(receiver, period.clock(rt), pace, health, ready),
             until: period.until(),

@@ -79,7 +79,7 @@ impl RunHealth {
 pub struct SocketHealth {
     faults: AtomicU64,
     ended: AtomicBool,
-    resting: AtomicBool,
+    pausing: AtomicBool,
     inode: AtomicU64,
     dropped: AtomicU64,
 }
@@ -90,7 +90,7 @@ impl SocketHealth {
         SocketHealth {
             faults: AtomicU64::new(0),
             ended: AtomicBool::new(false),
-            resting: AtomicBool::new(false),
+            pausing: AtomicBool::new(false),
             inode: AtomicU64::new(NO_INODE),
             dropped: AtomicU64::new(UNKNOWN),
         }
@@ -107,8 +107,8 @@ impl SocketHealth {
     }
 
     /// Returns true if the last receive failed, so that the socket is not read until its next attempt.
-    pub fn is_resting(&self) -> bool {
-        self.resting.load(Ordering::SeqCst)
+    pub fn is_pausing(&self) -> bool {
+        self.pausing.load(Ordering::SeqCst)
     }
 
     /// Returns the number of datagrams that the kernel dropped at the socket, as of the last `read_kernel_drops`.
@@ -123,12 +123,12 @@ impl SocketHealth {
     /// Counts a receive that failed. No other follows before the next attempt.
     pub(crate) fn note_fault(&self) {
         self.faults.fetch_add(1, Ordering::SeqCst);
-        self.resting.store(true, Ordering::SeqCst);
+        self.pausing.store(true, Ordering::SeqCst);
     }
 
     /// Notes that a receive did not fail.
     pub(crate) fn note_success(&self) {
-        self.resting.store(false, Ordering::SeqCst);
+        self.pausing.store(false, Ordering::SeqCst);
     }
 
     /// Notes that the path was given up.

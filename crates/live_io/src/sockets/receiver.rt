@@ -19,8 +19,8 @@ const RECEIVE_BUFFER: u32 = 8 << 20;
 #[derive(Drop)]
 pub struct Receiver<'a> {
     socket: UdpSocket,
-    /// The rest between two reads of the socket while packets flow, in sampling instants.
-    pub(crate) rest: u32,
+    /// The pause between two reads of the socket while packets flow, in sampling instants.
+    pub(crate) pause: u32,
     /// The path's source, if only its datagrams are taken.
     source: Option<ExpectedSource<'a>>,
     /// The address to which the path's datagrams are sent.
@@ -36,7 +36,7 @@ impl<'a> Receiver<'a> {
     /// if that is 0.0.0.0 or not known.
     pub(crate) fn new(
         socket: UdpSocket,
-        rest: u32,
+        pause: u32,
         source: Option<ExpectedSource<'a>>,
         address: SocketAddrV4,
     ) -> Receiver<'a> {
@@ -47,7 +47,7 @@ impl<'a> Receiver<'a> {
         };
         Receiver {
             socket,
-            rest,
+            pause,
             source,
             address,
             last_source: SocketAddrV4::new(Ipv4Addr::UNSPECIFIED, 0),

@@ -2,7 +2,7 @@
 ghost use Rattle.std.specs.Prelude.{◌≤◌, ℕ, length, IfOk, IfSome};
 ghost use Rattle.studio_io.specs.Answers.{IsWithin};
 
-use crate::clock::RestClock;
+use crate::clock::PauseClock;
 use crate::sockets::backoff::FaultBackoff;
 use crate::sockets::health::SocketHealth;
 use crate::sockets::pace::{ReceivePace, ReceiveWait};
@@ -15,9 +15,9 @@ use studio_io::FeedAnswer;
 // A feed tests its end after each wait, so the wait bounds how late the feed ends.
 const LONGEST_WAIT: i32 = 100;
 
-/// The longest rest of a socket that fails, in sampling instants: 100 ms.
+/// The longest pause of a socket that fails, in sampling instants: 100 ms.
 // As long as the wait for a datagram, so that the end of the feed is found as soon.
-const LONGEST_REST: i64 = 4_800;
+const LONGEST_PAUSE: i64 = 4_800;
 
 /// A socket that receives the datagrams of a path.
 pub trait DatagramSocket: Drop {
@@ -33,7 +33,7 @@ pub trait DatagramSocket: Drop {
 
 /// A socket that is read again and again, and less often while it fails.
 ///
-/// An attempt at an empty socket waits by `ReceivePace`: it rests while packets flow, and waits for a datagram while
+/// An attempt at an empty socket waits by `ReceivePace`: it pauses while packets flow, and waits for a datagram while
 /// none come. If a flag says when the socket is to be read, it clears the flag instead.
 ///
 /// An attempt that fails is a fault. The next attempt follows after the delay of `FaultBackoff`, and there is nothing
@@ -50,7 +50,7 @@ pub struct RetryingSocket<'a, S, C> {
     ready: Option<&'a AtomicBool>,
 }
 
-impl<'a, S: DatagramSocket, C: RestClock> RetryingSocket<'a, S, C> {
+impl<'a, S: DatagramSocket, C: PauseClock> RetryingSocket<'a, S, C> {
     /// Returns a socket that has not failed, and that is read at this pace.
     pub fn new(
         socket: S,
@@ -93,7 +93,7 @@ impl<'a, S: DatagramSocket, C: RestClock> RetryingSocket<'a, S, C> {
         }
     }
 
-    /// Returns true if the socket is to be read now. While it rests and attempts would wait, it rests here.
+    /// Returns true if the socket is to be read now. While it pauses and attempts would wait, it pauses here.
     fn is_attempt_due(&mut self) -> bool {
         let Some(at) = self.backoff.next_at() else {
             return self.is_ready();
@@ -102,9 +102,9 @@ impl<'a, S: DatagramSocket, C: RestClock> RetryingSocket<'a, S, C> {
         if self.backoff.is_due(now) {
             return true;
         }
-        // Without this rest the path's worker would ask again at once.
+        // Without this pause the path's worker would ask again at once.
         if self.waits() {
-            self.clock.rest(rest_until(at, now));
+            self.clock.pause(pause_until(at, now));
         }
         false
     }
@@ -132,7 +132,7 @@ impl<'a, S: DatagramSocket, C: RestClock> RetryingSocket<'a, S, C> {
         }
         let now = self.clock.now();
         match self.pace.next_wait(now) {
-            ReceiveWait::Rest(instants) => self.clock.rest(until_multiple(instants, now)),
+            ReceiveWait::Pause(instants) => self.clock.pause(until_multiple(instants, now)),
             ReceiveWait::Datagram => self.wait_for_datagram(),
         }
     }
@@ -141,7 +141,7 @@ impl<'a, S: DatagramSocket, C: RestClock> RetryingSocket<'a, S, C> {
     fn wait_for_datagram(&mut self) {
         if self.socket.wait(LONGEST_WAIT) {
             // Packets flow again from the first one on. Otherwise each of them would be waited for, and wake this
-            // thread on the sender's time. It also follows a wait that failed, so that a rest comes before the next.
+            // thread on the sender's time. It also follows a wait that failed, so that a pause comes before the next.
             self.pace.note_datagram();
         }
     }
@@ -203,14 +203,14 @@ fn datagram_of(own: Option<usize>) -> Option<FeedAnswer>
     }
 }
 
-/// Returns the rest from `now` until a later time, in sampling instants, at most `LONGEST_REST`.
-fn rest_until(at: i64, now: i64) -> u32 {
-    u32::try_from(at.saturating_sub(now).clamp(0, LONGEST_REST)).unwrap_or(0)
+/// Returns the pause from `now` until a later time, in sampling instants, at most `LONGEST_PAUSE`.
+fn pause_until(at: i64, now: i64) -> u32 {
+    u32::try_from(at.saturating_sub(now).clamp(0, LONGEST_PAUSE)).unwrap_or(0)
 }
 
-/// Returns the time from `now` to the next multiple of a rest, in sampling instants.
-// Threads with the same rest wake together, which costs the machine less.
-fn until_multiple(rest: u32, now: i64) -> u32 {
-    let gone = now.unsigned_abs() % u64::from(rest.max(1));
-    rest.saturating_sub(u32::try_from(gone).unwrap_or(0))
+/// Returns the time from `now` to the next multiple of a pause, in sampling instants.
+// Threads with the same pause wake together, which costs the machine less.
+fn until_multiple(pause: u32, now: i64) -> u32 {
+    let gone = now.unsigned_abs() % u64::from(pause.max(1));
+    pause.saturating_sub(u32::try_from(gone).unwrap_or(0))
 }

@@ -64,7 +64,7 @@ impl<'a, R: Clock, E: Write + Drop, V: EventOutput> RunObserver<UdpFeed<'a, R>>
         stream: usize,
         path: Path,
         octets: &[u8],
-        receipt: ArriveOutcome,
+        outcome: ArriveOutcome,
         feed: &UdpFeed<'a, R>,
     )
         ensures arrived { (origin : DatagramOrigin)
@@ -78,7 +78,7 @@ impl<'a, R: Clock, E: Write + Drop, V: EventOutput> RunObserver<UdpFeed<'a, R>>
             octets,
         });
         if let Some(status) = &mut self.status {
-            status.note(engine, stream, path, receipt);
+            status.note(engine, stream, path, outcome);
         }
     }
 

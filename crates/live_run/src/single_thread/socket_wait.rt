@@ -5,7 +5,7 @@ use libc::net;
 use libc::net::POLLIN;
 use libc::types::pollfd;
 use live_io::{
-    FeedFlags, ReceivePace, ReceiveWait, Receiver, SocketHealth, SystemClock, common_rest,
+    FeedFlags, ReceivePace, ReceiveWait, Receiver, SocketHealth, SystemClock, common_pause,
 };
 use std::alloc::{AllocError, Global};
 use std::sync::Wait;
@@ -112,7 +112,7 @@ impl<'a, R: Wait + Clock> SocketWait<'a, R> {
             sockets,
             health: flags.health,
             ready: flags.ready,
-            pace: ReceivePace::new(common_rest(studio.streams())),
+            pace: ReceivePace::new(common_pause(studio.streams())),
             parker: Parker::new(),
             clock,
             longest: if is_controlled {
@@ -130,7 +130,7 @@ impl<'a, R: Wait + Clock> SocketWait<'a, R> {
     }
 
     /// Rests for this many sampling instants, and then sets the flags of the sockets that have a datagram.
-    fn rest(&mut self, instants: u32) {
+    fn pause(&mut self, instants: u32) {
         let nanoseconds = u64::from(instants) * THREE_INSTANTS / 3;
         self.parker
             .park_timeout(self.rt, Duration::from_nanos(nanoseconds));
@@ -149,7 +149,7 @@ impl<'a, R: Wait + Clock> SocketWait<'a, R> {
     fn leave_out_failed(&mut self) {
         let sockets = self.sockets.iter_mut().zip(self.descriptors.iter());
         for ((socket, descriptor), health) in sockets.zip(self.health) {
-            socket.fd = if health.is_resting() {
+            socket.fd = if health.is_pausing() {
                 LEFT_OUT
             } else {
                 *descriptor
@@ -182,8 +182,8 @@ impl<R: Wait + Clock> IdleWait for SocketWait<'_, R> {
         }
         // The engine's time is the reading of this round.
         match self.pace.next_wait(engine.time()) {
-            ReceiveWait::Rest(instants) => {
-                self.rest(instants);
+            ReceiveWait::Pause(instants) => {
+                self.pause(instants);
                 true
             }
             ReceiveWait::Datagram => {

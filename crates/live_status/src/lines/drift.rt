@@ -24,7 +24,7 @@ pub(crate) fn write_time_left<W: Write>(
     ensures fault { OnErr result (BreaksOff (W.contents writer.old) text.old (W.contents writer.new)
         (left_line stream time left)) }
 {
-    text.make_room(writer)?;
+    text.make_space(writer)?;
     push_left_line(text, stream, time, left);
     Ok(())
 }
@@ -57,7 +57,7 @@ pub(crate) fn write_path_drift<W: Write>(
     ensures fault { OnErr result (BreaksOff (W.contents writer.old) text.old (W.contents writer.new)
         (drift_line stream path time state.now)) }
 {
-    text.make_room(writer)?;
+    text.make_space(writer)?;
     push_drift_line(text, stream, path, time, state);
     Ok(())
 }

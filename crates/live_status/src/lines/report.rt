@@ -35,7 +35,7 @@ pub fn write_feed_faults<W: Write>(
     ensures fault { OnErr result
         (BreaksOff (W.contents writer.old) text.old (W.contents writer.new) (feed_line stream path faults)) }
 {
-    text.make_room(writer)?;
+    text.make_space(writer)?;
     push_feed_line(text, stream, path, faults);
     Ok(())
 }
@@ -51,7 +51,7 @@ pub fn write_sink_counts<W: Write>(
     ensures fault { OnErr result
         (BreaksOff (W.contents writer.old) text.old (W.contents writer.new) (sink_line counts.now)) }
 {
-    text.make_room(writer)?;
+    text.make_space(writer)?;
     push_sink_line(text, counts);
     Ok(())
 }

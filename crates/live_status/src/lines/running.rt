@@ -28,7 +28,7 @@ pub(crate) fn write_running_counts<W: Write>(
     ensures fault { OnErr result (BreaksOff (W.contents writer.old) text.old (W.contents writer.new)
         (running_line stream paths time (tally_of counts.now))) }
 {
-    text.make_room(writer)?;
+    text.make_space(writer)?;
     push_running_line(text, stream, paths, time, counts);
     Ok(())
 }
@@ -61,7 +61,7 @@ pub(crate) fn write_socket_state<W: Write>(
     ensures fault { OnErr result (BreaksOff (W.contents writer.old) text.old (W.contents writer.new)
         (socket_line stream path time socket.now)) }
 {
-    text.make_room(writer)?;
+    text.make_space(writer)?;
     push_socket_line(text, stream, path, time, socket);
     Ok(())
 }
@@ -154,7 +154,7 @@ pub(crate) fn write_run_state<W: Write>(
     ensures fault { OnErr result (BreaksOff (W.contents writer.old) text.old (W.contents writer.new)
         (run_line time failed.a failed.b outputs.now)) }
 {
-    text.make_room(writer)?;
+    text.make_space(writer)?;
     push_run_line(text, time, failed.a, failed.b, outputs);
     Ok(())
 }
@@ -227,7 +227,7 @@ fn push_run_output(text: &mut TextBuffer, kind: OutputKind, state: OutputState)
 /// Adds the name of an output's state behind the output's name.
 #[tactic(auto, unfolding(crate::specs::Lines::output_state))]
 fn push_output_state(text: &mut TextBuffer, kind: OutputKind, state: &str)
-    requires room { length text.old + 100 ≤ 65536 }
+    requires space { length text.old + 100 ≤ 65536 }
     requires short { length state.now ≤ 7 }
     ensures text { text.new ≡ text.old ++ output_state kind state.now }
     ensures few { length text.new ≤ length text.old + 100 }

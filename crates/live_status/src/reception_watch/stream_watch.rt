@@ -3,7 +3,7 @@ ghost use Rattle.std.specs.Prelude.{◌≡◌, ◌*◌, None, IfOk, not, ◌==�
 ghost use Rattle.live_status.specs.Each.{AreEach};
 ghost use Rattle.live_status.specs.Watch.{NotesPath, ShowsPath, any_in_time, left_with, most_left};
 
-use crate::reception_watch::path_watch::PathWatch;
+use crate::reception_watch::arrival_watch::ArrivalWatch;
 use rtp_stream::StreamSpec;
 use status_page::{PathState, StreamState};
 use std::alloc::{AllocError, Global};
@@ -12,11 +12,11 @@ use std::alloc::{AllocError, Global};
 #[derive(Drop)]
 pub(crate) struct StreamWatch {
     /// The time that the stream's window holds, in sampling instants.
-    room: u32,
+    window_span: u32,
     /// The number of the epoch at the last update.
     restarts: u64,
     /// The watch of each path; those of paths that the stream does not have show nothing.
-    paths: [PathWatch; 4],
+    paths: [ArrivalWatch; 4],
 }
 
 impl StreamWatch {
@@ -27,13 +27,13 @@ impl StreamWatch {
         ensures { IsNewWatch now stream.now result }
     {
         StreamWatch {
-            room: u32::from(stream.window()) * u32::from(stream.frames()),
+            window_span: u32::from(stream.window()) * u32::from(stream.frames()),
             restarts: 0,
             paths: [
-                PathWatch::new(now),
-                PathWatch::new(now),
-                PathWatch::new(now),
-                PathWatch::new(now),
+                ArrivalWatch::new(now),
+                ArrivalWatch::new(now),
+                ArrivalWatch::new(now),
+                ArrivalWatch::new(now),
             ],
         }
     }
@@ -45,7 +45,7 @@ impl StreamWatch {
         let begins = stream.counts.restarts != self.restarts;
         self.restarts = stream.counts.restarts;
         let paths = stream.paths.as_slice();
-        note_paths(&mut self.paths, now, self.room, begins, paths);
+        note_paths(&mut self.paths, now, self.window_span, begins, paths);
     }
 
     /// Fills in what the watch shows of the stream. `has_ended` is true if the stream has ended.
@@ -60,11 +60,17 @@ impl StreamWatch {
 }
 
 /// Notes the state of each path.
-fn note_paths(watches: &mut [PathWatch], now: i64, room: u32, begins: bool, paths: &[PathState])
-    ensures { AreEach (NotesPath now room begins paths.now) watches.old watches.new }
+fn note_paths(
+    watches: &mut [ArrivalWatch],
+    now: i64,
+    window_span: u32,
+    begins: bool,
+    paths: &[PathState],
+)
+    ensures { AreEach (NotesPath now window_span begins paths.now) watches.old watches.new }
 {
     for (place, watch) in watches.iter_mut().enumerate() {
-        note_path_at(paths, place, now, room, begins, watch);
+        note_path_at(paths, place, now, window_span, begins, watch);
     }
 }
 
@@ -73,19 +79,19 @@ fn note_path_at(
     paths: &[PathState],
     place: usize,
     now: i64,
-    room: u32,
+    window_span: u32,
     begins: bool,
-    watch: &mut PathWatch,
+    watch: &mut ArrivalWatch,
 )
-    ensures { NotesPath now room begins paths.now place watch.old watch.new }
+    ensures { NotesPath now window_span begins paths.now place watch.old watch.new }
 {
     if let Some(path) = paths.get(place) {
-        watch.note(now, room, begins, path);
+        watch.note(now, window_span, begins, path);
     }
 }
 
 /// Returns true if some path brought a packet in time in the last two seconds.
-fn any_in_time(watches: &[PathWatch]) -> bool
+fn any_in_time(watches: &[ArrivalWatch]) -> bool
     ensures { result ≡ any_in_time watches.now }
 {
     let mut found = false;
@@ -98,7 +104,7 @@ fn any_in_time(watches: &[PathWatch]) -> bool
 }
 
 /// Returns the greatest time left of these paths, or `None` if no drift is known.
-fn most_left(watches: &[PathWatch]) -> Option<u64>
+fn most_left(watches: &[ArrivalWatch]) -> Option<u64>
     ensures { result ≡ most_left watches.now }
 {
     let mut most = None;
@@ -109,7 +115,7 @@ fn most_left(watches: &[PathWatch]) -> Option<u64>
 }
 
 /// Returns the greater of a time left and that of a path.
-fn left_with(most: Option<u64>, watch: &PathWatch) -> Option<u64>
+fn left_with(most: Option<u64>, watch: &ArrivalWatch) -> Option<u64>
     ensures { result ≡ left_with most watch.now }
 {
     let Some(drift) = watch.drift else {
@@ -122,7 +128,7 @@ fn left_with(most: Option<u64>, watch: &PathWatch) -> Option<u64>
 }
 
 /// Fills in what these watches show of each path.
-fn show_paths(watches: &[PathWatch], has_ended: bool, others: bool, paths: &mut [PathState])
+fn show_paths(watches: &[ArrivalWatch], has_ended: bool, others: bool, paths: &mut [PathState])
     ensures { AreEach (ShowsPath has_ended others watches.now) paths.old paths.new }
 {
     for (place, path) in paths.iter_mut().enumerate() {
@@ -132,7 +138,7 @@ fn show_paths(watches: &[PathWatch], has_ended: bool, others: bool, paths: &mut 
 
 /// Fills in what the watch at a place shows of a path, if there is one.
 fn show_path_at(
-    watches: &[PathWatch],
+    watches: &[ArrivalWatch],
     place: usize,
     has_ended: bool,
     others: bool,

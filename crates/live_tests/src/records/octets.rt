@@ -157,7 +157,7 @@ fn is_change() -> bool {
     is_written(&out, len, Some(CHANGE.as_slice()))
 }
 
-/// Returns true if the payload of that change is read as it, and into no less room.
+/// Returns true if the payload of that change is read as it, and into no shorter buffer.
 fn is_change_read() -> bool {
     let head = ChangeHead {
         at: 480,
@@ -166,11 +166,11 @@ fn is_change_read() -> bool {
     };
     let payload = &CHANGE[56..80];
     let mut gains = [7; 3];
-    let mut room = [7; 1];
+    let mut buffer = [7; 1];
     read_change(payload, &mut gains) == Some(head)
         && gains == [65_536, -1, 7]
-        && read_change(payload, &mut room).is_none()
-        && room == [7]
+        && read_change(payload, &mut buffer).is_none()
+        && buffer == [7]
 }
 
 /// A change of gains is written as a packet on an interface of its own, and read back.

@@ -1,6 +1,6 @@
-//! Requests to the gains of a run and their responses, over a desk in memory.
+//! Requests to the gains of a run and their responses, over a requester in memory.
 use super::client::{sent_by, stands_alone};
-use super::desk::MemoryDesk;
+use super::memory_requester::MemoryRequester;
 use super::sample::snapshot;
 use http_server::Connection;
 use status_page::{
@@ -15,24 +15,28 @@ use std::time::Duration;
 /// The token of the page.
 const TOKEN: &str = "0123456789abcdef";
 
-/// Returns a page over this desk.
-fn page_over(rt: &impl Abort, alloc: Global, desk: MemoryDesk) -> ControlPage<MemoryDesk> {
+/// Returns a page over this requester.
+fn page_over(
+    rt: &impl Abort,
+    alloc: Global,
+    requester: MemoryRequester,
+) -> ControlPage<MemoryRequester> {
     let token = Token::from_bytes(b"0123456789abcdef\n").expect(rt, "a token");
-    let control = Control::new(alloc, desk, token).expect(rt, "there is memory");
+    let control = Control::new(alloc, requester, token).expect(rt, "there is memory");
     ControlPage::new(Page::new(alloc, snapshot()), control)
 }
 
-/// Returns a page over a new desk.
-fn page(rt: &impl Abort, alloc: Global) -> ControlPage<MemoryDesk> {
+/// Returns a page over a new requester.
+fn page(rt: &impl Abort, alloc: Global) -> ControlPage<MemoryRequester> {
     let shape = GainShape::new(2, 2).expect(rt, "a shape");
-    page_over(rt, alloc, MemoryDesk::new(shape))
+    page_over(rt, alloc, MemoryRequester::new(shape))
 }
 
 /// Returns the response of a page to a client that sends these octets and no more.
 fn answers(
     rt: &(impl Abort + RandomSource),
     alloc: Global,
-    page: &mut ControlPage<MemoryDesk>,
+    page: &mut ControlPage<MemoryRequester>,
     octets: &[u8],
 ) -> Vec<u8> {
     let keys = RandomState::new(rt).expect(rt, "random octets");
@@ -376,7 +380,7 @@ fn request(rt: &impl Abort, alloc: Global, case: &Case) -> String {
 fn is_answered(
     rt: &(impl Abort + RandomSource),
     alloc: Global,
-    page: &mut ControlPage<MemoryDesk>,
+    page: &mut ControlPage<MemoryRequester>,
     case: &Case,
 ) {
     let octets = request(rt, alloc, case);
@@ -458,7 +462,7 @@ fn changes_are_limited(rt: HostRuntime) {
 fn is_taken_at(
     rt: &(impl Abort + RandomSource),
     alloc: Global,
-    page: &mut ControlPage<MemoryDesk>,
+    page: &mut ControlPage<MemoryRequester>,
     now: Duration,
 ) {
     let keys = RandomState::new(rt).expect(rt, "random octets");
@@ -470,7 +474,7 @@ fn is_taken_at(
 /// Returns true if the first response to a request at a time says that it succeeded.
 fn is_taken(
     mut connection: Connection,
-    page: &mut ControlPage<MemoryDesk>,
+    page: &mut ControlPage<MemoryRequester>,
     request: &str,
     now: Duration,
 ) -> bool {
@@ -484,9 +488,9 @@ fn is_taken(
 #[test]
 fn a_run_that_has_ended_is_not_waited_for(rt: HostRuntime) {
     let shape = GainShape::new(2, 2).expect(&rt, "a shape");
-    let mut desk = MemoryDesk::new(shape);
-    desk.has_ended = true;
-    let page = &mut page_over(&rt, rt.alloc(), desk);
+    let mut requester = MemoryRequester::new(shape);
+    requester.has_ended = true;
+    let page = &mut page_over(&rt, rt.alloc(), requester);
     is_answered(&rt, rt.alloc(), page, &AFTER_THE_END);
     is_answered(&rt, rt.alloc(), page, &SHOWN_AFTER_THE_END);
 }
@@ -510,7 +514,7 @@ fn a_body_has_a_limit(rt: HostRuntime) {
 fn is_long_answered(
     rt: &(impl Abort + RandomSource),
     alloc: Global,
-    page: &mut ControlPage<MemoryDesk>,
+    page: &mut ControlPage<MemoryRequester>,
     length: usize,
     answer: &str,
 ) {

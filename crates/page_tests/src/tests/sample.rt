@@ -1,6 +1,6 @@
 //! A snapshot, in which each number is another.
 //!
-//! All parts find room in it, which the texts show: so its functions test no result, and hold little across a test.
+//! All parts find space in it, which the texts show: so its functions test no result, and hold little across a test.
 use rtp_stream::{Counts, PathCounts};
 use status_page::{
     ArrivalMargin, ChannelState, Condition, CopyCounts, PathState, Snapshot, SocketState,

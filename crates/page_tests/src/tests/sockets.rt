@@ -23,10 +23,10 @@ enum Fate {
 
 /// Returns the outcome of a client.
 fn fate_of(client: &mut TcpStream) -> Fate {
-    let mut room = [0; 200];
-    match client.read(&mut room) {
+    let mut buffer = [0; 200];
+    match client.read(&mut buffer) {
         Ok(0) => Fate::LetGo,
-        Ok(count) if &room[..count] == ANSWER => Fate::Answered,
+        Ok(count) if &buffer[..count] == ANSWER => Fate::Answered,
         Err(fault) if fault.kind() == ErrorKind::WouldBlock => Fate::Waits,
         _ => Fate::LetGo,
     }

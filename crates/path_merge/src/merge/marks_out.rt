@@ -95,7 +95,7 @@ impl<V: Window> Merge<V> {
     ghost use Rattle.path_merge.specs.Merge.{HasHistory};
     ghost use Rattle.path_merge.specs.NextMark.{anchor_due, anchor_after_close, next_mark, next_left, quiet_next};
     ghost use Rattle.path_merge.specs.Goal.{CanReach, Gives, MovesTo, HasGivenAll, next_to};
-    ghost use Rattle.path_merge.specs.declared.goal.Goal.TheVariants.{Reading};
+    ghost use Rattle.path_merge.specs.declared.goal.Goal.TheVariants.{Tick};
     ghost use Rattle.path_merge.specs.Clock.{clock_fault_of};
     ghost use Rattle.path_merge.specs.Steps.{
       IsSlotStep,
@@ -137,13 +137,13 @@ impl<V: Window> Merge<V> {
     /// Returns the goal of a clock reading in sampling instants, or an error if the reading is refused.
     #[inline]
     pub fn goal(&self, now: i64) -> Result<Goal, ClockFault>
-        ensures goal { IfOk result (λ goal. goal ≡ Reading now) }
+        ensures goal { IfOk result (λ goal. goal ≡ Tick now) }
         ensures can { IfOk result (CanReach self.now) }
         ensures fault { IfErr result (λ fault. clock_fault_of self.now.time self.now.closed now ≡ Some fault) }
     {
         match clock_fault(self.time, self.closed, now) {
             Some(fault) => Err(fault),
-            None => Ok(Goal::Reading(now)),
+            None => Ok(Goal::Tick(now)),
         }
     }
 
@@ -154,7 +154,7 @@ impl<V: Window> Merge<V> {
         ensures { result ≡ next_to self.now goal }
     {
         match goal {
-            Goal::Reading(now) => self.mark_due(now),
+            Goal::Tick(now) => self.mark_due(now),
             Goal::End => self.mark_after_close(),
         }
     }
@@ -176,7 +176,7 @@ impl<V: Window> Merge<V> {
         ensures spec { self.new.spec ≡ self.old.spec }
     {
         match goal {
-            Goal::Reading(now) => self.pass_due(now),
+            Goal::Tick(now) => self.pass_due(now),
             Goal::End => self.pass_left(),
         }
     }

@@ -7,10 +7,10 @@ ghost use Rattle.rtp_stream.specs.Anchor.{is_restart_in_reach, media_time_of, re
 ghost use Rattle.rtp_stream.specs.PacketRef.{packet_of};
 ghost use Rattle.rtp_stream.specs.Counts.{is_counted_fate, is_taken_fate};
 ghost use Rattle.rtp_stream.specs.Fate as fate;
-ghost use Rattle.rtp_stream.specs.Grid.{in_room};
+ghost use Rattle.rtp_stream.specs.Grid.{of_width};
 ghost use Rattle.rtp_stream.specs.Probation.{is_off};
-ghost use Rattle.rtp_stream.specs.PathTrack.{room_by};
-ghost use Rattle.rtp_stream.specs.Standing.{is_following};
+ghost use Rattle.rtp_stream.specs.FollowTrack.{width_by};
+ghost use Rattle.rtp_stream.specs.Follow.{is_following};
 ghost use Rattle.rtp_stream.specs.declared.stream_spec.Stream.{Stream};
 
 use super::Merge;
@@ -18,7 +18,7 @@ use crate::window::Window;
 use rtp_stream::{
     Anchor, Fate, Packet, PacketRef, Path, Probation, StreamClock, Track, continues_media_time,
     fate_of_first, fate_of_put, is_off_place, is_taken, media_of_first, media_of_restart, place_of,
-    room_of, update_probation, update_track,
+    update_probation, update_track, width_of,
 };
 
 /// The greatest number of arrivals that are counted, 2^62.
@@ -111,7 +111,7 @@ impl<V: Window> Merge<V> {
     fn offer_next(&mut self, anchor: Anchor, path: Path, packet: &PacketRef<'_>) -> Fate
         requires anchored { self.old.anchor ≡ Some anchor }
         requires open_yet { self.old.closed ≡ false }
-        requires room { self.old.counts.arrived < 2 ^ 62 }
+        requires space { self.old.counts.arrived < 2 ^ 62 }
         requires fits { Fits self.old.spec (packet_of packet.now) }
         ensures next { opens_epoch self.old anchor path (packet_of packet.now) ≡ false
             → IsNextStep self.old.spec self.old self.new anchor path (packet_of packet.now) result }
@@ -124,8 +124,8 @@ impl<V: Window> Merge<V> {
             return self.offer_judged(anchor, path, &judged);
         }
         let next = self.window.base();
-        let room = u64::from(self.spec.window());
-        match place_of(&self.spec, &anchor, next, self.next_media, room, packet) {
+        let width = u64::from(self.spec.window());
+        match place_of(&self.spec, &anchor, next, self.next_media, width, packet) {
             Ok(number) => self.offer_in_time(anchor, number, path, packet),
             Err(_) => {
                 let rare = *packet;
@@ -145,11 +145,11 @@ impl<V: Window> Merge<V> {
     ) -> Fate
         requires anchored { self.old.anchor ≡ Some anchor }
         requires open_yet { self.old.closed ≡ false }
-        requires room { self.old.counts.arrived < 2 ^ 62 }
+        requires space { self.old.counts.arrived < 2 ^ 62 }
         requires fits { Fits self.old.spec (packet_of packet.now) }
         requires plain { is_following self.old.spec.clock ≡ false }
         requires place { Ok number
-            ≡ fate.place_of (in_room self.old.spec self.old.spec.window) anchor self.old.base (packet_of packet.now) }
+            ≡ fate.place_of (of_width self.old.spec self.old.spec.window) anchor self.old.base (packet_of packet.now) }
         ensures { IsNextStep self.old.spec self.old self.new anchor path (packet_of packet.now) result }
     {
         self.note_in_step(path, packet);
@@ -166,13 +166,13 @@ impl<V: Window> Merge<V> {
         let _ = update_probation(&mut self.probations, path, &self.spec, false, packet);
     }
 
-    /// Takes an arrival at an anchored merge, with the room that the tracks leave.
+    /// Takes an arrival at an anchored merge, with the width that the tracks leave.
     // Out of line, so that the arrivals by the other clocks pay one test for it.
     #[inline(never)]
     fn offer_judged(&mut self, anchor: Anchor, path: Path, packet: &PacketRef<'_>) -> Fate
         requires anchored { self.old.anchor ≡ Some anchor }
         requires open_yet { self.old.closed ≡ false }
-        requires room { self.old.counts.arrived < 2 ^ 62 }
+        requires space { self.old.counts.arrived < 2 ^ 62 }
         requires fits { Fits self.old.spec (packet_of packet.now) }
         ensures next { opens_epoch self.old anchor path (packet_of packet.now) ≡ false
             → IsNextStep self.old.spec self.old self.new anchor path (packet_of packet.now) result }
@@ -180,8 +180,8 @@ impl<V: Window> Merge<V> {
             → IsRestartStep self.old.spec self.old self.new anchor path (packet_of packet.now) result }
     {
         let next = self.window.base();
-        let room = room_of(&self.spec, &anchor, next, &self.tracks);
-        match place_of(&self.spec, &anchor, next, self.next_media, room, packet) {
+        let width = width_of(&self.spec, &anchor, next, &self.tracks);
+        match place_of(&self.spec, &anchor, next, self.next_media, width, packet) {
             Ok(number) => self.offer_at(anchor, Ok(number), path, packet),
             Err(_) => {
                 let rare = *packet;
@@ -195,7 +195,7 @@ impl<V: Window> Merge<V> {
     #[inline(never)]
     fn offer_elsewhere(&mut self, path: Path, packet: &PacketRef<'_>) -> Fate
         requires open_yet { self.old.closed ≡ false }
-        requires room { self.old.counts.arrived < 2 ^ 62 }
+        requires space { self.old.counts.arrived < 2 ^ 62 }
         requires fits { Fits self.old.spec (packet_of packet.now) }
         ensures next { (a : Anchor) → self.old.anchor ≡ Some a
             → opens_epoch self.old a path (packet_of packet.now) ≡ false
@@ -207,8 +207,8 @@ impl<V: Window> Merge<V> {
         match self.anchor {
             Some(anchor) => {
                 let next = self.window.base();
-                let room = room_of(&self.spec, &anchor, next, &self.tracks);
-                let place = place_of(&self.spec, &anchor, next, self.next_media, room, packet);
+                let width = width_of(&self.spec, &anchor, next, &self.tracks);
+                let place = place_of(&self.spec, &anchor, next, self.next_media, width, packet);
                 self.offer_at(anchor, place, path, packet)
             }
             // The merge is anchored, so this arm is never reached.
@@ -227,10 +227,10 @@ impl<V: Window> Merge<V> {
     ) -> Fate
         requires anchored { self.old.anchor ≡ Some anchor }
         requires open_yet { self.old.closed ≡ false }
-        requires room { self.old.counts.arrived < 2 ^ 62 }
+        requires space { self.old.counts.arrived < 2 ^ 62 }
         requires fits { Fits self.old.spec (packet_of packet.now) }
         requires place { place
-            ≡ fate.place_of (in_room self.old.spec (room_by self.old.spec anchor self.old.base self.old.tracks))
+            ≡ fate.place_of (of_width self.old.spec (width_by self.old.spec anchor self.old.base self.old.tracks))
             anchor self.old.base (packet_of packet.now) }
         ensures next { opens_epoch self.old anchor path (packet_of packet.now) ≡ false
             → IsNextStep self.old.spec self.old self.new anchor path (packet_of packet.now) result }
@@ -261,7 +261,7 @@ impl<V: Window> Merge<V> {
         requires anchored { self.old.anchor ≡ Some anchor }
         requires open_yet { self.old.closed ≡ false }
         requires place { place.now
-            ≡ fate.place_of (in_room self.old.spec (room_by self.old.spec anchor self.old.base self.old.tracks))
+            ≡ fate.place_of (of_width self.old.spec (width_by self.old.spec anchor self.old.base self.old.tracks))
             anchor self.old.base (packet_of packet.now) }
         ensures opening { result ≡ opening_of self.old anchor path (packet_of packet.now) }
         ensures step { IsHeardStep self.old self.new anchor path (packet_of packet.now) }
@@ -296,12 +296,12 @@ impl<V: Window> Merge<V> {
     ) -> Fate
         requires anchored { self.old.anchor ≡ Some anchor }
         requires open_yet { self.old.closed ≡ false }
-        requires room { self.old.counts.arrived < 2 ^ 62 }
+        requires space { self.old.counts.arrived < 2 ^ 62 }
         requires fits { Fits self.old.spec (packet_of packet.now) }
         requires place { IsPlaced self.old.spec anchor self.old.base (packet_of packet.now) place }
-        ensures { (room : ℕ)
-            → place ≡ fate.place_of (in_room self.old.spec room) anchor self.old.base (packet_of packet.now)
-            → IsPutStep self.old.spec room self.old self.new anchor path (packet_of packet.now) result }
+        ensures { (width : ℕ)
+            → place ≡ fate.place_of (of_width self.old.spec width) anchor self.old.base (packet_of packet.now)
+            → IsPutStep self.old.spec width self.old self.new anchor path (packet_of packet.now) result }
     {
         match place {
             Ok(number) => {
@@ -339,7 +339,7 @@ impl<V: Window> Merge<V> {
     fn restart(&mut self, anchor: Anchor, media: i64, path: Path, packet: &PacketRef<'_>)
         requires anchored { self.old.anchor ≡ Some anchor }
         requires open_yet { self.old.closed ≡ false }
-        requires room { self.old.counts.arrived < 2 ^ 62 }
+        requires space { self.old.counts.arrived < 2 ^ 62 }
         requires fits { Fits self.old.spec (packet_of packet.now) }
         requires few_epochs { anchor.epoch < 2 ^ 62 }
         requires nothing_held { IsEmpty self.old.held }
@@ -365,7 +365,7 @@ impl<V: Window> Merge<V> {
     fn offer_first(&mut self, path: Path, packet: &PacketRef<'_>) -> Fate
         requires unanchored { self.old.anchor ≡ None }
         requires open_yet { self.old.closed ≡ false }
-        requires room { self.old.counts.arrived < 2 ^ 62 }
+        requires space { self.old.counts.arrived < 2 ^ 62 }
         requires fits { Fits self.old.spec (packet_of packet.now) }
         ensures step { IsFirstStep self.old.spec self.old self.new path (packet_of packet.now) result }
         ensures seq { packet.now.seq < 2 ^ 16 }

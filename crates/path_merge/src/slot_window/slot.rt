@@ -9,10 +9,10 @@ use rtp_stream::{Packet, PacketRef, Put};
 use rtp_wire::Payload;
 use std::marker::Model;
 
-/// Room for one packet. A free slot keeps the octets that were written last, unseen.
+/// Space for one packet. A free slot keeps the octets that were written last, unseen.
 #[derive(Drop)]
 pub(crate) struct Slot {
-    // A flag and a packet instead of an `Option`: a freed packet's room isn't blanked, and the next one is written
+    // A flag and a packet instead of an `Option`: a freed packet's octets aren't blanked, and the next one is written
     // over it.
     held: bool,
     packet: Packet,

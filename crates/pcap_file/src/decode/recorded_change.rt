@@ -18,7 +18,7 @@ pub struct ChangeHead {
 }
 
 /// Reads a change from a packet's payload, and its gains to the start of `gains`. Returns `None`, and changes no gain,
-/// if the payload is that of no change or has more gains than `gains` has room for.
+/// if the payload is that of no change or has more gains than `gains` has space for.
 #[tactic(auto, unfolding(crate::specs::RecordedChange::change_of))]
 pub fn read_change(payload: &[u8], gains: &mut [i32]) -> Option<ChangeHead>
     ensures change { IfSome result

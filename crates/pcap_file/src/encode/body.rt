@@ -26,7 +26,7 @@ pub(crate) fn push(head: &mut BlockBody, octets: &[u8])
     ensures items { head.new.items ≡ head.old.items ++ octets.now }
     ensures length { array_vec_len head.new ≡ array_vec_len head.old + length octets.now }
 {
-    // The clause above requires the room.
+    // The clause above requires the space.
     let Ok(()) = head.try_extend_from_slice(octets) else {
         unreachable!()
     };
@@ -36,7 +36,7 @@ pub(crate) fn push(head: &mut BlockBody, octets: &[u8])
 #[tactic(auto, unfolding(crate::specs::Blocks::option_octets, crate::specs::Blocks::padded))]
 pub(crate) fn push_option(head: &mut BlockBody, code: u16, value: &[u8])
     requires few { length value.now ≤ 64 }
-    requires room { array_vec_len head.old + (4 + length value.now + 3 * length value.now % 4) ≤ 128 }
+    requires space { array_vec_len head.old + (4 + length value.now + 3 * length value.now % 4) ≤ 128 }
     ensures items { head.new.items ≡ head.old.items ++ option_octets code value.now }
     ensures length { array_vec_len head.new
         ≡ array_vec_len head.old + (4 + length value.now + 3 * length value.now % 4) }

@@ -12,7 +12,7 @@ use std::net::Ipv4Addr;
 /// Appends the IPv4 header of a datagram.
 pub(crate) fn push_ipv4(head: &mut BlockBody, arrival: &RecordedDatagram<'_>)
     requires few { length arrival.now.octets.now ≤ 32784 }
-    requires room { array_vec_len head.old + 20 ≤ 128 }
+    requires space { array_vec_len head.old + 20 ≤ 128 }
     ensures items { head.new.items ≡ head.old.items ++ header_octets (arrival_view arrival.now) }
     ensures length { array_vec_len head.new ≡ array_vec_len head.old + 20 }
 {
@@ -30,7 +30,7 @@ pub(crate) fn push_ipv4(head: &mut BlockBody, arrival: &RecordedDatagram<'_>)
 #[tactic(auto, unfolding(crate::specs::IpHeader::udp_octets))]
 pub(crate) fn push_udp(head: &mut BlockBody, arrival: &RecordedDatagram<'_>)
     requires few { length arrival.now.octets.now ≤ 32784 }
-    requires room { array_vec_len head.old + 8 ≤ 128 }
+    requires space { array_vec_len head.old + 8 ≤ 128 }
     ensures items { head.new.items ≡ head.old.items ++ udp_octets (arrival_view arrival.now) }
     ensures length { array_vec_len head.new ≡ array_vec_len head.old + 8 }
 {

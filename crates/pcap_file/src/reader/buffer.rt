@@ -31,7 +31,7 @@ const MAX_FRONT: usize = 983_040;
 /// The greatest number of octets of one read.
 const MAX_READ: usize = 65_536;
 
-/// The number of octets that the buffer has room for.
+/// The number of octets that the buffer has space for.
 const CAPACITY: usize = MAX_FRONT + MAX_READ;
 
 /// The octets that were read. The first of them are passed over. Its memory, 1 MiB, is allocated once.
@@ -43,13 +43,13 @@ pub struct ReadBuffer {
     /// True if a read found the file's end.
     pub(crate) ended: bool,
     pub(crate) ghost within: { passed ≤ vec_len held },
-    pub(crate) ghost room: { 1048576 ≤ vec_capacity held },
+    pub(crate) ghost space: { 1048576 ≤ vec_capacity held },
 }
 
 impl ReadBuffer {
     ghost use Rattle.pcap_file.specs.ReadBuffer.{octets_of, Reads};
 
-    /// Returns an empty buffer with room for 1 MiB. Returns `AllocError` if the allocation fails.
+    /// Returns an empty buffer with space for 1 MiB. Returns `AllocError` if the allocation fails.
     pub(crate) fn new(alloc: Global) -> Result<ReadBuffer, AllocError>
         ensures none { IfOk result (λ window. octets_of window ≡ []) }
         ensures going { IfOk result (λ window. window.ended ≡ false) }
@@ -73,7 +73,7 @@ impl ReadBuffer {
     /// Returns true if 983,040 octets or more are not passed over.
     pub(crate) fn is_full(&self) -> bool
         ensures full { result ≡ true → 983040 ≤ length (octets_of self.now) }
-        ensures room { result ≡ false → length (octets_of self.now) < 983040 }
+        ensures space { result ≡ false → length (octets_of self.now) < 983040 }
     {
         self.held.len() - self.passed >= MAX_FRONT
     }
@@ -117,18 +117,18 @@ impl ReadBuffer {
         requires { length (octets_of self.old) + length octets.now ≤ 1048576 }
         ensures { octets_of self.new ≡ octets_of self.old ++ octets.now }
     {
-        // Octets move only if there is no room behind them: once in many reads.
+        // Octets move only if there is no space behind them: once in many reads.
         if self.held.capacity() - self.held.len() < octets.len() {
-            self.make_room();
+            self.make_space();
         }
-        // There is room for these octets, so nothing is allocated here.
+        // There is space for these octets, so nothing is allocated here.
         let Ok(()) = self.held.extend_from_slice(octets) else {
             unreachable!()
         };
     }
 
     /// Moves the octets that are not passed over to the start of the memory.
-    fn make_room(&mut self)
+    fn make_space(&mut self)
         ensures same { octets_of self.new ≡ octets_of self.old }
         ensures alone { vec_len self.new.held ≡ length (octets_of self.old) }
     {

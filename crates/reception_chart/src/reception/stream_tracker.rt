@@ -97,7 +97,7 @@ impl StreamTracker {
         if self.place == usize::MAX {
             return;
         }
-        self.cursor.push_reading(now);
+        self.cursor.push_tick(now);
         self.place += 1;
         report_lost(&mut self.cursor, observer);
         self.grid.time = now;
@@ -158,8 +158,8 @@ pub(crate) fn track_stream<E: EventSource, O: ReceptionObserver>(
         match source.outline(place) {
             EventHeader::Arrive { stream, path } => {
                 if tracker.has(usize::from(stream), path) {
-                    let mut room = [0; MAX_ARRIVAL_OCTETS];
-                    let octets = source.octets(place, &mut room);
+                    let mut buffer = [0; MAX_ARRIVAL_OCTETS];
+                    let octets = source.octets(place, &mut buffer);
                     tracker.take(path, octets, observer);
                 } else {
                     tracker.pass_over();

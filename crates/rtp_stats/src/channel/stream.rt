@@ -81,7 +81,7 @@ impl StreamStatsSender {
     }
 
     /// Sends these counts and the paths' statistics at the clock reading `now`, in sampling instants at 48 kHz, if a
-    /// tenth of a second went by since the last send and there is room.
+    /// tenth of a second went by since the last send and there is space.
     pub fn send(&mut self, counts: Counts, now: i64)
         ensures told { (stream : Stream) (offers : List Offer) → HasTally stream offers self.old.tracker.tally
             → Tells stream offers counts self.old.next now self.old.ring self.new.ring }

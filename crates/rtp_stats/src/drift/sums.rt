@@ -2,7 +2,7 @@
 ghost use Rattle.std.specs.Prelude.{◌≡◌, ℕ, ◌+◌, ◌<◌, ◌≤◌, ◌^◌, IfSome};
 ghost use Rattle.rtp_stats.specs.Drift.{IsSmall, down_of, no_sums, place_in, run_of, up_of, with_point, with_second};
 
-use crate::spare::ArrivalMargin;
+use crate::arrival_margin::ArrivalMargin;
 
 /// The number of points, and the sums over their places and margins.
 #[derive(Clone, Copy)]

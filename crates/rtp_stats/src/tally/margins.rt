@@ -3,7 +3,7 @@ ghost use Rattle.std.specs.Prelude.{◌≡◌, ◌<◌, MatchOption};
 ghost use Rattle.rtp_stats.specs.Margins.{second_of};
 ghost use Rattle.rtp_stats.specs.MarginSecond.{IsMiddle, IsSpareOf, empty_second, second_after, with_spare};
 
-use crate::spare::ArrivalMargin;
+use crate::arrival_margin::ArrivalMargin;
 
 /// The number of bins of a second. Each holds margins of 6 sampling instants, and the last all longer margins.
 // 6 sampling instants are 125 microseconds, the shortest packet time of SMPTE ST 2110-30.

@@ -27,7 +27,7 @@ ghost use Rattle.status_page.specs.GainReplies.{
 };
 ghost use Rattle.status_page.specs.State.{array_tokens};
 
-use crate::control::DeskAnswer;
+use crate::control::RequestOutcome;
 use crate::control::fault::ControlFault;
 use crate::control::shape::GainShape;
 use crate::page::{add_fields, shared};
@@ -48,12 +48,12 @@ pub(crate) struct ShownTimes {
 }
 
 /// Returns the time from which the gains of a change are in force, or the reason why it was refused.
-pub(crate) fn taken_in(answer: DeskAnswer) -> Result<i64, ControlFault>
+pub(crate) fn taken_in(answer: RequestOutcome) -> Result<i64, ControlFault>
     ensures { result ≡ taken_in answer }
 {
     match answer {
-        DeskAnswer::Answered { answer, .. } => taken_of(answer),
-        DeskAnswer::NoAnswer => Err(ControlFault::NoAnswer),
+        RequestOutcome::Answered { answer, .. } => taken_of(answer),
+        RequestOutcome::NoAnswer => Err(ControlFault::NoAnswer),
     }
 }
 
@@ -69,15 +69,15 @@ fn taken_of(answer: GainAnswer) -> Result<i64, ControlFault>
 }
 
 /// Returns the times of an answer that shows gains, or the reason why none are shown.
-pub(crate) fn shown_in(answer: DeskAnswer) -> Result<ShownTimes, ControlFault>
+pub(crate) fn shown_in(answer: RequestOutcome) -> Result<ShownTimes, ControlFault>
     ensures { result ≡ shown_in answer }
 {
     match answer {
-        DeskAnswer::Answered {
+        RequestOutcome::Answered {
             answer,
             next_block_start,
         } => shown_of(answer, next_block_start),
-        DeskAnswer::NoAnswer => Err(ControlFault::NoAnswer),
+        RequestOutcome::NoAnswer => Err(ControlFault::NoAnswer),
     }
 }
 

@@ -1,4 +1,4 @@
-//! The requests that clients make of a run's gains, through the desk.
+//! The requests that clients make of a run's gains, through the requester.
 ghost use Rattle.std.specs.Prelude.{◌≡◌, IfOk, OnErr, option_map};
 ghost use Rattle.http_server.specs.Response.{IsBlank};
 ghost use Rattle.status_page.specs.Controls.{
@@ -19,13 +19,13 @@ use crate::control::body::{read_change, write_places};
 use crate::control::fault::ControlFault;
 use crate::control::integer::integer_in_octets;
 use crate::control::reply::{ShownTimes, shown_in, taken_in, write_shown, write_taken};
-use crate::control::{Control, GainDesk};
+use crate::control::{Control, GainRequester};
 use http::StatusCode;
 use http_server::Response;
 use std::alloc::{AllocError, Global};
 use studio_io::{GainAction, GainRequest};
 
-impl<D: GainDesk> Control<D> {
+impl<D: GainRequester> Control<D> {
     /// Writes the response to a request for the gains with this query. If an allocation fails, the response is 500.
     // Not an error: the request may have been sent to the run already.
     pub(crate) fn show(&mut self, alloc: Global, query: Option<&str>, response: &mut Response)
@@ -49,10 +49,11 @@ impl<D: GainDesk> Control<D> {
     )
         requires { IsBlank response.old }
         ensures { IsWrittenOrFailed
-            (IsShownReply self.now.shape.outs self.now.shape.ins reply (D.planned self.now.desk) self.now.gains.items)
+            (IsShownReply self.now.shape.outs self.now.shape.ins reply
+            (D.planned self.now.requester) self.now.gains.items)
             response.new }
     {
-        let planned = self.desk.planned();
+        let planned = self.requester.planned();
         let gains = self.gains.as_slice();
         if write_shown(alloc, self.shape, reply, planned, gains, response).is_err() {
             fail(response);
@@ -78,7 +79,7 @@ impl<D: GainDesk> Control<D> {
         at: Result<Option<i64>, ControlFault>,
     ) -> Result<Result<ShownTimes, ControlFault>, AllocError>
         ensures ok { IfOk result (λ reply. ShowsBy D.asks self.old at self.new reply) }
-        ensures err { OnErr result (self.new.desk ≡ self.old.desk) }
+        ensures err { OnErr result (self.new.requester ≡ self.old.requester) }
         ensures lock { HasSameLock self.old self.new }
     {
         let at = match at {
@@ -88,7 +89,7 @@ impl<D: GainDesk> Control<D> {
         write_places(self.shape, &mut self.gains)?;
         let action = GainAction::Show;
         let answer = self
-            .desk
+            .requester
             .ask(GainRequest { at, action }, self.gains.as_mut_slice());
         Ok(shown_in(answer))
     }
@@ -101,14 +102,14 @@ impl<D: GainDesk> Control<D> {
         body: &[u8],
     ) -> Result<Result<i64, ControlFault>, AllocError>
         ensures ok { IfOk result (λ reply. ChangesBy D.asks self.old (value_of body.now) self.new reply) }
-        ensures err { OnErr result (self.new.desk ≡ self.old.desk) }
+        ensures err { OnErr result (self.new.requester ≡ self.old.requester) }
         ensures lock { HasSameLock self.old self.new }
     {
         let request = match read_change(alloc, self.shape, body, &mut self.gains)? {
             Ok(request) => request,
             Err(fault) => return Ok(Err(fault)),
         };
-        let answer = self.desk.ask(request, self.gains.as_mut_slice());
+        let answer = self.requester.ask(request, self.gains.as_mut_slice());
         Ok(taken_in(answer))
     }
 }

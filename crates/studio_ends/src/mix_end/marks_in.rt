@@ -29,19 +29,19 @@ use crate::stream_end::packets_in::BATCH;
 use studio_mix::Mixer;
 
 /// Feeds a mark to the mixer if it may follow the stream's marks before it. Returns true if it did.
-fn feed_if_accepted<const N: usize>(mixer: &mut Mixer, stream: usize, room: &MarkCell<N>) -> bool
+fn feed_if_accepted<const N: usize>(mixer: &mut Mixer, stream: usize, cell: &MarkCell<N>) -> bool
     requires stream { stream < length mixer.old.lanes }
     requires wanted { is_wanted_by mixer.old stream ≡ true }
     ensures stands { (studio : Studio) (feeds : List Feed) (number : ℕ) (feed : Feed)
         → HasFeeds studio mixer.old feeds number → slice_get feeds stream ≡ Some feed
-        → HasFeeds studio mixer.new (slice_set feeds stream (fed_more feed (room.now ∷ []))) number }
+        → HasFeeds studio mixer.new (slice_set feeds stream (fed_more feed (cell.now ∷ []))) number }
     ensures value { (studio : Studio) (feeds : List Feed) (number : ℕ) (feed : Feed)
         → HasFeeds studio mixer.old feeds number → slice_get feeds stream ≡ Some feed
-        → result ≡ is_mark_list (format_of feed.stream) (feed.marks ++ room.now ∷ []) }
+        → result ≡ is_mark_list (format_of feed.stream) (feed.marks ++ cell.now ∷ []) }
     ensures lanes { length mixer.new.lanes ≡ length mixer.old.lanes }
     ensures spec { mixer.new.packer.spec ≡ mixer.old.packer.spec }
 {
-    let mark = room.as_ref();
+    let mark = cell.as_ref();
     if mixer.accepts_ref(stream, &mark) {
         mixer.feed_ref(stream, &mark);
         return true;

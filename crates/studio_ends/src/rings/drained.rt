@@ -7,7 +7,7 @@ use crate::rings::packets::PacketConsumer;
 
 /// Sets the flag of each path's ring that is still open. Returns true if any is.
 pub(crate) fn any_path_open(sides: &mut Vec<PacketConsumer>, open_yet: &mut [bool]) -> bool
-    requires room { vec_len sides.old ≤ length open_yet.old }
+    requires space { vec_len sides.old ≤ length open_yet.old }
     requires clear { AllFalse open_yet.old }
     ensures looked { AllLookAt sides.old.items sides.new.items }
     ensures told { AreOpen open_yet.new sides.new.items }
@@ -27,7 +27,7 @@ pub(crate) fn any_path_open(sides: &mut Vec<PacketConsumer>, open_yet: &mut [boo
 /// Sets the flag of each stream's ring that is still open. Returns true if any is.
 // As `any_path_open`. One function for both would need a trait with a ghost view of a ring's items.
 pub(crate) fn any_stream_open(sides: &mut Vec<MarkConsumer>, open_yet: &mut [bool]) -> bool
-    requires room { vec_len sides.old ≤ length open_yet.old }
+    requires space { vec_len sides.old ≤ length open_yet.old }
     requires clear { AllFalse open_yet.old }
     ensures looked { AllLookAt sides.old.items sides.new.items }
     ensures told { AreOpen open_yet.new sides.new.items }

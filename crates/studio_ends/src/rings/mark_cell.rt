@@ -31,13 +31,13 @@ pub(crate) struct MarkCell<const N: usize> {
 
 impl<const N: usize> Model for MarkCell<N> {
     ghost use Rattle.rtp_stream.specs.MarkFacts.{MarkView};
-    ghost use Rattle.studio_ends.specs.MarkCells.{IsMarkRoom, kind_in, octets_in, said_back, said_of};
+    ghost use Rattle.studio_ends.specs.MarkCells.{IsMarkCell, kind_in, octets_in, said_back, said_of};
 
     ghost Value = { MarkView };
 
     ghost view = { λ r. record { format = r.format; kind = kind_in r.said r.payload } };
 
-    ghost invariant = { λ r. IsMarkRoom r.format r.said r.payload };
+    ghost invariant = { λ r. IsMarkCell r.format r.said r.payload };
 
     ghost inverse = { λ m. record { format = m.format; said = said_of m.kind; payload = octets_in m.kind } };
 
@@ -136,7 +136,7 @@ fn split_mark<'a>(kind: MarkKindRef<'a>) -> (MarkHeader, &'a [u8])
 pub(crate) struct SizedMarkProducer<const N: usize> {
     ring: Producer<MarkCell<N>>,
     // One cell for all marks: its octets are zeroed only if the length changes, and copied to the ring once.
-    room: MarkCell<N>,
+    cell: MarkCell<N>,
 }
 
 impl<const N: usize> Model for SizedMarkProducer<N> {
@@ -157,7 +157,7 @@ impl<const N: usize> SizedMarkProducer<N> {
     {
         SizedMarkProducer {
             ring,
-            room: MarkCell::new(format),
+            cell: MarkCell::new(format),
         }
     }
 
@@ -172,21 +172,21 @@ impl<const N: usize> SizedMarkProducer<N> {
     /// Pushes a mark to a place that is known to be free.
     pub(crate) fn push(&mut self, mark: &MarkRef<'_>)
         requires free { 0 < known_free self.old }
-        requires room { payload_length mark.now.format ≤ N }
+        requires space { payload_length mark.now.format ≤ N }
         ensures ring { SameProducer self.old self.new }
         ensures sent { sent self.new ≡ sent self.old ++ mark.now ∷ [] }
     {
         // Called for its contract: the payload has the format's length, so it fits the cell.
         let _kind = mark.kind();
-        self.room.fill(mark);
-        self.ring.push_reserved(self.room);
+        self.cell.fill(mark);
+        self.ring.push_reserved(self.cell);
     }
 
     /// Consumes the end and returns its token; `None` if the consumer was dropped.
     pub(crate) fn finish(self) -> Option<Finished<MarkCell<N>>>
         ensures { IfSome result (λ done. Finishes self.entry done) }
     {
-        let SizedMarkProducer { ring, room: _ } = self;
+        let SizedMarkProducer { ring, cell: _ } = self;
         ring.finish()
     }
 }

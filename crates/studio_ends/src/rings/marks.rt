@@ -30,7 +30,7 @@ ghost use Rattle.rtrb.specs.Ring.{
 };
 ghost use Rattle.rtp_stream.specs.MarkFacts.{payload_length};
 ghost use Rattle.studio_ends.specs.MarksIn.{TakesWanted};
-ghost use Rattle.studio_ends.specs.RoomRings.{HasRoomFor};
+ghost use Rattle.studio_ends.specs.CellSizes.{HasCellsFor};
 ghost use Rattle.studio_ends.specs.DrainedRing.{IsDrained};
 
 use crate::mix_end::marks_in::take_stream;
@@ -139,7 +139,7 @@ impl MarkProducer {
     /// Pushes a mark to a place that is known to be free.
     pub(crate) fn push(&mut self, mark: &MarkRef<'_>)
         requires free { 0 < known_free self.old }
-        requires roomy { HasRoomFor (payload_length mark.now.format) self.old }
+        requires cells { HasCellsFor (payload_length mark.now.format) self.old }
         ensures ring { SameProducer self.old self.new }
         ensures sent { sent self.new ≡ sent self.old ++ mark.now ∷ [] }
     {
@@ -246,7 +246,7 @@ pub(crate) fn open_marks(
     ensures pair { IfOk result (λ r. IsPair r.0 r.1.ring) }
     ensures producer { IfOk result (λ r. (sent r.0 ≡ []) × (known_free r.0 ≡ places)) }
     ensures side { IfOk result (λ r. (received r.1.ring ≡ []) × (r.1.done ≡ None)) }
-    ensures room { IfOk result (λ r. HasRoomFor (payload_length format) r.0) }
+    ensures space { IfOk result (λ r. HasCellsFor (payload_length format) r.0) }
 {
     let len = format.payload_len();
     let (push, pop) = if len <= SHORT {

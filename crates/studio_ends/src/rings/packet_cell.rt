@@ -70,7 +70,7 @@ impl<const N: usize> PacketCell<N> {
 pub(crate) struct SizedPacketProducer<const N: usize> {
     ring: Producer<PacketCell<N>>,
     // One cell for all packets: its octets are zeroed only if the length changes, and copied to the ring once.
-    room: PacketCell<N>,
+    cell: PacketCell<N>,
 }
 
 impl<const N: usize> Model for SizedPacketProducer<N> {
@@ -91,7 +91,7 @@ impl<const N: usize> SizedPacketProducer<N> {
     {
         SizedPacketProducer {
             ring,
-            room: PacketCell::new(),
+            cell: PacketCell::new(),
         }
     }
 
@@ -110,15 +110,15 @@ impl<const N: usize> SizedPacketProducer<N> {
         ensures ring { SameProducer self.old self.new }
         ensures sent { sent self.new ≡ sent self.old ++ packet_of packet.entry ∷ [] }
     {
-        self.room.fill(packet);
-        self.ring.push_reserved(self.room);
+        self.cell.fill(packet);
+        self.ring.push_reserved(self.cell);
     }
 
     /// Consumes the end and returns its token; `None` if the consumer was dropped.
     pub(crate) fn finish(self) -> Option<Finished<PacketCell<N>>>
         ensures { IfSome result (λ done. Finishes self.entry done) }
     {
-        let SizedPacketProducer { ring, room: _ } = self;
+        let SizedPacketProducer { ring, cell: _ } = self;
         ring.finish()
     }
 }

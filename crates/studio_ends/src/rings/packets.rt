@@ -33,7 +33,7 @@ ghost use Rattle.rtrb.specs.Ring.{
 ghost use Rattle.rtp_stream.specs.PacketRef.{packet_of};
 ghost use Rattle.rtp_stream.specs.declared.packet.Packet.{Packet};
 ghost use Rattle.studio_ends.specs.Fitting.{fitting};
-ghost use Rattle.studio_ends.specs.RoomRings.{HasRoomFor};
+ghost use Rattle.studio_ends.specs.CellSizes.{HasCellsFor};
 ghost use Rattle.studio_ends.specs.DrainedRing.{IsDrained};
 ghost use Rattle.studio_ends.specs.StreamTurns.{Joins, TakesPackets, arrivals_by};
 
@@ -143,7 +143,7 @@ impl PacketProducer {
     /// Pushes a packet to a place that is known to be free.
     pub(crate) fn push(&mut self, packet: PacketRef<'_>)
         requires free { 0 < known_free self.old }
-        requires roomy { HasRoomFor (length packet.payload.now) self.old }
+        requires cells { HasCellsFor (length packet.payload.now) self.old }
         ensures ring { SameProducer self.old self.new }
         ensures sent { sent self.new ≡ sent self.old ++ packet_of packet.entry ∷ [] }
     {
@@ -253,7 +253,7 @@ pub(crate) fn open_packets(
     ensures pair { IfOk result (λ r. IsPair r.0 r.1.ring) }
     ensures producer { IfOk result (λ r. (sent r.0 ≡ []) × (known_free r.0 ≡ places)) }
     ensures side { IfOk result (λ r. (received r.1.ring ≡ []) × (r.1.done ≡ None)) }
-    ensures room { IfOk result (λ r. HasRoomFor len r.0) }
+    ensures space { IfOk result (λ r. HasCellsFor len r.0) }
 {
     let (push, pop) = if len <= SHORT {
         let (push, pop) = open_sized(alloc, places)?;

@@ -23,14 +23,14 @@ pub(crate) struct PayloadCell<const N: usize> {
 
 impl<const N: usize> Model for PayloadCell<N> {
     ghost use Rattle.std.specs.Prelude.{ℕ, List, length, take};
-    ghost use Rattle.studio_ends.specs.PayloadCells.{IsRoom, padded};
+    ghost use Rattle.studio_ends.specs.PayloadCells.{IsCell, padded};
     ghost use Rattle.studio_ends.specs.PayloadCells.{padded_back, taken_length};
 
     ghost Value = { List ℕ };
 
     ghost view = { λ r. take r.len r.octets };
 
-    ghost invariant = { λ r. IsRoom N r.len r.octets };
+    ghost invariant = { λ r. IsCell N r.len r.octets };
 
     ghost inverse = { λ octets. record { len = length octets; octets = padded N octets } };
 

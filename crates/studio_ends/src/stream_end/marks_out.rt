@@ -26,7 +26,7 @@ ghost use Rattle.path_merge.specs.Merge.{HasHistory};
 ghost use Rattle.path_merge.specs.Goal.{CanReach, Gives, HasGivenAll, MovesTo, next_to};
 ghost use Rattle.rtp_stream.specs.MarkFacts.{payload_length};
 ghost use Rattle.rtp_stream.specs.StreamSpecFacts.{format_of};
-ghost use Rattle.studio_ends.specs.RoomRings.{HasRoomFor};
+ghost use Rattle.studio_ends.specs.CellSizes.{HasCellsFor};
 ghost use Rattle.studio_ends.specs.StreamTurns.{DrainsMarks, PushesMarks};
 ghost use Rattle.studio_ends.specs.StopReasons.{StopsFor};
 
@@ -59,9 +59,9 @@ pub struct TurnNote {
 
 /// Pushes the next mark before a goal and passes it. Returns true if there was one.
 pub(crate) fn push_next(marks: &mut MarkProducer, merge: &mut Merge<SlotWindow>, goal: Goal) -> bool
-    requires room { 0 < known_free marks.old }
+    requires space { 0 < known_free marks.old }
     requires can { CanReach merge.old goal }
-    requires roomy { HasRoomFor (payload_length (format_of merge.old.spec)) marks.old }
+    requires cells { HasCellsFor (payload_length (format_of merge.old.spec)) marks.old }
     ensures ring { SameProducer marks.old marks.new }
     ensures pushed { sent marks.new ≡ sent marks.old ++ option_to_list (next_to merge.old goal) }
     ensures count { length (option_to_list (next_to merge.old goal)) ≡ (if result then 1 else 0) }
@@ -83,7 +83,7 @@ pub(crate) fn push_next(marks: &mut MarkProducer, merge: &mut Merge<SlotWindow>,
     is_some
 }
 
-/// Pushes marks up to a time, while there is room. Returns their number and why it stopped.
+/// Pushes marks up to a time, while there is space. Returns their number and why it stopped.
 pub(crate) fn push_marks(
     marks: &mut MarkProducer,
     merge: &mut Merge<SlotWindow>,
@@ -92,7 +92,7 @@ pub(crate) fn push_marks(
     requires low { merge.old.time ≤ℤ now }
     requires high { now ≤ℤ pos (2 ^ 60) }
     requires open_yet { merge.old.closed ≡ false }
-    requires roomy { HasRoomFor (payload_length (format_of merge.old.spec)) marks.old }
+    requires cells { HasCellsFor (payload_length (format_of merge.old.spec)) marks.old }
     ensures pushed { PushesMarks marks.old merge.old now marks.new merge.new result.0 }
     ensures most { result.0 ≤ 64 }
     ensures stop { StopsFor result.1 merge.new.time now result.0 (known_free marks.new) }
@@ -103,7 +103,7 @@ pub(crate) fn push_marks(
         if marks.is_full() {
             return (count, StopReason::NoRoom);
         }
-        if !push_next(marks, merge, Goal::Reading(now)) {
+        if !push_next(marks, merge, Goal::Tick(now)) {
             return (count, StopReason::CaughtUp);
         }
         count += 1;
@@ -111,10 +111,10 @@ pub(crate) fn push_marks(
     (count, StopReason::Batch)
 }
 
-/// Pushes the marks that are left, at most 64 and while there is room. Returns true if the end mark was pushed.
+/// Pushes the marks that are left, at most 64 and while there is space. Returns true if the end mark was pushed.
 pub(crate) fn drain_marks(marks: &mut MarkProducer, merge: &mut Merge<SlotWindow>) -> bool
     requires closed { merge.old.closed ≡ true }
-    requires roomy { HasRoomFor (payload_length (format_of merge.old.spec)) marks.old }
+    requires cells { HasCellsFor (payload_length (format_of merge.old.spec)) marks.old }
     ensures drained { DrainsMarks marks.old merge.old marks.new merge.new }
     ensures all { result ≡ true → HasGivenAll merge.new }
     ensures some { result ≡ false → (length (sent marks.new) ≡ length (sent marks.old) + 64)

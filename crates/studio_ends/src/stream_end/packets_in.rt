@@ -32,14 +32,14 @@ fn offer_packet<const N: usize>(
     spec: &StreamSpec,
     merge: &mut Merge<SlotWindow>,
     path: Path,
-    room: &PacketCell<N>,
+    cell: &PacketCell<N>,
     sender: &mut Option<StreamStatsSender>,
 )
     requires spec { merge.old.spec ≡ spec.now }
     requires path { path < spec.now.paths }
-    ensures { Joins merge.old merge.new (λ stream. arrivals_by path (fitting stream (room.now ∷ []))) }
+    ensures { Joins merge.old merge.new (λ stream. arrivals_by path (fitting stream (cell.now ∷ []))) }
 {
-    let packet = room.as_ref();
+    let packet = cell.as_ref();
     if packet.payload.len() == spec.payload_len() {
         let fate = merge.offer_ref(path, packet);
         note(sender, merge, path, packet, fate);

@@ -187,7 +187,7 @@ impl StreamEnd {
         if self.merge.closed() {
             return Ok(());
         }
-        // Called for its contract: a stream has at most 4 paths, so `still_open` has room for all of them.
+        // Called for its contract: a stream has at most 4 paths, so `still_open` has space for all of them.
         let _paths = self.spec.paths();
         let mut still_open = [false; 4];
         if any_path_open(&mut self.sides, &mut still_open) {

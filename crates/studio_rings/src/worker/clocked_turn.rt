@@ -42,8 +42,8 @@ fn read_first(end: &mut StreamEnd, now: i64)
     }
 }
 
-/// Rests if a turn at this time left nothing to do until packets arrive or time passes. The pauses grow while no packet
-/// arrives.
+/// Pauses if a turn at this time left nothing to do until packets arrive or time passes. The pauses grow while no
+/// packet arrives.
 fn snooze_after<R: Wait>(rt: &R, pause: &mut Backoff, now: i64, note: &TurnNote) {
     if note.from.iter().any(|count| *count > 0) {
         pause.reset();
@@ -56,7 +56,7 @@ fn snooze_after<R: Wait>(rt: &R, pause: &mut Backoff, now: i64, note: &TurnNote)
 }
 
 impl<C: Clock> ClockedStream<C> {
-    /// Makes a turn at the greatest clock reading so far, and rests if nothing is left to do until packets arrive or
+    /// Makes a turn at the greatest clock reading so far, and pauses if nothing is left to do until packets arrive or
     /// time passes.
     pub fn turn<R: Wait>(&mut self, rt: &R)
         ensures later { GoesOn C.told self.old self.new }

@@ -19,12 +19,12 @@ fn gain_count(end: &MixEnd) -> usize
 }
 
 /// Asks the source for one request, and answers it. Returns false if there was none.
-fn ask_once<G: GainSource>(end: &mut MixEnd, source: &mut G, room: &mut [i32]) -> bool
-    requires room { length room.old ≡ 8192 }
+fn ask_once<G: GainSource>(end: &mut MixEnd, source: &mut G, buffer: &mut [i32]) -> bool
+    requires space { length buffer.old ≡ 8192 }
     ensures { TakesChanges end.old end.new (G.taken source.old) (G.taken source.new) }
 {
     let count = gain_count(end);
-    let gains = &mut room[..count];
+    let gains = &mut buffer[..count];
     let Some(request) = source.next(gains) else {
         return false;
     };
@@ -35,12 +35,12 @@ fn ask_once<G: GainSource>(end: &mut MixEnd, source: &mut G, room: &mut [i32]) -
 }
 
 /// Asks the source for requests until it has none, but for at most 64, and answers each.
-pub(crate) fn ask_source<G: GainSource>(end: &mut MixEnd, source: &mut G, room: &mut [i32])
-    requires room { length room.old ≡ 8192 }
+pub(crate) fn ask_source<G: GainSource>(end: &mut MixEnd, source: &mut G, buffer: &mut [i32])
+    requires space { length buffer.old ≡ 8192 }
     ensures { TakesChanges end.old end.new (G.taken source.old) (G.taken source.new) }
 {
     for _ in 0..MAX_REQUESTS {
-        if !ask_once(end, source, room) {
+        if !ask_once(end, source, buffer) {
             return;
         }
     }

@@ -110,14 +110,14 @@ pub fn run_mixer_with_gains<R: Wait, K: Sink, G: GainSource>(
     let mut gains = gains;
     let mut counts = SendCounts::new();
     let mut pause = Backoff::between(FIRST_PAUSE, LONGEST_PAUSE);
-    let mut room = [0i32; MAX_GAINS];
+    let mut buffer = [0i32; MAX_GAINS];
     for _ in rt.forever() {
         // The flags are read before the turn: a stream sets its flag after its last mark, so if all flags were set and
         // the turn still found nothing, no later turn finds anything.
         let last = stop.load(Ordering::SeqCst)
             || ended.iter().all(|flag| flag.load(Ordering::SeqCst));
         // Before the turn: a change that is asked for now is in force from the block of this turn on.
-        ask_source(&mut end, &mut gains, &mut room);
+        ask_source(&mut end, &mut gains, &mut buffer);
         if !mix_once(&mut end, &mut sink, &mut counts) {
             pause.reset();
             continue;

@@ -75,7 +75,7 @@ fn abandon_path(end: PathEnd, faults: u64, ended: &AtomicBool) -> PathResult
     }
 }
 
-/// Rests after a feed had nothing, unless the feed has waited by itself.
+/// Pauses after a feed had nothing, unless the feed has waited by itself.
 fn rest_for<R: Wait, F: Feed>(rt: &R, feed: &F, pause: &mut Backoff) {
     if !feed.waits() {
         pause.snooze(rt);

@@ -2,7 +2,7 @@
 ghost use Rattle.std.specs.Prelude.{◌≡◌, ◌<◌, ◌⊎◌, true, false, length, None, IfOk, IfErr, OnOk};
 ghost use Rattle.gain_mix.specs.Changes.{before, with_change};
 ghost use Rattle.gain_mix.specs.Gain.{ins_of};
-ghost use Rattle.gain_mix.specs.Live.{has_place};
+ghost use Rattle.gain_mix.specs.LiveSchedule.{has_place};
 ghost use Rattle.gain_mix.specs.Schedule.{schedule_fault_of};
 ghost use Rattle.studio_run.specs.Gains.{IsChange, is_gain, with_gain};
 ghost use Rattle.studio_run.specs.declared.gains.fault.GainsFaultKind.TheVariants as kind;

@@ -14,7 +14,7 @@ ghost use Rattle.studio_run.specs.Report.{
   merge_line,
 };
 
-use crate::buffer::TextBuffer;
+use crate::text_buffer::TextBuffer;
 use crate::text_io::WriteFault;
 use path_merge::{Counts, Path};
 use rtp_stream::{COUNTS_AFTER_PATHS, COUNTS_BEFORE_PATHS, CountField, PathCounts};
@@ -32,7 +32,7 @@ pub fn write_datagram<W: Write>(
     ensures fault { OnErr result
         (BreaksOff (W.contents writer.old) text.old (W.contents writer.new) (datagram_line datagram.now)) }
 {
-    text.make_room(writer)?;
+    text.make_space(writer)?;
     text.push("out ");
     text.push_octets(datagram);
     text.push("\n");
@@ -52,7 +52,7 @@ pub fn write_path_counts<W: Write>(
     ensures fault { OnErr result (BreaksOff (W.contents writer.old) text.old (W.contents writer.new)
         (path_line stream path (path_tally_of counts.now))) }
 {
-    text.make_room(writer)?;
+    text.make_space(writer)?;
     push_path_line(text, stream, path, counts);
     Ok(())
 }
@@ -70,7 +70,7 @@ pub fn write_merge_counts<W: Write>(
     ensures fault { OnErr result (BreaksOff (W.contents writer.old) text.old (W.contents writer.new)
         (merge_line stream paths (tally_of counts.now))) }
 {
-    text.make_room(writer)?;
+    text.make_space(writer)?;
     push_merge_line(text, stream, paths, counts);
     Ok(())
 }
@@ -105,10 +105,10 @@ fn push_merge_line(text: &mut TextBuffer, stream: u8, paths: u8, counts: &Counts
 }
 
 /// Adds the counts of a merge whose stream has `paths` paths. Each number comes after its word and the one character
-/// of `between`. The caller has made room for them.
+/// of `between`. The caller has made space for them.
 pub fn push_tally(text: &mut TextBuffer, between: &str, paths: u8, counts: &Counts)
     requires one { length between.now ≡ 1 }
-    requires room { length text.old + 900 ≤ 65536 }
+    requires space { length text.old + 900 ≤ 65536 }
     ensures text { text.new ≡ text.old ++ tally_text between.now paths (tally_of counts.now) }
     ensures few { length text.new ≤ length text.old + 900 }
 {
@@ -121,7 +121,7 @@ pub fn push_tally(text: &mut TextBuffer, between: &str, paths: u8, counts: &Coun
 #[tactic(auto, unfolding(crate::specs::Report::fields_text))]
 fn push_fields(text: &mut TextBuffer, between: &str, fields: &[CountField], counts: &Counts)
     requires one { length between.now ≡ 1 }
-    requires room { length text.old + 54 * length fields.now ≤ 65536 }
+    requires space { length text.old + 54 * length fields.now ≤ 65536 }
     ensures text { text.new ≡ text.old ++ fields_text between.now fields.now (tally_of counts.now) }
     ensures few { length text.new ≤ length text.old + 54 * length fields.now }
 {
@@ -143,7 +143,7 @@ fn taken_from(paths: u8, counts: &Counts) -> &[u64]
 fn push_taken(text: &mut TextBuffer, between: &str, taken_by: &[u64])
     requires one { length between.now ≡ 1 }
     requires few_paths { length taken_by.now ≤ 4 }
-    requires room { length text.old + 200 ≤ 65536 }
+    requires space { length text.old + 200 ≤ 65536 }
     ensures text { text.new ≡ text.old ++ taken_text between.now 0 taken_by.now }
     ensures few { length text.new ≤ length text.old + 200 }
 {
@@ -159,7 +159,7 @@ fn push_taken(text: &mut TextBuffer, between: &str, taken_by: &[u64])
     }
 }
 
-/// Adds a number after a word and a space. The caller has made room for them.
+/// Adds a number after a word and a space. The caller has made space for them.
 pub fn push_count(text: &mut TextBuffer, word: &str, number: u64)
     requires { length text.old + length word.now + 42 ≤ 65536 }
     ensures text { text.new ≡ text.old ++ count_text word.now number }
@@ -171,7 +171,7 @@ pub fn push_count(text: &mut TextBuffer, word: &str, number: u64)
 /// Adds a number after a word and the one character of `between`.
 fn push_field(text: &mut TextBuffer, between: &str, word: &str, number: u64)
     requires one { length between.now ≡ 1 }
-    requires room { length text.old + length word.now + 42 ≤ 65536 }
+    requires space { length text.old + length word.now + 42 ≤ 65536 }
     ensures text { text.new ≡ text.old ++ pair_text between.now word.now number }
     ensures few { length text.new ≤ length text.old + length word.now + 42 }
 {

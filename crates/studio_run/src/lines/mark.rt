@@ -4,7 +4,7 @@ ghost use Rattle.rtp_stream.specs.MarkRef.{body_from, kind_of, HasShortBody, IsS
 ghost use Rattle.studio_run.specs.Buffer.{PassesOn, BreaksOff};
 ghost use Rattle.studio_run.specs.Text.{number_text, body_text, mark_text, mark_line, next_line};
 
-use crate::buffer::TextBuffer;
+use crate::text_buffer::TextBuffer;
 use crate::text_io::WriteFault;
 use path_merge::{MarkKindRef, MarkRef};
 use std::io::Write;
@@ -20,7 +20,7 @@ pub fn write_mark<W: Write>(
         (mark_line stream mark.now.kind)) }
     ensures fault { OnErr result (BreaksOff (W.contents writer.old) text.old (W.contents writer.new) []) }
 {
-    text.make_room(writer)?;
+    text.make_space(writer)?;
     push_line(text, stream, mark.kind());
     Ok(())
 }
@@ -44,7 +44,7 @@ pub(crate) fn write_next<W: Write>(
 
 /// Adds the line of a mark.
 fn push_line(text: &mut TextBuffer, stream: u8, kind: MarkKindRef<'_>)
-    requires room { length text.old + 4096 ≤ 65536 }
+    requires space { length text.old + 4096 ≤ 65536 }
     requires short { HasShortBody (kind_of kind) }
     ensures { text.new ≡ text.old ++ mark_line stream (kind_of kind.entry) }
 {
@@ -56,7 +56,7 @@ fn push_line(text: &mut TextBuffer, stream: u8, kind: MarkKindRef<'_>)
 
 /// Adds the fields of a mark.
 fn push_mark(text: &mut TextBuffer, kind: MarkKindRef<'_>)
-    requires room { length text.old + 4000 ≤ 65536 }
+    requires space { length text.old + 4000 ≤ 65536 }
     requires short { HasShortBody (kind_of kind) }
     ensures text { text.new ≡ text.old ++ mark_text (kind_of kind.entry) }
     ensures few { length text.new ≤ length text.old + 4000 }
@@ -98,7 +98,7 @@ fn push_extended(text: &mut TextBuffer, epoch: u64, number: u64)
 
 /// Adds the body of a slot.
 fn push_body(text: &mut TextBuffer, payload: Option<&[u8]>)
-    requires room { length text.old + 3000 ≤ 65536 }
+    requires space { length text.old + 3000 ≤ 65536 }
     requires short { IsShort (body_from (option_copied payload)) }
     ensures text { text.new ≡ text.old ++ body_text (body_from (option_copied payload.entry)) }
     ensures few { length text.new ≤ length text.old + 3000 }

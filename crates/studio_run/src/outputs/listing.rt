@@ -13,10 +13,10 @@ ghost use Rattle.studio_run.specs.StudioListing.{HasListed, HasListedAll};
 ghost use Rattle.studio_run.specs.StudioReport.{AreReady};
 ghost use Rattle.studio_run.specs.CountedListing.{FailsWithCounts, FailsWithCountsOf, ListsAndCounts, ListsAndCountsOf};
 
-use crate::buffer::TextBuffer;
 use crate::lines::mark::write_next;
 use crate::outputs::report::write_counts;
 use crate::player::{PlayFault, read_all, runnable_events};
+use crate::text_buffer::TextBuffer;
 use crate::text_io::WriteFault;
 use crate::trace::text_events::TracedEvents;
 use rtp_wire::MAX_ARRIVAL_OCTETS;
@@ -77,11 +77,11 @@ fn write_marks<E: EventSource, W: Write>(
         → HasPulled stream number open_at (E.events source.now) cursor.old 0
         → HasPulledSome stream number open_at (E.events source.now) cursor.new) }
 {
-    let mut room = [0; MAX_ARRIVAL_OCTETS];
+    let mut buffer = [0; MAX_ARRIVAL_OCTETS];
     // The label names the loop in its proof.
     'events: loop {
         write_taken(text, writer, cursor)?;
-        if !cursor.take_event(source, &mut room) {
+        if !cursor.take_event(source, &mut buffer) {
             return Ok(());
         }
     }

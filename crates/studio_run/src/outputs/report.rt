@@ -13,8 +13,8 @@ ghost use Rattle.studio_session.specs.Event.{TraceEvent};
 ghost use Rattle.studio_session.specs.Counts.{AreTallies};
 ghost use Rattle.studio_session.specs.Report.{ArePulled, HasPulledSome};
 
-use crate::buffer::TextBuffer;
 use crate::lines::counts::{write_datagram, write_merge_counts, write_path_counts};
+use crate::text_buffer::TextBuffer;
 use crate::text_io::WriteFault;
 use mix_packets::MAX_OUTPUT_OCTETS;
 use path_merge::Path;

@@ -5,7 +5,7 @@ ghost use Rattle.hex.specs.Hex.{is_hex_digit, pair_value};
 ghost use Rattle.studio_run.specs.Trace.{octets_of};
 
 use hex::FromHex;
-use studio_session::DatagramRoom;
+use studio_session::DatagramBuffer;
 
 /// Returns true if an octet is a hexadecimal digit, in either case.
 fn is_digit(octet: u8) -> bool
@@ -48,17 +48,17 @@ fn octet_of(high: u8, low: u8) -> u8
     }
 }
 
-/// Decodes the octets that a field spells by two hexadecimal digits each to the start of `room`, and returns their
+/// Decodes the octets that a field spells by two hexadecimal digits each to the start of `buffer`, and returns their
 /// number.
-pub(crate) fn decode_octets(text: &[u8], room: &mut DatagramRoom) -> usize
+pub(crate) fn decode_octets(text: &[u8], buffer: &mut DatagramBuffer) -> usize
     requires short { length text.now ≤ 4096 }
     requires good { IsSome (octets_of text.now) }
-    ensures octets { octets_of text.now ≡ Some (take result room.new) }
+    ensures octets { octets_of text.now ≡ Some (take result buffer.new) }
     ensures few { result ≤ 2048 }
 {
     let count = text.len() / 2;
     for place in 0..count {
-        room[place] = octet_of(text[2 * place], text[2 * place + 1]);
+        buffer[place] = octet_of(text[2 * place], text[2 * place + 1]);
     }
     count
 }

@@ -12,7 +12,7 @@ use crate::trace::reader::TraceReader;
 use path_merge::Path;
 use std::alloc::Global;
 use std::marker::Model;
-use studio_session::{DatagramRoom, EventHeader, EventSource};
+use studio_session::{DatagramBuffer, EventHeader, EventSource};
 
 /// An event of a trace: a datagram by the place of its digits, a clock reading in sampling instants, or the close.
 #[derive(Clone, Copy, Debug, PartialEq, Eq)]
@@ -100,8 +100,8 @@ impl<'a> EventSource for TracedEvents<'a> {
         outline_of(&self.places[place])
     }
 
-    fn octets<'b>(&'b self, place: usize, room: &'b mut DatagramRoom) -> &'b [u8] {
-        octets_in(self.text, self.places[place], room)
+    fn octets<'b>(&'b self, place: usize, buffer: &'b mut DatagramBuffer) -> &'b [u8] {
+        octets_in(self.text, self.places[place], buffer)
     }
 }
 
@@ -119,8 +119,8 @@ fn outline_of(place: &TextEvent) -> EventHeader
     }
 }
 
-/// Returns the octets of a place's datagram, laid out in `room`, none of a place without one.
-fn octets_in<'a>(text: &[u8], place: TextEvent, room: &'a mut DatagramRoom) -> &'a [u8]
+/// Returns the octets of a place's datagram, laid out in `buffer`, none of a place without one.
+fn octets_in<'a>(text: &[u8], place: TextEvent, buffer: &'a mut DatagramBuffer) -> &'a [u8]
     requires { IsPlace text.now place }
     ensures { (stream path : ℕ) (octets : List ℕ) → event_at text.now place ≡ Arrival stream path octets
         → result.now ≡ octets }
@@ -128,19 +128,19 @@ fn octets_in<'a>(text: &[u8], place: TextEvent, room: &'a mut DatagramRoom) -> &
     match place {
         TextEvent::Arrive { start, end, .. } => {
             let digits = &text[start as usize..end as usize];
-            decoded(digits, room)
+            decoded(digits, buffer)
         }
         TextEvent::Tick(_) => &[],
         TextEvent::Close => &[],
     }
 }
 
-/// Returns the octets that digits spell, laid out in `room`.
-fn decoded<'a>(digits: &[u8], room: &'a mut DatagramRoom) -> &'a [u8]
+/// Returns the octets that digits spell, laid out in `buffer`.
+fn decoded<'a>(digits: &[u8], buffer: &'a mut DatagramBuffer) -> &'a [u8]
     requires short { length digits.now ≤ 4096 }
     requires good { IsSome (octets_of digits.now) }
     ensures { result.now ≡ octets_by digits.now }
 {
-    let length = decode_octets(digits, room);
-    &room[..length]
+    let length = decode_octets(digits, buffer);
+    &buffer[..length]
 }

@@ -74,9 +74,9 @@ fn body_of(format: PacketFormat, samples: &[u8]) -> Body
 enum Step {
     /// The lane wants and accepts this mark, and is fed it.
     Feed(Plain),
-    /// The lane accepts this mark and has room for it, and keeps it. It may not want it yet.
+    /// The lane accepts this mark and has space for it, and keeps it. It may not want it yet.
     Keep(Plain),
-    /// The lane has no room for this mark.
+    /// The lane has no space for this mark.
     NoRoom(Plain),
     /// The lane does not accept this mark after those that it has.
     Refuse(Plain),
@@ -111,11 +111,11 @@ impl Player {
         }
     }
 
-    /// Returns a player whose lane begins at media time 0 and has room for this many frames.
-    fn with_room(rt: &impl Abort, alloc: Global, frames: u32) -> Player {
-        // `Lane::with_room` requires room for a block and a packet at least.
+    /// Returns a player whose lane begins at media time 0 and has space for this many frames.
+    fn with_capacity(rt: &impl Abort, alloc: Global, frames: u32) -> Player {
+        // `Lane::with_capacity` requires space for a block and a packet at least.
         assert!(rt; 18 <= frames && frames <= 1_000);
-        let lane = Lane::with_room(alloc, mono(rt), 0, 12, frames);
+        let lane = Lane::with_capacity(alloc, mono(rt), 0, 12, frames);
         Player {
             lane: lane.expect(rt, "there is memory"),
         }
@@ -134,7 +134,7 @@ impl Player {
         match step {
             Step::Feed(plain) => self.feeds(&mark_of(format, plain)),
             Step::Keep(plain) => self.keeps(&mark_of(format, plain)),
-            Step::NoRoom(plain) => self.has_no_room(plain),
+            Step::NoRoom(plain) => self.has_no_space(plain),
             Step::Refuse(plain) => self.refuses(format, plain),
             Step::RefuseOther(plain) => {
                 let other = PacketFormat {
@@ -151,10 +151,10 @@ impl Player {
         }
     }
 
-    /// Returns true if the lane has no room for a mark.
-    fn has_no_room(&self, plain: Plain) -> bool {
+    /// Returns true if the lane has no space for a mark.
+    fn has_no_space(&self, plain: Plain) -> bool {
         let mark = mark_of(self.lane.format(), plain);
-        !self.lane.has_room(&mark.as_ref())
+        !self.lane.has_space(&mark.as_ref())
     }
 
     /// Returns true if the lane does not accept a mark of this format.
@@ -172,10 +172,10 @@ impl Player {
         is_taken
     }
 
-    /// Keeps a mark, if the lane accepts it and has room for it, and returns true if so.
+    /// Keeps a mark, if the lane accepts it and has space for it, and returns true if so.
     fn keeps(&mut self, mark: &Mark) -> bool {
         let mark = mark.as_ref();
-        let is_taken = self.lane.accepts_ref(&mark) && self.lane.has_room(&mark);
+        let is_taken = self.lane.accepts_ref(&mark) && self.lane.has_space(&mark);
         if is_taken {
             self.lane.keep_ref(&mark);
         }
@@ -223,7 +223,7 @@ fn slots_are_read_from_the_middle_of_one_to_the_end(rt: HostRuntime) {
     Player::new(&rt, rt.alloc(), 3).take(&rt, &FROM_SILENCE);
 }
 
-const A_ROOM: [Step; 14] = [
+const A_FULL_LANE: [Step; 14] = [
     Step::Feed(Plain::Quiet(14)),
     Step::Covered,
     Step::Keep(Plain::Got(0, 70_000, 15, [1, 2, 3, 4, 5, 6])),
@@ -240,17 +240,17 @@ const A_ROOM: [Step; 14] = [
     Step::EndIs(42),
 ];
 
-/// A lane with room for 30 frames keeps marks of two epochs before they are wanted, up to the last frame. The room
+/// A lane with space for 30 frames keeps marks of two epochs before they are wanted, up to the last frame. The lane
 /// begins at the next block.
 #[test]
-fn a_room_is_filled_to_its_last_frame(rt: HostRuntime) {
-    Player::with_room(&rt, rt.alloc(), 30).take(&rt, &A_ROOM);
+fn a_lane_is_filled_to_its_last_frame(rt: HostRuntime) {
+    Player::with_capacity(&rt, rt.alloc(), 30).take(&rt, &A_FULL_LANE);
 }
 
 /// Eight slots that were got and seven that are lost, of 6 sampling instants each and from 0 on, cover a lane up to 90.
 #[test]
 fn got_and_lost_slots_cover_up_to_their_end(rt: HostRuntime) {
-    let player = &mut Player::with_room(&rt, rt.alloc(), 90);
+    let player = &mut Player::with_capacity(&rt, rt.alloc(), 90);
     for place in 0..15i16 {
         let number = 65_537 + place as u32;
         let slot = if place < 8 {

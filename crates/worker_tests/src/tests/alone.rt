@@ -1,6 +1,6 @@
 //! Whole runs in one thread, over feeds, clocks and a sink in memory.
 
-use super::fakes::{FailingSink, FaultyFeed, NoRest};
+use super::fakes::{FailingSink, FaultyFeed, NoPause};
 use super::timed::{TimedClock, TimedFeed, TimedSink, WholeRest};
 use super::workers::{
     FAILURES, Failure, gave_both, has_failed, list_of, one_stream, only, sends, two_packets,
@@ -20,7 +20,7 @@ fn run_one<R: Wait + Abort, F: Feed, C: Clock, K: Sink, P: IdleWait>(
     feeds: [F; 2],
     clock: C,
     sink: K,
-    rest: P,
+    pause: P,
 ) -> (WorkReport, K) {
     let studio = one_stream(alloc).expect(rt, "a studio");
     let feeds = list_of(rt, alloc, feeds);
@@ -29,7 +29,7 @@ fn run_one<R: Wait + Abort, F: Feed, C: Clock, K: Sink, P: IdleWait>(
         clock,
         sink,
         observer: NoObserver,
-        wait: rest,
+        wait: pause,
         gains: NoGains,
     };
     let done = run_engine(rt, alloc, &studio, devices);
@@ -46,7 +46,7 @@ fn one_thread_and_an_address_that_fails(rt: HostRuntime) {
     let packets = two_packets(&rt, alloc);
     let feeds = [MemoryFeed::new(&packets), MemoryFeed::new(&[])];
     let sink = FailingSink::new(&rt, alloc, 1);
-    let (report, sink) = run_one(&rt, alloc, feeds, MemoryClock::new(&[0]), sink, NoRest);
+    let (report, sink) = run_one(&rt, alloc, feeds, MemoryClock::new(&[0]), sink, NoPause);
     assert!(rt; only(&rt, &report).got == 2);
     assert!(rt; sends(&report) == (2, [2, 1], [0, 1]));
     gave_both(&rt, sink.handed());
@@ -63,7 +63,7 @@ fn run_failing<R: Wait + Abort>(
     let feeds = [failure.first, failure.second];
     let feeds = feeds.map(|(first, later)| FaultyFeed::new(first, later, &packets));
     let sink = MemorySink::new(alloc);
-    let (report, sink) = run_one(rt, alloc, feeds, MemoryClock::new(readings), sink, NoRest);
+    let (report, sink) = run_one(rt, alloc, feeds, MemoryClock::new(readings), sink, NoPause);
     gave_both(rt, sink.kept());
     report
 }
@@ -95,8 +95,8 @@ fn one_thread_by_a_clock_that_goes_back(rt: HostRuntime) {
     has_failed(&rt, &report, &A_CLOCK_BACK);
 }
 
-/// Returns the times at which a run sent its datagrams. It rests as long as it may, until a time, and both packets come
-/// on the first path.
+/// Returns the times at which a run sent its datagrams. It pauses as long as it may, until a time, and both packets
+/// come on the first path.
 fn times_until<R: Wait + Abort>(rt: &R, alloc: Global, until: i64) -> Vec<i64> {
     let packets = two_packets(rt, alloc);
     let time = AtomicI64::new(0);

@@ -82,9 +82,9 @@ impl<'a, R: Abort> Sink for FailingSink<'a, R> {
 
 /// Takes no rest.
 #[derive(Clone, Copy)]
-pub(super) struct NoRest;
+pub(super) struct NoPause;
 
-impl IdleWait for NoRest {
+impl IdleWait for NoPause {
     fn wait_for_input(&mut self, _engine: &Engine, _most: i64) -> bool {
         true
     }

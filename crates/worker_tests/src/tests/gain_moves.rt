@@ -1,7 +1,7 @@
 //! Whole runs, in one thread and by workers, whose gains move while they go on.
 ghost use Rattle.std.specs.Prelude.{◌≡◌, ◌++◌, ◌∷◌, [], List, ℤ, None, Some, true, map};
 
-use super::fakes::{FaultyFeed, NoRest};
+use super::fakes::{FaultyFeed, NoPause};
 use super::order_of_calls::OrderOfCalls;
 use super::workers::{gave_both, list_of, one_stream, try_open, two_packets};
 use engine_run::{NoObserver, RunDevices, RunObserver, run_engine};
@@ -338,7 +338,7 @@ fn run_observed<R: Wait + Abort, F: Feed, C: Clock, T: RunObserver<F>, G: GainSo
     alloc: Global,
     feeds: [F; 2],
     clock: C,
-    tap: T,
+    observer: T,
     gains: G,
 ) -> (WorkReport, MemorySink, T, G) {
     let studio = one_stream(alloc).expect(rt, "a studio");
@@ -347,8 +347,8 @@ fn run_observed<R: Wait + Abort, F: Feed, C: Clock, T: RunObserver<F>, G: GainSo
         feeds,
         clock,
         sink: MemorySink::new(alloc),
-        observer: tap,
-        wait: NoRest,
+        observer: observer,
+        wait: NoPause,
         gains,
     };
     let Ok(done) = run_engine(rt, alloc, &studio, devices) else {
@@ -416,18 +416,21 @@ fn one_thread_takes_a_change_between_two_blocks(rt: HostRuntime) {
     let feeds = [FaultyFeed::new(0, 1, &packets), FaultyFeed::new(3, 1, &[])];
     let source = PlannedMoves::new(&rt, rt.alloc(), &SECOND_BLOCK);
     let clock = MemoryClock::new(&[0, 0, 12]);
-    let tap = OrderOfCalls::new(&rt, rt.alloc());
-    let done = run_observed(&rt, rt.alloc(), feeds, clock, tap, source);
-    let (report, sink, tap, source) = done;
+    let observer = OrderOfCalls::new(&rt, rt.alloc());
+    let done = run_observed(&rt, rt.alloc(), feeds, clock, observer, source);
+    let (report, sink, observer, source) = done;
     sent_both(&rt, &report, &sink, &source, [&DOUBLED, &TRIPLED]);
     assert!(&rt;
-        tap.calls.as_slice() == b"ggddgc".as_slice(),
+        observer.calls.as_slice() == b"ggddgc".as_slice(),
         "two changes, both packets, and a change"
     );
-    assert!(&rt; tap.noted.len() == 3);
-    assert!(&rt; tap.noted[2].0 == 6, "the third is for the second block");
+    assert!(&rt; observer.noted.len() == 3);
     assert!(&rt;
-        tap.noted[2].1.as_slice() == [196_608i32].as_slice(),
+        observer.noted[2].0 == 6,
+        "the third is for the second block"
+    );
+    assert!(&rt;
+        observer.noted[2].1.as_slice() == [196_608i32].as_slice(),
         "gain 3"
     );
 }

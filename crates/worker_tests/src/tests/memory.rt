@@ -2,7 +2,7 @@
 //!
 //! The tests of this file pass for every N: the call that meets it says so, and the next succeeds.
 
-use super::fakes::NoRest;
+use super::fakes::NoPause;
 use super::workers::{one_stream, try_run};
 use engine_run::{NoObserver, RunDevices, run_engine};
 use engine_tests::small_packets::both_packets;
@@ -83,7 +83,7 @@ fn is_run_alone<R: Wait + Abort>(
         clock: MemoryClock::new(&[0]),
         sink: MemorySink::new(alloc),
         observer: NoObserver,
-        wait: NoRest,
+        wait: NoPause,
         gains: NoGains,
     };
     match run_engine(rt, alloc, studio, devices) {

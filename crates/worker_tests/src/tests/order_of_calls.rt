@@ -40,9 +40,9 @@ impl<'a, R: Abort> OrderOfCalls<'a, R> {
 }
 
 impl<'a, F, R: Abort> RunObserver<F> for OrderOfCalls<'a, R> {
-    ghost heard = { λ tap. None };
+    ghost heard = { λ observer. None };
 
-    ghost noted = { λ tap. Some (map (λ change. (change.0, change.1.items)) tap.noted.items) };
+    ghost noted = { λ observer. Some (map (λ change. (change.0, change.1.items)) observer.noted.items) };
 
     fn arrived(
         &mut self,
@@ -50,7 +50,7 @@ impl<'a, F, R: Abort> RunObserver<F> for OrderOfCalls<'a, R> {
         _stream: usize,
         _path: Path,
         _octets: &[u8],
-        _receipt: ArriveOutcome,
+        _outcome: ArriveOutcome,
         _feed: &F,
     ) {
         self.keep_letter(b'd');

@@ -424,7 +424,7 @@ fn finish_in_turn(rt: &impl Abort, ends: OneStream) {
     assert!(rt; mix.settled());
 }
 
-/// Rings of one place: full, stopped because there is no room, caught up, and a reading that goes back. Then the paths
+/// Rings of one place: full, stopped because there is no space, caught up, and a reading that goes back. Then the paths
 /// finish one after the other, the stream closes and drains, and the mixer is settled.
 #[test]
 fn rings_of_one_place_lose_nothing_to_the_end(rt: HostRuntime) {

@@ -8,7 +8,7 @@ use studio_ends::{Ends, MixEnd, Offer, StatsReceivers, open_with_stats};
 /// A step with the ends of one stream on two paths, and the statistics that its receivers have to have then.
 #[derive(Clone, Copy)]
 enum Step {
-    /// A path is offered a packet, which finds room.
+    /// A path is offered a packet, which finds space.
     Send(usize, &'static [u8; 30]),
     /// A path's receiver has its datagrams offered and sent, or nothing.
     Path(usize, Option<(u64, u64)>),

@@ -1,4 +1,4 @@
-//! A clock, a feed, a sink and a rest that share a time, which moves on only by the rests.
+//! A clock, a feed, a sink and a pause that share a time, which moves on only by the pauses.
 ghost use Rattle.std.specs.Prelude.{[], None};
 
 use engine_run::IdleWait;
@@ -21,7 +21,7 @@ impl Clock for TimedClock<'_> {
     }
 }
 
-/// Rests as long as it may, after which the last clock reading is too old.
+/// Pauses as long as it may, after which the last clock reading is too old.
 #[derive(Drop)]
 pub(super) struct WholeRest<'a> {
     pub(super) time: &'a AtomicI64,

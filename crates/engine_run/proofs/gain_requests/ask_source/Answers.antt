@@ -6,16 +6,16 @@ use Rattle.engine_run.proofs.gain_requests.ask_source.Goals as goal
 
 pub loop-init : goal.loop-init
 loop-init g c = record {
-  room = c.requires.room;
+  space = c.requires.space;
   stands = λ studio events datagrams s. taken-none studio _ events datagrams _ s;
   time = refl;
-  heard = adds_none (g.T.RunObserver.heard c.args.tap.now);
-  noted = noted_none (g.G.GainSource.taken c.args.source.now) (g.T.RunObserver.noted c.args.tap.now);
+  heard = adds_none (g.T.RunObserver.heard c.args.observer.now);
+  noted = noted_none (g.G.GainSource.taken c.args.source.now) (g.T.RunObserver.noted c.args.observer.now);
 }
 
 pub loop-preserved : goal.loop-preserved
 loop-preserved g c = record {
-  room = c.ask_once.auto.room ∙ c.loop.invariant.room;
+  space = c.ask_once.auto.buffer ∙ c.loop.invariant.space;
   stands = λ studio events datagrams s.
       let first = c.loop.invariant.stands studio events datagrams s in
       taken-more studio c.loop.engine _ events datagrams _ _ _ first (c.ask_once.ensures.stands (with_changes studio first.changes) events datagrams first.stands);

@@ -5,7 +5,7 @@ use Rattle.engine_run.proofs.intake.take_all.Goals as goal
 
 pub loop-stream-init : goal.loop-stream-init
 loop-stream-init g c = record {
-  room = c.requires.room;
+  space = c.requires.space;
   takes = λ studio events datagrams s. all-none g.F.Feed.told studio _ events datagrams _ _ s;
   noted = refl;
 }
@@ -17,7 +17,7 @@ loop-stream-preserved g c =
     let long = c.loop-stream.auto.streams in
     let within : i < length streams = omega (arith, c.loop-stream-test.true, long) in
     record {
-      room = c.take_own.auto.buf ∙ c.loop-stream.invariant.room;
+      space = c.take_own.auto.buf ∙ c.loop-stream.invariant.space;
       takes = λ studio events datagrams s.
           let before = c.loop-stream.invariant.takes studio events datagrams s in
           all-more g.F.Feed.told studio c.loop-stream.engine _ events datagrams i c.args.streams.now streams c.index-streams-stream.result c.take_own.new.own _ _ _ before within
@@ -29,4 +29,4 @@ pub returns-clause-takes : goal.returns-clause-takes
 returns-clause-takes g c = λ studio events datagrams s.
     let end = c.loop-stream.auto.stream-end in
     let all : c.loop-stream.stream ≡ length c.args.streams.now = omega (arith, c.loop-stream-test.false, end) in
-    subst (λ n. TakesAll g.F.Feed.told studio c.loop-stream.engine events datagrams c.args.streams.now c.loop-stream.streams (g.T.RunObserver.heard c.args.tap.now) (g.T.RunObserver.heard c.loop-stream.tap) n) all (c.loop-stream.invariant.takes studio events datagrams s)
+    subst (λ n. TakesAll g.F.Feed.told studio c.loop-stream.engine events datagrams c.args.streams.now c.loop-stream.streams (g.T.RunObserver.heard c.args.observer.now) (g.T.RunObserver.heard c.loop-stream.observer) n) all (c.loop-stream.invariant.takes studio events datagrams s)

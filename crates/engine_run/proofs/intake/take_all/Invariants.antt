@@ -8,8 +8,8 @@ use Rattle.engine_run.proofs.intake.take_all.Given as goal
 -- the datagrams of the streams so far were taken
 abbrev pub invariant-loop-stream : goal.invariant-loop-stream
 invariant-loop-stream g l = record {
-  room : length l.buf ≡ 2048;
+  space : length l.buf ≡ 2048;
   takes : (studio : Studio) (events : List TraceEvent) (datagrams : List (List ℕ)) → HasSession studio l.fn.engine events datagrams
-      → TakesAll g.F.Feed.told studio l.engine events datagrams l.fn.streams l.streams (g.T.RunObserver.heard l.fn.tap) (g.T.RunObserver.heard l.tap) l.stream;
-  noted : g.T.RunObserver.noted l.tap ≡ g.T.RunObserver.noted l.fn.tap;
+      → TakesAll g.F.Feed.told studio l.engine events datagrams l.fn.streams l.streams (g.T.RunObserver.heard l.fn.observer) (g.T.RunObserver.heard l.observer) l.stream;
+  noted : g.T.RunObserver.noted l.observer ≡ g.T.RunObserver.noted l.fn.observer;
 }

@@ -10,35 +10,35 @@ use Rattle.engine_run.proofs.intake.take_one.Goals as goal
 pub returns-then-reader-clause-takes : goal.returns-then-reader-clause-takes
 returns-then-reader-clause-takes g c = λ studio events datagrams s. takes-none g.F.Feed.told studio _ events datagrams _ _ _ _ _ 1 s (goes-nowhere g.F.Feed.told c.args.reader.now) (asks-ended g.F.Feed.told 1 c.args.reader.now c.if-reader.true)
 
-pub returns-in_ok-receipt-in-Datagram-clause-takes : goal.returns-in_ok-receipt-in-Datagram-clause-takes
-returns-in_ok-receipt-in-Datagram-clause-takes g c = λ studio events datagrams s.
-    let stands = c.in_ok-receipt-in-Datagram.ensures.stands studio events datagrams s in (
+pub returns-in_ok-outcome-in-Datagram-clause-takes : goal.returns-in_ok-outcome-in-Datagram-clause-takes
+returns-in_ok-outcome-in-Datagram-clause-takes g c = λ studio events datagrams s.
+    let stands = c.in_ok-outcome-in-Datagram.ensures.stands studio events datagrams s in (
       record {
         given = take c.in-Datagram.count c.next-answer.new.buf ∷ [];
         few = omega arith;
         stands = stands;
-        heard = hears_one studio.open_at events (g.T.RunObserver.heard c.args.tap.now) (g.T.RunObserver.heard c.arrived.new.self) c.args.stream c.args.path c.arrive.new.self.time (take c.in-Datagram.count c.next-answer.new.buf)
+        heard = hears_one studio.open_at events (g.T.RunObserver.heard c.args.observer.now) (g.T.RunObserver.heard c.arrived.new.self) c.args.stream c.args.path c.arrive.new.self.time (take c.in-Datagram.count c.next-answer.new.buf)
             stands.time c.arrived.ensures.heard;
-        goes_on = goes-answer g.F.Feed.told c.args.reader.now (record { feed = c.next-answer.new.self; state = c.note.new.self }) c.next-answer.new.buf _ (Datagram c.in-Datagram.count) c.in-Datagram.is c.if-reader.false c.note.ensures.noted (c.next-answer.ensures.tells c.requires.room);
-        asks = asks-answer g.F.Feed.told c.args.reader.now (record { feed = c.next-answer.new.self; state = c.note.new.self }) c.next-answer.new.buf _ (Datagram c.in-Datagram.count) c.in-Datagram.is c.if-reader.false c.note.ensures.noted (c.next-answer.ensures.tells c.requires.room);
+        goes_on = goes-answer g.F.Feed.told c.args.reader.now (record { feed = c.next-answer.new.self; state = c.note.new.self }) c.next-answer.new.buf _ (Datagram c.in-Datagram.count) c.in-Datagram.is c.if-reader.false c.note.ensures.noted (c.next-answer.ensures.tells c.requires.space);
+        asks = asks-answer g.F.Feed.told c.args.reader.now (record { feed = c.next-answer.new.self; state = c.note.new.self }) c.next-answer.new.buf _ (Datagram c.in-Datagram.count) c.in-Datagram.is c.if-reader.false c.note.ensures.noted (c.next-answer.ensures.tells c.requires.space);
       },
       refl,
     )
 
 pub returns-in-Nothing-clause-takes : goal.returns-in-Nothing-clause-takes
 returns-in-Nothing-clause-takes g c = λ studio events datagrams s. takes-none g.F.Feed.told studio _ events datagrams _ _ _ _ _ 1 s
-    (goes-answer g.F.Feed.told c.args.reader.now (record { feed = c.next-answer.new.self; state = c.note.new.self }) c.next-answer.new.buf _ Nothing c.in-Nothing.is c.if-reader.false c.note.ensures.noted (c.next-answer.ensures.tells c.requires.room))
-    (asks-answer g.F.Feed.told c.args.reader.now (record { feed = c.next-answer.new.self; state = c.note.new.self }) c.next-answer.new.buf _ Nothing c.in-Nothing.is c.if-reader.false c.note.ensures.noted (c.next-answer.ensures.tells c.requires.room))
+    (goes-answer g.F.Feed.told c.args.reader.now (record { feed = c.next-answer.new.self; state = c.note.new.self }) c.next-answer.new.buf _ Nothing c.in-Nothing.is c.if-reader.false c.note.ensures.noted (c.next-answer.ensures.tells c.requires.space))
+    (asks-answer g.F.Feed.told c.args.reader.now (record { feed = c.next-answer.new.self; state = c.note.new.self }) c.next-answer.new.buf _ Nothing c.in-Nothing.is c.if-reader.false c.note.ensures.noted (c.next-answer.ensures.tells c.requires.space))
 
 pub returns-in-Fault-clause-takes : goal.returns-in-Fault-clause-takes
 returns-in-Fault-clause-takes g c = λ studio events datagrams s. takes-none g.F.Feed.told studio _ events datagrams _ _ _ _ _ 1 s
-    (goes-answer g.F.Feed.told c.args.reader.now (record { feed = c.next-answer.new.self; state = c.note.new.self }) c.next-answer.new.buf _ Fault c.in-Fault.is c.if-reader.false c.note.ensures.noted (c.next-answer.ensures.tells c.requires.room))
-    (asks-answer g.F.Feed.told c.args.reader.now (record { feed = c.next-answer.new.self; state = c.note.new.self }) c.next-answer.new.buf _ Fault c.in-Fault.is c.if-reader.false c.note.ensures.noted (c.next-answer.ensures.tells c.requires.room))
+    (goes-answer g.F.Feed.told c.args.reader.now (record { feed = c.next-answer.new.self; state = c.note.new.self }) c.next-answer.new.buf _ Fault c.in-Fault.is c.if-reader.false c.note.ensures.noted (c.next-answer.ensures.tells c.requires.space))
+    (asks-answer g.F.Feed.told c.args.reader.now (record { feed = c.next-answer.new.self; state = c.note.new.self }) c.next-answer.new.buf _ Fault c.in-Fault.is c.if-reader.false c.note.ensures.noted (c.next-answer.ensures.tells c.requires.space))
 
 pub returns-in-Ended-clause-takes : goal.returns-in-Ended-clause-takes
 returns-in-Ended-clause-takes g c = λ studio events datagrams s. takes-none g.F.Feed.told studio _ events datagrams _ _ _ _ _ 1 s
-    (goes-answer g.F.Feed.told c.args.reader.now (record { feed = c.next-answer.new.self; state = c.note.new.self }) c.next-answer.new.buf _ Ended c.in-Ended.is c.if-reader.false c.note.ensures.noted (c.next-answer.ensures.tells c.requires.room))
-    (asks-answer g.F.Feed.told c.args.reader.now (record { feed = c.next-answer.new.self; state = c.note.new.self }) c.next-answer.new.buf _ Ended c.in-Ended.is c.if-reader.false c.note.ensures.noted (c.next-answer.ensures.tells c.requires.room))
+    (goes-answer g.F.Feed.told c.args.reader.now (record { feed = c.next-answer.new.self; state = c.note.new.self }) c.next-answer.new.buf _ Ended c.in-Ended.is c.if-reader.false c.note.ensures.noted (c.next-answer.ensures.tells c.requires.space))
+    (asks-answer g.F.Feed.told c.args.reader.now (record { feed = c.next-answer.new.self; state = c.note.new.self }) c.next-answer.new.buf _ Ended c.in-Ended.is c.if-reader.false c.note.ensures.noted (c.next-answer.ensures.tells c.requires.space))
 
 pub slice_bounds-arrived-end-in-Datagram : goal.slice_bounds-arrived-end-in-Datagram
 slice_bounds-arrived-end-in-Datagram c = grind (arith, elements)

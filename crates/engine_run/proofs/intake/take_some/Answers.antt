@@ -7,7 +7,7 @@ use Rattle.engine_run.proofs.intake.take_some.Goals as goal
 
 pub loop-init : goal.loop-init
 loop-init g c = record {
-  room = c.requires.room;
+  space = c.requires.space;
   takes = λ studio events datagrams s.
       let none = takes-none g.F.Feed.told studio _ events datagrams _ _ _ _ _ 0 s (goes-nowhere g.F.Feed.told c.args.reader.now) (asks-none g.F.Feed.told c.args.reader.now) in
       (none.0, ap length none.1);
@@ -32,7 +32,7 @@ returns-in-Nothing-clause-takes g c = λ studio events datagrams s.
 
 pub loop-preserved : goal.loop-preserved
 loop-preserved g c = record {
-  room = c.take_one.auto.buf ∙ c.loop.invariant.room;
+  space = c.take_one.auto.buf ∙ c.loop.invariant.space;
   takes = λ studio events datagrams s.
       let before = c.loop.invariant.takes studio events datagrams s in
       let one = c.in_ok-outcome.ensures.takes studio _ datagrams before.0.stands in
@@ -45,4 +45,4 @@ pub returns-clause-takes : goal.returns-clause-takes
 returns-clause-takes g c = λ studio events datagrams s.
     let until = c.loop.auto.counter-end in
     let all : c.loop.counter ≡ 64 = omega (arith, c.loop-test.false, until) in
-    subst (λ n. Takes g.F.Feed.told studio c.loop.engine events datagrams c.args.stream c.args.path c.args.reader.now c.loop.reader (g.T.RunObserver.heard c.args.tap.now) (g.T.RunObserver.heard c.loop.tap) n) all (c.loop.invariant.takes studio events datagrams s).0
+    subst (λ n. Takes g.F.Feed.told studio c.loop.engine events datagrams c.args.stream c.args.path c.args.reader.now c.loop.reader (g.T.RunObserver.heard c.args.observer.now) (g.T.RunObserver.heard c.loop.observer) n) all (c.loop.invariant.takes studio events datagrams s).0

@@ -6,7 +6,7 @@ use Rattle.engine_run.proofs.intake.take_stream.Goals as goal
 
 pub loop-number-init : goal.loop-number-init
 loop-number-init g c = record {
-  room = c.requires.room;
+  space = c.requires.space;
   takes = λ studio events datagrams s. stream-none g.F.Feed.told studio _ events datagrams _ _ _ s;
   noted = refl;
 }
@@ -19,11 +19,11 @@ loop-number-preserved g c =
     let within : i < length readers = omega (arith, c.loop-number-test.true, long) in
     let item = c.index-readers-number.result in
     record {
-      room = c.take_some.auto.buf ∙ c.loop-number.invariant.room;
+      space = c.take_some.auto.buf ∙ c.loop-number.invariant.space;
       takes = λ studio events datagrams s.
           let before = c.loop-number.invariant.takes studio events datagrams s in
           stream-more g.F.Feed.told studio c.loop-number.engine _ events datagrams c.args.stream i c.args.readers.now readers item c.take_some.new.reader _ _ _ before within
-          (subst (λ p. Takes g.F.Feed.told studio c.take_some.new.engine (events ++ before.arrivals) datagrams c.args.stream p (get_or readers i item) c.take_some.new.reader (g.T.RunObserver.heard c.loop-number.tap) (g.T.RunObserver.heard c.take_some.new.tap) 64) c.in_ok-path.ensures
+          (subst (λ p. Takes g.F.Feed.told studio c.take_some.new.engine (events ++ before.arrivals) datagrams c.args.stream p (get_or readers i item) c.take_some.new.reader (g.T.RunObserver.heard c.loop-number.observer) (g.T.RunObserver.heard c.take_some.new.observer) 64) c.in_ok-path.ensures
           (c.in_ok-take_some.ensures.takes studio _ datagrams before.stands));
       noted = c.take_some.ensures.noted ∙ c.loop-number.invariant.noted;
     }
@@ -32,7 +32,7 @@ pub returns-clause-takes : goal.returns-clause-takes
 returns-clause-takes g c = λ studio events datagrams s.
     let end = c.loop-number.auto.number-end in
     let all : c.loop-number.number ≡ length c.args.readers.now = omega (arith, c.loop-number-test.false, end) in
-    subst (λ n. TakesStream g.F.Feed.told studio c.loop-number.engine events datagrams c.args.stream c.args.readers.now c.loop-number.readers (g.T.RunObserver.heard c.args.tap.now) (g.T.RunObserver.heard c.loop-number.tap) n) all (c.loop-number.invariant.takes studio events datagrams s)
+    subst (λ n. TakesStream g.F.Feed.told studio c.loop-number.engine events datagrams c.args.stream c.args.readers.now c.loop-number.readers (g.T.RunObserver.heard c.args.observer.now) (g.T.RunObserver.heard c.loop-number.observer) n) all (c.loop-number.invariant.takes studio events datagrams s)
 
 pub offset_bounds-readers-number : goal.offset_bounds-readers-number
 offset_bounds-readers-number c = grind (arith, common_steps)

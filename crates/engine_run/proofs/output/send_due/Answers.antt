@@ -11,7 +11,7 @@ use Rattle.engine_run.proofs.output.send_due.Goals as goal
 pub loop-len-init : goal.loop-len-init
 loop-len-init g c = record {
   time = inl refl;
-  room = refl;
+  space = refl;
   short = subst (λ n. n ≤ 1452) (c.datagram_len-short.ensures.value ∙ ap datagram_length c.output.ensures) c.datagram_len-short.ensures.short;
   sent = λ studio events datagrams s.
       let handed = g.K.Sink.handed c.args.sink.now in
@@ -30,12 +30,12 @@ loop-len-preserved g c =
     let same : length c.turn.new.out ≡ length c.loop-len.out = c.turn.auto.out in
     let len : c.in-Some.len ≡ datagram_length c.loop-len.engine.mixer.packer.spec = rw c.in-Some.is at c.in_ok-len.ensures.len in
     let short = inv.short in
-    let long = inv.room in
+    let long = inv.space in
     let within : c.in-Some.len ≤ length c.loop-len.out = omega (arith, len, short, long) in
     let gives = rw c.in-Some.is at c.in_ok-len.ensures.some in
     record {
       time = time_twice now first mid last inv.time c.in_ok-len.ensures.time;
-      room = same ∙ inv.room;
+      space = same ∙ inv.space;
       short = subst (λ n. n ≤ 1452) (ap datagram_length (sym c.turn.ensures.output)) inv.short;
       sent = λ studio events datagrams s.
           let before = inv.sent studio events datagrams s in

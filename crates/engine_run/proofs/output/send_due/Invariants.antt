@@ -11,7 +11,7 @@ use Rattle.engine_run.proofs.output.send_due.Given as goal
 abbrev pub invariant-loop-len : goal.invariant-loop-len
 invariant-loop-len g l = record {
   time : (l.engine.time ≡ l.fn.engine.time) ⊎ (l.engine.time ≡ l.now);
-  room : length l.out ≡ 1452;
+  space : length l.out ≡ 1452;
   short : datagram_length l.engine.mixer.packer.spec ≤ 1452;
   sent : (studio : Studio) (events : List TraceEvent) (datagrams : List (List ℕ)) → HasSession studio l.fn.engine events datagrams
       → HasSent studio l.engine (turned l.fn.engine.time l.engine.time events) datagrams (g.K.Sink.handed l.fn.sink) (g.K.Sink.handed l.sink) l.fn.counts.blocks l.counts.blocks;

@@ -7,7 +7,7 @@ use Rattle.engine_run.proofs.output.send_rest.Goals as goal
 pub loop-len-init : goal.loop-len-init
 loop-len-init g c = record {
   closed = refl;
-  room = refl;
+  space = refl;
   short = subst (λ n. n ≤ 1452) (c.datagram_len-short.ensures.value ∙ ap datagram_length c.output.ensures) c.datagram_len-short.ensures.short;
   sent = λ studio events datagrams s. sent_none studio c.args.engine.now events datagrams (g.K.Sink.handed c.args.sink.now) c.args.counts.now.blocks s;
 }
@@ -18,12 +18,12 @@ loop-len-preserved g c =
     let same : length c.drain.new.out ≡ length c.loop-len.out = c.drain.auto.out in
     let len : c.in-Some.len ≡ datagram_length c.loop-len.engine.mixer.packer.spec = rw c.in-Some.is at c.drain.ensures.len in
     let short = inv.short in
-    let long = inv.room in
+    let long = inv.space in
     let within : c.in-Some.len ≤ length c.loop-len.out = omega (arith, len, short, long) in
     let gives = rw c.in-Some.is at c.drain.ensures.some in
     record {
       closed = c.drain.ensures.closed ∙ inv.closed;
-      room = same ∙ inv.room;
+      space = same ∙ inv.space;
       short = subst (λ n. n ≤ 1452) (ap datagram_length (sym c.drain.ensures.output)) inv.short;
       sent = λ studio events datagrams s.
           let before = inv.sent studio events datagrams s in

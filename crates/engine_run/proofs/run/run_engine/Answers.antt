@@ -39,7 +39,7 @@ returns-clause-settled g c whole =
       changes = rounds.changes;
       taken = rounds.taken;
       run = run-settled told times handed heard changed all clock before earlier flat c.settle.new.state c.in_ok-report.report (handed c.in_ok-report.sink) (heard c.in_ok-report.observer) done refl
-          (made.counts changed (events_of changed done.rounds) done.datagrams done.stands done.whole c.streams-specs.ensures.value) made.blocks (ap handed made.sink) (ap heard made.tap);
+          (made.counts changed (events_of changed done.rounds) done.datagrams done.stands done.whole c.streams-specs.ensures.value) made.blocks (ap handed made.sink) (ap heard made.observer);
     }
 
 pub returns-clause-feeds : goal.returns-clause-feeds
@@ -50,4 +50,4 @@ returns-clause-feeds g c whole =
     ]
 
 pub returns-clause-noted : goal.returns-clause-noted
-returns-clause-noted g c = noted_same _ _ _ _ _ c.run_rounds-ended.ensures.noted (ap g.T.RunObserver.noted c.in_ok-report.ensures.tap ∙ c.settle.ensures.noted)
+returns-clause-noted g c = noted_same _ _ _ _ _ c.run_rounds-ended.ensures.noted (ap g.T.RunObserver.noted c.in_ok-report.ensures.observer ∙ c.settle.ensures.noted)

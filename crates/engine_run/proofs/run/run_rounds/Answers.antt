@@ -6,10 +6,10 @@ use Rattle.engine_run.proofs.run.run_rounds.Goals as goal
 
 pub loop-init : goal.loop-init
 loop-init g c = record {
-  room = refl;
+  space = refl;
   gains = refl;
   on = λ studio all clock before earlier h. run-as-it-was g.F.Feed.told g.C.Clock.told g.K.Sink.handed g.T.RunObserver.heard studio all clock before earlier _ _ h;
-  noted = noted_none (g.G.GainSource.taken c.args.gains.now) (g.T.RunObserver.noted c.args.state.now.tap);
+  noted = noted_none (g.G.GainSource.taken c.args.gains.now) (g.T.RunObserver.noted c.args.state.now.observer);
 }
 
 pub returns-in-Ok-None-clause-on : goal.returns-in-Ok-None-clause-on
@@ -23,8 +23,8 @@ returns-in-Ok-None-clause-ended g c = λ e. c.in-Ok-None.ensures.ended c.in-Ok-N
 
 pub loop-preserved : goal.loop-preserved
 loop-preserved g c = record {
-  room = c.round.auto.buf ∙ c.loop.invariant.room;
-  gains = c.round.auto.room ∙ c.loop.invariant.gains;
+  space = c.round.auto.buf ∙ c.loop.invariant.space;
+  gains = c.round.auto.buffer ∙ c.loop.invariant.gains;
   on = λ studio all clock before earlier h.
       let first = c.loop.invariant.on studio all clock before earlier h in
       run-took-more g.F.Feed.told g.C.Clock.told g.K.Sink.handed g.T.RunObserver.heard studio all clock before earlier _ _ _ _ _ first

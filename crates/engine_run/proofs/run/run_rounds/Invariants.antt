@@ -8,10 +8,10 @@ use Rattle.engine_run.proofs.run.run_rounds.Given as goal
 -- the run goes on, with the changes that were taken
 abbrev pub invariant-loop : goal.invariant-loop
 invariant-loop g l = record {
-  room : length l.buf ≡ 2048;
-  gains : length l.room ≡ 8192;
+  space : length l.buf ≡ 2048;
+  gains : length l.buffer ≡ 8192;
   on : (studio : Studio) (all : List (List (List Answer))) (clock : List ℤ) (before : Option (List (List ℕ))) (earlier : Option (List Heard))
       → IsUnderWay g.F.Feed.told g.C.Clock.told g.K.Sink.handed g.T.RunObserver.heard studio all clock before earlier l.initial.state
       → IsUnderWayWith g.F.Feed.told g.C.Clock.told g.K.Sink.handed g.T.RunObserver.heard studio all clock before earlier l.state (g.G.GainSource.taken l.initial.gains) (g.G.GainSource.taken l.gains);
-  noted : HasNotedTaken (g.G.GainSource.taken l.initial.gains) (g.G.GainSource.taken l.gains) (g.T.RunObserver.noted l.initial.state.tap) (g.T.RunObserver.noted l.state.tap);
+  noted : HasNotedTaken (g.G.GainSource.taken l.initial.gains) (g.G.GainSource.taken l.gains) (g.T.RunObserver.noted l.initial.state.observer) (g.T.RunObserver.noted l.state.observer);
 }

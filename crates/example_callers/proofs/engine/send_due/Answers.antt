@@ -13,7 +13,7 @@ loop-len-init g c = record {
   closed = refl;
   first = inl (refl, refl);
   output = refl;
-  room = refl;
+  space = refl;
   sent = λ studio events datagrams s.
       subst (λ l. HasSent studio c.args.engine.now l datagrams (g.K.Sink.handed c.args.sink.now) (g.K.Sink.handed c.args.sink.now)) (turned_same c.args.engine.now.time c.args.engine.now.time events refl)
       (sent_none studio c.args.engine.now events datagrams (g.K.Sink.handed c.args.sink.now) s);
@@ -29,16 +29,16 @@ loop-len-preserved g c =
     let same : length c.turn.new.out ≡ length c.loop-len.out = c.turn.auto.out in
     let len : c.in-Some.len ≡ datagram_length c.loop-len.engine.mixer.packer.spec = rw c.in-Some.is at c.in_ok-len.ensures.len in
     let is : c.in-Some.len ≡ datagram_length c.args.engine.now.mixer.packer.spec = len ∙ ap datagram_length inv.output in
-    let room = c.requires.room in
-    let long = inv.room in
-    let within : c.in-Some.len ≤ length c.loop-len.out = omega (arith, is, room, long) in
+    let space = c.requires.space in
+    let long = inv.space in
+    let within : c.in-Some.len ≤ length c.loop-len.out = omega (arith, is, space, long) in
     let gives = rw c.in-Some.is at c.in_ok-len.ensures.some in
     record {
       time = time_twice now first mid last inv.time c.in_ok-len.ensures.time;
       closed = c.turn.ensures.closed ∙ inv.closed;
       first = inr (fine_first now c.args.engine.now c.loop-len.engine (c.loop-len.sink ≡ c.args.sink.now) inv.first c.in_ok-len.ensures.fine);
       output = c.turn.ensures.output ∙ inv.output;
-      room = same ∙ inv.room;
+      space = same ∙ inv.space;
       sent = λ studio events datagrams s.
           let before = inv.sent studio events datagrams s in
           sent_more studio c.loop-len.engine c.turn.new.self (turned first mid events) (turned first last events) datagrams

@@ -14,7 +14,7 @@ invariant-loop-len g l = record {
   closed : l.engine.closed ≡ l.fn.engine.closed;
   first : ((l.engine ≡ l.fn.engine) × (l.sink ≡ l.fn.sink)) ⊎ (clock_fault_of l.fn.engine.time l.fn.engine.closed l.now ≡ None);
   output : l.engine.mixer.packer.spec ≡ l.fn.engine.mixer.packer.spec;
-  room : length l.out ≡ length l.fn.out;
+  space : length l.out ≡ length l.fn.out;
   sent : (studio : Studio) (events : List TraceEvent) (datagrams : List (List ℕ)) → HasSession studio l.fn.engine events datagrams
       → HasSent studio l.engine (turned l.fn.engine.time l.engine.time events) datagrams (g.K.Sink.handed l.fn.sink) (g.K.Sink.handed l.sink);
 }

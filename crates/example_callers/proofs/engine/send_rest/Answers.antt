@@ -7,7 +7,7 @@ pub loop-len-init : goal.loop-len-init
 loop-len-init g c = record {
   closed = refl;
   output = refl;
-  room = refl;
+  space = refl;
   sent = λ studio events datagrams s. sent_none studio c.args.engine.now events datagrams (g.K.Sink.handed c.args.sink.now) s;
 }
 
@@ -17,14 +17,14 @@ loop-len-preserved g c =
     let same : length c.drain.new.out ≡ length c.loop-len.out = c.drain.auto.out in
     let len : c.in-Some.len ≡ datagram_length c.loop-len.engine.mixer.packer.spec = rw c.in-Some.is at c.drain.ensures.len in
     let is : c.in-Some.len ≡ datagram_length c.args.engine.now.mixer.packer.spec = len ∙ ap datagram_length inv.output in
-    let room = c.requires.room in
-    let long = inv.room in
-    let within : c.in-Some.len ≤ length c.loop-len.out = omega (arith, is, room, long) in
+    let space = c.requires.space in
+    let long = inv.space in
+    let within : c.in-Some.len ≤ length c.loop-len.out = omega (arith, is, space, long) in
     let gives = rw c.in-Some.is at c.drain.ensures.some in
     record {
       closed = c.drain.ensures.closed ∙ inv.closed;
       output = c.drain.ensures.output ∙ inv.output;
-      room = same ∙ inv.room;
+      space = same ∙ inv.space;
       sent = λ studio events datagrams s.
           let before = inv.sent studio events datagrams s in
           sent_more studio c.loop-len.engine c.drain.new.self events events datagrams

@@ -11,7 +11,7 @@ abbrev pub invariant-loop-len : goal.invariant-loop-len
 invariant-loop-len g l = record {
   closed : l.engine.closed ≡ l.fn.engine.closed;
   output : l.engine.mixer.packer.spec ≡ l.fn.engine.mixer.packer.spec;
-  room : length l.out ≡ length l.fn.out;
+  space : length l.out ≡ length l.fn.out;
   sent : (studio : Studio) (events : List TraceEvent) (datagrams : List (List ℕ)) → HasSession studio l.fn.engine events datagrams
       → HasSent studio l.engine events datagrams (g.K.Sink.handed l.fn.sink) (g.K.Sink.handed l.sink);
 }

@@ -11,9 +11,9 @@ returns-in-None-clause-samples c =
     let n = c.args.format.frames * c.args.format.channels in
     let count : c.from.result * c.from-in-None.result ≡ n = ap (λ x. x * c.from-in-None.result) c.from.ensures ∙ ap (λ x. c.args.format.frames * x) c.from-in-None.ensures in
     let within = c.requires.count in
-    let long = c.told-room in
-    let part : length (take (c.from.result * c.from-in-None.result) c.args.room.now) ≡ n = length-take (c.from.result * c.from-in-None.result) c.args.room.now ∙ omega arith in
-    silence_at_front n (length (take (c.from.result * c.from-in-None.result) c.args.room.now)) c.fill.new.self _ part (c.fill.ensures.after (λ y e. e))
+    let long = c.told-buffer in
+    let part : length (take (c.from.result * c.from-in-None.result) c.args.buffer.now) ≡ n = length-take (c.from.result * c.from-in-None.result) c.args.buffer.now ∙ omega arith in
+    silence_at_front n (length (take (c.from.result * c.from-in-None.result) c.args.buffer.now)) c.fill.new.self _ part (c.fill.ensures.after (λ y e. e))
     ∙ ap (λ p. body_samples c.args.format (body_from (option_copied p))) (sym c.in-None.is)
 
 pub returns-in-Some-clause-samples : goal.returns-in-Some-clause-samples

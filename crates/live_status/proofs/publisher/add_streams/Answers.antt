@@ -14,8 +14,8 @@ loop-status-preserved c = (
       let items = c.loop-status.snapshot.streams.items in
       let begun = c.loop-status.invariant.0 few in
       let at = slice_get_read statuses (length statuses) n one refl c.loop-status-test.true c.status-item.is in
-      let room = (let long = begun.length_is in c.try_push.ensures.variant.1 (omega (arith, long, few))) in
-      let pushed : c.try_push.new.self.items ≡ items ++ c.blank.result ∷ [] = where_ok c.try_push.result room c.try_push.ensures.ok in
+      let space = (let long = begun.length_is in c.try_push.ensures.variant.1 (omega (arith, long, few))) in
+      let pushed : c.try_push.new.self.items ≡ items ++ c.blank.result ∷ [] = where_ok c.try_push.result space c.try_push.ensures.ok in
       subst (λ (l : List StreamState). IsBegun IsBlankOf (n + 1) statuses l) (sym pushed) (begun-push IsBlankOf n statuses items one c.blank.result begun at c.blank.ensures),
   c.loop-status.invariant.1,
 )

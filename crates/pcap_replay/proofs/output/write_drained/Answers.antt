@@ -5,7 +5,7 @@ use Rattle.pcap_replay.proofs.output.write_drained.Goals as goal
 
 pub rounds-init : goal.rounds-init
 rounds-init g c = record {
-  room = refl;
+  space = refl;
   output = refl;
   closed = refl;
   stands = λ studio events datagrams begun s. gives_none studio _ events events datagrams _ _ _ refl s;
@@ -17,10 +17,10 @@ rounds-preserved g c =
     let len : c.in-Some.len ≡ datagram_length c.args.engine.now.mixer.packer.spec = c.in-Some.ensures.len ∙ ap datagram_length inv.output in
     let short = c.requires.short in
     let same : length c.drain.new.out ≡ length c.rounds.out = c.drain.auto.out in
-    let long = same ∙ inv.room in
+    let long = same ∙ inv.space in
     let within : c.in-Some.len ≤ length c.rounds.out = omega (arith, len, short, long, same) in
     record {
-      room = long;
+      space = long;
       output = c.drain.ensures.output ∙ inv.output;
       closed = c.drain.ensures.closed ∙ inv.closed;
       stands = λ studio events datagrams begun s.
@@ -35,7 +35,7 @@ returns-in_err-write_datagram-in-Some-clause-fault g c =
     let len : c.in-Some.len ≡ datagram_length c.args.engine.now.mixer.packer.spec = c.in-Some.ensures.len ∙ ap datagram_length inv.output in
     let short = c.requires.short in
     let same : length c.drain.new.out ≡ length c.rounds.out = c.drain.auto.out in
-    let long = same ∙ inv.room in
+    let long = same ∙ inv.space in
     let within : c.in-Some.len ≤ length c.rounds.out = omega (arith, len, short, long, same) in
     let is : c.from_residual.result ≡ Err c.in_err-write_datagram-in-Some.field-0.0 = search rules in
     rw is (λ studio events datagrams begun s.

@@ -9,7 +9,7 @@ use Rattle.pcap_replay.proofs.output.write_drained.Given as goal
 -- the lines of the datagrams so far were written
 abbrev pub invariant-rounds : goal.invariant-rounds
 invariant-rounds g l = record {
-  room : length l.out ≡ 1452;
+  space : length l.out ≡ 1452;
   output : l.engine.mixer.packer.spec ≡ l.fn.engine.mixer.packer.spec;
   closed : l.engine.closed ≡ l.fn.engine.closed;
   stands : (studio : Studio) (events : List TraceEvent) (datagrams : List (List ℕ)) (begun : g.row.L.Denot) → HasSession studio l.fn.engine events datagrams

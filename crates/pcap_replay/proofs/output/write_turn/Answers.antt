@@ -10,7 +10,7 @@ use Rattle.pcap_replay.proofs.output.write_turn.Goals as goal
 
 pub rounds-init : goal.rounds-init
 rounds-init g c = record {
-  room = refl;
+  space = refl;
   output = refl;
   closed = refl;
   time = inl refl;
@@ -27,10 +27,10 @@ rounds-preserved g c =
     let len : c.in-Some.len ≡ datagram_length c.args.engine.now.mixer.packer.spec = some_is c.in-Ok.given c.in-Some.len _ c.in-Some.is c.in-Ok.ensures.len ∙ ap datagram_length inv.output in
     let short = c.requires.short in
     let same : length c.turn.new.out ≡ length c.rounds.out = c.turn.auto.out in
-    let long = same ∙ inv.room in
+    let long = same ∙ inv.space in
     let within : c.in-Some.len ≤ length c.rounds.out = omega (arith, len, short, long, same) in
     record {
-      room = long;
+      space = long;
       output = c.turn.ensures.output ∙ inv.output;
       closed = c.turn.ensures.closed ∙ inv.closed;
       time = goes_twice first at then now inv.time c.in-Ok.ensures.time;
@@ -51,7 +51,7 @@ returns-in_err-write_datagram-in-Some-clause-fault g c =
     let len : c.in-Some.len ≡ datagram_length c.args.engine.now.mixer.packer.spec = some_is c.in-Ok.given c.in-Some.len _ c.in-Some.is c.in-Ok.ensures.len ∙ ap datagram_length inv.output in
     let short = c.requires.short in
     let same : length c.turn.new.out ≡ length c.rounds.out = c.turn.auto.out in
-    let long = same ∙ inv.room in
+    let long = same ∙ inv.space in
     let within : c.in-Some.len ≤ length c.rounds.out = omega (arith, len, short, long, same) in
     let is : c.from_residual.result ≡ Err c.in_err-write_datagram-in-Some.field-0.0 = search rules in
     rw is (λ studio events datagrams begun s fine.
@@ -81,8 +81,8 @@ returns-in-None-clause-ok g c = λ studio events datagrams begun s fine.
     gives_last studio c.rounds.engine c.turn.new.self _ _ _ datagrams _ _ _ _ _ _
     (turned_twice first at then now events inv.time c.in-Ok.ensures.time ∙ ap (λ t. turned first t events) (there.1 ∙ to_z-of_z w64 c.args.now c.ranges.now)) r ready.stands
 
-pub returns-in-None-clause-rested : goal.returns-in-None-clause-rested
-returns-in-None-clause-rested g c = λ studio events datagrams s fine.
+pub returns-in-None-clause-idle : goal.returns-in-None-clause-idle
+returns-in-None-clause-idle g c = λ studio events datagrams s fine.
     let r = c.rounds.invariant.stands studio events datagrams c.args.observer.now s in
     (c.in-Ok.ensures.there c.in-None.is studio (turned c.args.engine.now.time c.rounds.engine.time events) (datagrams ++ r.more) r.stands).0
 

@@ -9,7 +9,7 @@ use Rattle.pcap_replay.proofs.output.write_turn.Given as goal
 -- the lines of the datagrams so far were written
 abbrev pub invariant-rounds : goal.invariant-rounds
 invariant-rounds g l = record {
-  room : length l.out ≡ 1452;
+  space : length l.out ≡ 1452;
   output : l.engine.mixer.packer.spec ≡ l.fn.engine.mixer.packer.spec;
   closed : l.engine.closed ≡ l.fn.engine.closed;
   time : (l.engine.time ≡ l.fn.engine.time) ⊎ (l.engine.time ≡ l.now);

@@ -5,5 +5,5 @@ use Rattle.rtp_stats.proofs.tally.new_entries.Given as goal
 abbrev pub invariant-loop : goal.invariant-loop
 invariant-loop l = record {
   empty : l.entries.items ≡ replicate l.counter empty_entry;
-  room : l.window ≤ vec_capacity l.entries;
+  space : l.window ≤ vec_capacity l.entries;
 }

@@ -5,5 +5,5 @@ use Rattle.rtp_stats.proofs.tally.new_seconds.Given as goal
 abbrev pub invariant-loop-place : goal.invariant-loop-place
 invariant-loop-place l = record {
   new : AreNewSeconds l.place l.seconds.items;
-  room : 8 ≤ vec_capacity l.seconds;
+  space : 8 ≤ vec_capacity l.seconds;
 }

@@ -4,7 +4,7 @@ use Rattle.std.specs.Prelude.{nat_eq}
 use Rattle.std.proofs.lemmas.Bool.Decides.{nat_tests}
 use Rattle.rtp_stream.specs.PacketRef.{packet_of}
 use Rattle.rtp_stream.specs.Anchor.{media_time_of}
-use Rattle.rtp_stream.specs.Grid.{in_room}
+use Rattle.rtp_stream.specs.Grid.{of_width}
 use Rattle.rtp_stream.proofs.FateLemmas.{place_is, shift_is, shifted}
 use Rattle.rtp_stream.proofs.arrival.place_of.Goals as goal
 
@@ -33,7 +33,7 @@ returns-then-not-is_in_step c =
     let there : to_z w64 (of_z w64 (to_z w64 (of_z w64 c.args.media) +ℤ to_z w64 (of_z w64 (to_z w64 (of_z w64 (to_z w64 c.number_of-number.result -ℤ to_z w64 c.args.next)) *ℤ to_z w64 (of_z w64 c.from.result))))) ≡ media_time_of c.args.spec.now c.args.anchor.now c.number_of-number.result = omega (arith, ints, shift.is, shift.low, shift.high, c.requires.media_low, c.requires.media_high, c.requires.media_is, shifted c.args.spec.now c.args.anchor.now c.args.next c.number_of-number.result) in
     let grid = c.is_in_step.ensures c.args.spec.now c.number_of-number.result there in
     let source : nat_eq (packet_of c.args.packet.now).ssrc c.args.anchor.now.source ≡ true = grind (arith, nat_tests, c.if-packet-anchor.false) in
-    place_is (in_room c.args.spec.now c.args.room) c.args.anchor.now c.args.next (packet_of c.args.packet.now) c.number_of-number.result true false _ _ c.number_of-number.ensures.value source
+    place_is (of_width c.args.spec.now c.args.width) c.args.anchor.now c.args.next (packet_of c.args.packet.now) c.number_of-number.result true false _ _ c.number_of-number.ensures.value source
     (sym grid ∙ c.if-not-is_in_step.true)
     (refl)
     (refl)
@@ -45,7 +45,7 @@ returns-then-number-next c =
     let there : to_z w64 (of_z w64 (to_z w64 (of_z w64 c.args.media) +ℤ to_z w64 (of_z w64 (to_z w64 (of_z w64 (to_z w64 c.number_of-number.result -ℤ to_z w64 c.args.next)) *ℤ to_z w64 (of_z w64 c.from.result))))) ≡ media_time_of c.args.spec.now c.args.anchor.now c.number_of-number.result = omega (arith, ints, shift.is, shift.low, shift.high, c.requires.media_low, c.requires.media_high, c.requires.media_is, shifted c.args.spec.now c.args.anchor.now c.args.next c.number_of-number.result) in
     let grid = c.is_in_step.ensures c.args.spec.now c.number_of-number.result there in
     let source : nat_eq (packet_of c.args.packet.now).ssrc c.args.anchor.now.source ≡ true = grind (arith, nat_tests, c.if-packet-anchor.false) in
-    place_is (in_room c.args.spec.now c.args.room) c.args.anchor.now c.args.next (packet_of c.args.packet.now) c.number_of-number.result true true true _ c.number_of-number.ensures.value source
+    place_is (of_width c.args.spec.now c.args.width) c.args.anchor.now c.args.next (packet_of c.args.packet.now) c.number_of-number.result true true true _ c.number_of-number.ensures.value source
     (sym grid ∙ c.if-not-is_in_step.false)
     (grind (arith, nat_tests, c.if-number-next.true))
     (refl)
@@ -57,7 +57,7 @@ returns-then-number-next-2 c =
     let there : to_z w64 (of_z w64 (to_z w64 (of_z w64 c.args.media) +ℤ to_z w64 (of_z w64 (to_z w64 (of_z w64 (to_z w64 c.number_of-number.result -ℤ to_z w64 c.args.next)) *ℤ to_z w64 (of_z w64 c.from.result))))) ≡ media_time_of c.args.spec.now c.args.anchor.now c.number_of-number.result = omega (arith, ints, shift.is, shift.low, shift.high, c.requires.media_low, c.requires.media_high, c.requires.media_is, shifted c.args.spec.now c.args.anchor.now c.args.next c.number_of-number.result) in
     let grid = c.is_in_step.ensures c.args.spec.now c.number_of-number.result there in
     let source : nat_eq (packet_of c.args.packet.now).ssrc c.args.anchor.now.source ≡ true = grind (arith, nat_tests, c.if-packet-anchor.false) in
-    place_is (in_room c.args.spec.now c.args.room) c.args.anchor.now c.args.next (packet_of c.args.packet.now) c.number_of-number.result true true false false c.number_of-number.ensures.value source
+    place_is (of_width c.args.spec.now c.args.width) c.args.anchor.now c.args.next (packet_of c.args.packet.now) c.number_of-number.result true true false false c.number_of-number.ensures.value source
     (sym grid ∙ c.if-not-is_in_step.false)
     (grind (arith, nat_tests, c.if-number-next.false))
     (grind (arith, nat_tests, c.if-number-next-2.true))
@@ -69,7 +69,7 @@ returns c =
     let there : to_z w64 (of_z w64 (to_z w64 (of_z w64 c.args.media) +ℤ to_z w64 (of_z w64 (to_z w64 (of_z w64 (to_z w64 c.number_of-number.result -ℤ to_z w64 c.args.next)) *ℤ to_z w64 (of_z w64 c.from.result))))) ≡ media_time_of c.args.spec.now c.args.anchor.now c.number_of-number.result = omega (arith, ints, shift.is, shift.low, shift.high, c.requires.media_low, c.requires.media_high, c.requires.media_is, shifted c.args.spec.now c.args.anchor.now c.args.next c.number_of-number.result) in
     let grid = c.is_in_step.ensures c.args.spec.now c.number_of-number.result there in
     let source : nat_eq (packet_of c.args.packet.now).ssrc c.args.anchor.now.source ≡ true = grind (arith, nat_tests, c.if-packet-anchor.false) in
-    place_is (in_room c.args.spec.now c.args.room) c.args.anchor.now c.args.next (packet_of c.args.packet.now) c.number_of-number.result true true false true c.number_of-number.ensures.value source
+    place_is (of_width c.args.spec.now c.args.width) c.args.anchor.now c.args.next (packet_of c.args.packet.now) c.number_of-number.result true true false true c.number_of-number.ensures.value source
     (sym grid ∙ c.if-not-is_in_step.false)
     (grind (arith, nat_tests, c.if-number-next.false))
     (grind (arith, nat_tests, c.if-number-next-2.false))

@@ -7,7 +7,7 @@ use Rattle.std.proofs.lemmas.List.{get_or-map}
 use Rattle.studio_session.specs.Cursor.{CursorState, at_place}
 use Rattle.studio_engine.specs.Cursors.{all_at}
 use Rattle.studio_engine.proofs.CursorsLemmas.{length_at}
-use Rattle.studio_engine.specs.Deadline.{IsAtRest, IsNotPast, IsUnreadyBefore}
+use Rattle.studio_engine.specs.Deadline.{IsIdle, IsNotPast, IsUnreadyBefore}
 use Rattle.studio_engine.proofs.DeadlineLemmas.{unready_by, unready_first, unready_max}
 use Rattle.studio_engine.proofs.deadline.latest_reading.Goals.{then-wants, else-wants}
 use Rattle.studio_engine.proofs.deadline.latest_reading.Goals as goal
@@ -58,4 +58,4 @@ loop-stream-preserved c =
 pub returns-clause-before : goal.returns-clause-before
 returns-clause-before c = λ studio events next count rest.
     c.loop-stream.invariant.before studio events next count
-    (subst (λ t. IsAtRest studio events c.args.mixer.now (all_at count c.args.cursors.now) t next) (sym (to_z-of_z w64 c.args.time c.ranges.time)) rest)
+    (subst (λ t. IsIdle studio events c.args.mixer.now (all_at count c.args.cursors.now) t next) (sym (to_z-of_z w64 c.args.time c.ranges.time)) rest)

@@ -6,7 +6,7 @@ use Rattle.studio_engine.proofs.HandLemmas.{come_handed, handed_all, handed_more
 use Rattle.studio_engine.proofs.dispatch.push_close.Goals as goal
 
 pub loop-number-init : goal.loop-number-init
-loop-number-init c = record { handed = handed_none Closing c.args.cursors.now; rested = c.requires.rested }
+loop-number-init c = record { handed = handed_none Closing c.args.cursors.now; idle = c.requires.idle }
 
 pub push_close-requires-clause-settled : goal.push_close-requires-clause-settled
 push_close-requires-clause-settled c =
@@ -15,7 +15,7 @@ push_close-requires-clause-settled c =
     let long = c.loop-number.auto.cursors in
     let within : i < length cursors = omega (arith, c.loop-number-test.true, long) in
     let item = c.index-cursors-number.result in
-    c.loop-number.invariant.rested i item within
+    c.loop-number.invariant.idle i item within
 
 pub push_close-requires-clause-place : goal.push_close-requires-clause-place
 push_close-requires-clause-place c =
@@ -37,7 +37,7 @@ loop-number-preserved c =
     let within : i < length cursors = omega (arith, c.loop-number-test.true, long) in
     record {
       handed = handed_more Closing c.args.cursors.now cursors i c.index-cursors-number.result c.push_close.new.self c.loop-number.invariant.handed within (c.push_close.ensures.handed i);
-      rested = All-set (λ (cursor : CursorState). cursor.reading ≡ None) cursors i c.push_close.new.self c.push_close.ensures.settled c.loop-number.invariant.rested;
+      idle = All-set (λ (cursor : CursorState). cursor.reading ≡ None) cursors i c.push_close.new.self c.push_close.ensures.settled c.loop-number.invariant.idle;
     }
 
 pub returns-clause-handed : goal.returns-clause-handed

@@ -24,8 +24,8 @@ returns-clause-handed c =
     subst (λ l. AreHanded event (all_at count first) (all_at (count + 1) l) (length first)) (sym (set_twice first stream passed moved))
     (handed_alone stream c.args.path count c.args.octets.now first moved item within place (subst (λ s. IsHanded event stream s moved) was (c.push_datagram.ensures.handed stream)))
 
-pub returns-clause-receipt : goal.returns-clause-receipt
-returns-clause-receipt c = λ cursor spec number open_at events k at long pulled.
+pub returns-clause-outcome : goal.returns-clause-outcome
+returns-clause-outcome c = λ cursor spec number open_at events k at long pulled.
     let first = c.args.cursors.now in
     let stream = c.args.stream in
     let passed = c.pass_to.new.self in
@@ -33,7 +33,7 @@ returns-clause-receipt c = λ cursor spec number open_at events k at long pulled
     let was : get_or (set first stream passed) stream c.index-cursors-stream-2.result ≡ at_place c.args.count (get_or first stream c.index-cursors-stream.result) =
     get_or_from_slice_get (set first stream passed) stream passed c.index-cursors-stream-2.result (set_at first stream passed within) ∙ c.pass_to.ensures in
     let same = was ∙ is_seen c.args.count first stream cursor c.index-cursors-stream.result at in
-    c.push_datagram.ensures.receipt spec number open_at events k (ap (λ (s : CursorState). s.place) was ∙ long) (subst (λ s. HasPulled spec number open_at events s k) (sym same) pulled)
+    c.push_datagram.ensures.outcome spec number open_at events k (ap (λ (s : CursorState). s.place) was ∙ long) (subst (λ s. HasPulled spec number open_at events s k) (sym same) pulled)
 
 pub push_datagram-requires-clause-path : goal.push_datagram-requires-clause-path
 push_datagram-requires-clause-path c = grind (arith, elements)

@@ -3,18 +3,18 @@ use Rattle.std.proofs.lemmas.List.Elements.{All-set}
 use Rattle.std.proofs.lemmas.Option.{slice_get-get_or}
 use Rattle.studio_session.specs.Cursor.{CursorState}
 use Rattle.studio_session.proofs.SessionLemmas.{plays_of}
-use Rattle.studio_engine.proofs.KeepLemmas.{all_rested, played_more, rested_more}
+use Rattle.studio_engine.proofs.KeepLemmas.{all_idle, played_more, idle_more}
 use Rattle.studio_engine.proofs.early_marks.keep_early_marks.Goals as goal
 
 pub loop-stream-init : goal.loop-stream-init
 loop-stream-init c = record {
   stands = λ studio events next run played. played;
-  full = λ studio events next awaited roomy taken played. refl;
+  full = λ studio events next awaited sized taken played. refl;
   come = λ count before. before;
-  rested = λ yes i cursor h at. absurd (omega (arith, h));
+  idle = λ yes i cursor h at. absurd (omega (arith, h));
   packer = cc;
   streams = cc;
-  rooms = refl;
+  capacities = refl;
 }
 
 pub loop-stream-preserved : goal.loop-stream-preserved
@@ -35,25 +35,25 @@ loop-stream-preserved c =
           let here : i < length before.feeds = omega (arith, within, count) in
           played_more studio events c.loop-stream.mixer c.keep_marks-all.new.mixer cursors next i moved before within
           (c.keep_marks-all.ensures.stands studio events before.feeds next run here (plays_of studio events c.loop-stream.mixer cursors next i old before at));
-      full = λ studio events next awaited roomy taken played.
+      full = λ studio events next awaited sized taken played.
           let before = inv.stands studio events next awaited.runs played in
           let count = before.count in
           let here : i < length before.feeds = omega (arith, within, count) in
           let place : old.place ≡ length events = inv.come (length events) taken i item within in
-          ap (λ b. b && c.keep_marks-all.result) (inv.full studio events next awaited roomy taken played)
-          ∙ c.keep_marks-all.ensures.all studio events before.feeds next awaited (record { rooms = inv.rooms ∙ roomy.rooms }) here
+          ap (λ b. b && c.keep_marks-all.result) (inv.full studio events next awaited sized taken played)
+          ∙ c.keep_marks-all.ensures.all studio events before.feeds next awaited (record { capacities = inv.capacities ∙ sized.capacities }) here
           (plays_of studio events c.loop-stream.mixer cursors next i old before at) (omega (arith, place));
       come = λ count before.
           let was = inv.come count before in
           All-set (λ (cursor : CursorState). cursor.place ≡ count) cursors i moved (c.keep_marks-all.ensures.kept.place ∙ was i item within) was;
-      rested = rested_more cursors i moved c.loop-stream.all c.keep_marks-all.result within inv.rested c.keep_marks-all.ensures.settled;
+      idle = idle_more cursors i moved c.loop-stream.all c.keep_marks-all.result within inv.idle c.keep_marks-all.ensures.settled;
       packer = c.keep_marks-all.ensures.packer ∙ inv.packer;
       streams = c.keep_marks-all.ensures.streams ∙ inv.streams;
-      rooms = c.keep_marks-all.ensures.rooms ∙ inv.rooms;
+      capacities = c.keep_marks-all.ensures.capacities ∙ inv.capacities;
     }
 
-pub returns-clause-rested : goal.returns-clause-rested
-returns-clause-rested c = λ yes.
+pub returns-clause-idle : goal.returns-clause-idle
+returns-clause-idle c = λ yes.
     let end = c.loop-stream.auto.stream-end in
     let long = c.loop-stream.auto.cursors in
-    all_rested c.loop-stream.cursors c.loop-stream.stream (omega (arith, c.loop-stream-test.false, long, end)) (c.loop-stream.invariant.rested yes)
+    all_idle c.loop-stream.cursors c.loop-stream.stream (omega (arith, c.loop-stream-test.false, long, end)) (c.loop-stream.invariant.idle yes)

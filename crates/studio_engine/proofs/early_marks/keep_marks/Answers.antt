@@ -1,6 +1,6 @@
 use Rattle.std.specs.Prelude.{IfSome}
 use Rattle.std.proofs.Common.{◌≡◌, ◌≤◌, true, length, ◌∙◌, sym, subst, arith}
-use Rattle.studio_mix.specs.Mixer.{has_room_of}
+use Rattle.studio_mix.specs.Mixer.{has_space_of}
 use Rattle.studio_session.specs.Cursor.{next_of}
 use Rattle.studio_session.specs.Play.{TakesMark}
 use Rattle.studio_session.proofs.PlayLemmas.{runnable_at, plays_given}
@@ -20,10 +20,10 @@ marks-preserved c =
           plays_given studio events feeds next c.args.stream c.marks.mixer c.keep_one.new.mixer c.marks.cursor c.pass.new.self (next_of c.marks.cursor) run within p given
           (subst (λ o. IfSome o (TakesMark c.marks.mixer c.keep_one.new.mixer c.args.stream)) shown (c.keep_one.ensures.stands c.if-not-keep_one.false)) (λ none. c.keep_one.ensures.none (shown ∙ none));
       kept = record { spec = kept.spec ∙ inv.kept.spec; number = kept.number ∙ inv.kept.number; tallies = kept.tallies ∙ inv.kept.tallies; place = kept.place ∙ inv.kept.place };
-      rests = λ none. c.pass.ensures.rests (inv.rests none);
+      stays_idle = λ none. c.pass.ensures.stays_idle (inv.stays_idle none);
       packer = c.keep_one.ensures.packer ∙ inv.packer;
       streams = c.keep_one.ensures.streams ∙ inv.streams;
-      rooms = c.keep_one.ensures.rooms ∙ inv.rooms;
+      capacities = c.keep_one.ensures.capacities ∙ inv.capacities;
     }
 
 pub returns-then-not-pass-clause-stands : goal.returns-then-not-pass-clause-stands
@@ -36,10 +36,10 @@ returns-then-not-pass-clause-stands c = λ studio events feeds next run within p
     (subst (λ o. IfSome o (TakesMark c.marks.mixer c.keep_one.new.mixer c.args.stream)) shown (c.keep_one.ensures.stands c.if-not-keep_one.false)) (λ none. c.keep_one.ensures.none (shown ∙ none))
 
 pub returns-then-not-keep_one-clause-all : goal.returns-then-not-keep_one-clause-all
-returns-then-not-keep_one-clause-all c = λ studio events feeds next awaited roomy within plays taken.
+returns-then-not-keep_one-clause-all c = λ studio events feeds next awaited sized within plays taken.
     let inv = c.marks.invariant in
     let place = inv.kept.place in
     let end : length events ≤ c.marks.cursor.place = omega (arith, place, taken) in
-    let fits = next_fits studio events c.marks.mixer feeds next c.args.stream c.marks.cursor awaited (record { rooms = inv.rooms ∙ roomy.rooms }) within
+    let fits = next_fits studio events c.marks.mixer feeds next c.args.stream c.marks.cursor awaited (record { capacities = inv.capacities ∙ sized.capacities }) within
     (inv.stands studio events feeds next awaited.runs within plays) end in
-    sym c.if-not-keep_one.true ∙ c.keep_one.ensures.room (subst (λ o. IfSome o (λ m. has_room_of c.marks.mixer c.args.stream m ≡ true)) (sym c.mark.ensures) fits)
+    sym c.if-not-keep_one.true ∙ c.keep_one.ensures.space (subst (λ o. IfSome o (λ m. has_space_of c.marks.mixer c.args.stream m ≡ true)) (sym c.mark.ensures) fits)

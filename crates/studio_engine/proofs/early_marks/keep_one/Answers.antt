@@ -1,7 +1,7 @@
 use Rattle.std.specs.Prelude.{IfSome}
 use Rattle.std.proofs.Common.{◌≡◌, true, sym, subst, ◌∙◌}
 use Rattle.std.proofs.lemmas.Bool.{false≢true}
-use Rattle.studio_mix.specs.Mixer.{has_room_of}
+use Rattle.studio_mix.specs.Mixer.{has_space_of}
 use Rattle.studio_session.specs.Play.{TakesMark}
 use Rattle.studio_engine.proofs.early_marks.keep_one.Goals as goal
 
@@ -15,7 +15,7 @@ returns-then-not-accepts_ref-clause-stands c = λ yes.
     subst (λ o. IfSome o (TakesMark c.args.mixer.now c.args.mixer.now c.args.stream)) (sym c.in-Some.is)
     (λ studio feeds next feed fed at list. absurd (false≢true (sym c.if-not-accepts_ref.true ∙ c.accepts_ref.ensures.stands studio feeds next feed fed at ∙ list)))
 
-pub returns-then-not-has_room-clause-room : goal.returns-then-not-has_room-clause-room
-returns-then-not-has_room-clause-room c = λ room.
-    sym c.if-not-has_room.true ∙ c.has_room.ensures.value
-    ∙ subst (λ o. IfSome o (λ m. has_room_of c.args.mixer.now c.args.stream m ≡ true)) c.in-Some.is room
+pub returns-then-not-has_space-clause-space : goal.returns-then-not-has_space-clause-space
+returns-then-not-has_space-clause-space c = λ space.
+    sym c.if-not-has_space.true ∙ c.has_space.ensures.value
+    ∙ subst (λ o. IfSome o (λ m. has_space_of c.args.mixer.now c.args.stream m ≡ true)) c.in-Some.is space

@@ -33,12 +33,12 @@ loop-stream-preserved c =
       come = λ count before.
           let was = inv.come count before in
           All-set (λ (cursor : CursorState). cursor.place ≡ count) cursors i moved (c.pull_marks.ensures.kept.place ∙ was i item within) was;
-      rested = λ before.
-          let was = inv.rested before in
-          All-set (λ (cursor : CursorState). cursor.reading ≡ None) cursors i moved (c.pull_marks.ensures.rests (was i item within)) was;
+      idle = λ before.
+          let was = inv.idle before in
+          All-set (λ (cursor : CursorState). cursor.reading ≡ None) cursors i moved (c.pull_marks.ensures.stays_idle (was i item within)) was;
       packer = c.pull_marks.ensures.packer ∙ inv.packer;
       streams = c.pull_marks.ensures.streams ∙ inv.streams;
-      rooms = c.pull_marks.ensures.rooms ∙ inv.rooms;
+      capacities = c.pull_marks.ensures.capacities ∙ inv.capacities;
     }
 
 pub returns-clause-stands : goal.returns-clause-stands

@@ -1,5 +1,5 @@
 use Rattle.std.proofs.Common.{◌∙◌, arith}
-use Rattle.studio_mix.proofs.RoomLemmas.{greatest_more, greatest_all}
+use Rattle.studio_mix.proofs.CapacityLemmas.{greatest_more, greatest_all}
 use Rattle.studio_mix.proofs.lane_capacity.greatest_lag.Goals as goal
 
 pub loop-stream-preserved : goal.loop-stream-preserved

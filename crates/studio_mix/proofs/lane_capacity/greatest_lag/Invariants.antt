@@ -1,5 +1,5 @@
 use Rattle.std.proofs.Common.{◌≡◌, ◌≤◌, ◌^◌, take}
-use Rattle.studio_mix.specs.Room.{greatest_lag}
+use Rattle.studio_mix.specs.LaneCapacity.{greatest_lag}
 use Rattle.studio_mix.proofs.lane_capacity.greatest_lag.Given as goal
 
 -- the greatest lag of the streams so far

@@ -11,5 +11,5 @@ invariant-loop g l = record {
   count : vec_len l.own ≡ l.counter;
   ends_left : into_iter_len l.ends + l.counter ≡ into_iter_len l.initial.ends;
   feeds_left : into_iter_len l.feeds + l.counter ≡ into_iter_len l.initial.feeds;
-  room : vec_capacity l.own ≡ vec_capacity l.initial.own;
+  space : vec_capacity l.own ≡ vec_capacity l.initial.own;
 }

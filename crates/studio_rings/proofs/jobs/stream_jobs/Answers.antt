@@ -2,11 +2,11 @@ use Rattle.std.proofs.Common.{◌≡◌, ◌≤◌, List, [], ◌∷◌, length,
 use Rattle.std.specs.Vec.Iter.{into_iter_items}
 use Rattle.studio_ends.specs.declared.stream_end.StreamEnd.{StreamEnd}
 use Rattle.studio_rings.specs.declared.jobs.PathJob.{PathJob}
-use Rattle.studio_rings.specs.Jobs.{HaveRoom, feeds_in}
+use Rattle.studio_rings.specs.Jobs.{HaveCapacity, feeds_in}
 use Rattle.studio_rings.specs.StreamWorkers.{ends_of}
 use Rattle.studio_rings.specs.declared.jobs.StreamJob.{StreamJob}
 use Rattle.studio_rings.proofs.HandLemmas.{no_items}
-use Rattle.studio_rings.proofs.JobLemmas.{AreSomeFresh, MakesJobs, enough, fresh-left, makes-all, makes-one, map_length, none_fresh, room-more}
+use Rattle.studio_rings.proofs.JobLemmas.{AreSomeFresh, MakesJobs, enough, fresh-left, makes-all, makes-one, map_length, none_fresh, space-more}
 use Rattle.studio_rings.proofs.jobs.stream_jobs.Goals as goal
 
 pub next_job-requires-clause-paths : goal.next_job-requires-clause-paths
@@ -65,7 +65,7 @@ loop-end-preserved g c =
           (makes-one _ _ _ _ at.jobs.items job _ _ _ _ _ _ end (into_iter_items c.next.new.self)
           (subst (λ (l : List StreamEnd). MakesJobs (into_iter_items c.into_iter-paths.result) (into_iter_items c.into_iter-feeds.result) (into_iter_items c.into_iter-clocks.result) (into_iter_items c.into_iter-end-iterator.result) at.jobs.items (into_iter_items at.paths) (into_iter_items at.feeds) (into_iter_items at.clocks) l) c.in-Some.ensures.steps.0 at.invariant.made)
           c.in_ok-job.ensures.paths c.in_ok-job.ensures.feeds c.in_ok-job.ensures.clocks c.in_ok-job.ensures.end many);
-      room = subst (λ (l : List (StreamJob g.row.F.Denot g.row.C.Denot)). HaveRoom l) (sym c.push_reserved.ensures.items) (room-more at.jobs.items job at.invariant.room c.in_ok-job.ensures.room);
+      space = subst (λ (l : List (StreamJob g.row.F.Denot g.row.C.Denot)). HaveCapacity l) (sym c.push_reserved.ensures.items) (space-more at.jobs.items job at.invariant.space c.in_ok-job.ensures.space);
       fresh = fresh-left _ _ own end _ fresh c.in_ok-job.ensures.paths many;
       ends_len = omega (arith, gone, items, ends_len);
       paths_len = omega (arith, left_ends, paths_len, ends_sum, many, length-append (ends_of own) (into_iter_items c.next_job.new.paths), map_length (λ (p : PathJob g.row.F.Denot). p.end) own);

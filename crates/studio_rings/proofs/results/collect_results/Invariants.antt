@@ -9,10 +9,10 @@ invariant-loop-result l = record {
   left : length l.yielded + into_iter_len l.result-iterator ≡ into_iter_len l.initial.result-iterator;
   dones : l.dones.items ≡ dones_in l.yielded;
   done_count : vec_len l.dones ≡ length l.yielded;
-  done_room : vec_capacity l.dones ≡ vec_capacity l.initial.dones;
+  done_space : vec_capacity l.dones ≡ vec_capacity l.initial.dones;
   streams : l.streams.items ≡ counts_in l.yielded;
   stream_count : vec_len l.streams ≡ length l.yielded;
-  stream_room : vec_capacity l.streams ≡ vec_capacity l.initial.streams;
+  stream_space : vec_capacity l.streams ≡ vec_capacity l.initial.streams;
   faults : vec_len l.feed_faults ≡ fault_numbers l.yielded;
-  fault_room : vec_capacity l.initial.feed_faults ≤ vec_capacity l.feed_faults;
+  fault_space : vec_capacity l.initial.feed_faults ≤ vec_capacity l.feed_faults;
 }

@@ -23,9 +23,9 @@ collect_results-parts-requires-clause-faults g c =
     let none : m.results.items ≡ [] = no_items m.results.items (let e = c.in_ok-memory.ensures.results.0 in let k = m.results.ok.0 in omega (arith, e, k)) in
     let zip : AllZip (IsStreamResult g.F.Feed.told g.C.Clock.told) m.jobs.items results = zip_after _ m.jobs.items m.results.items r.0 results none r.1 r.2 in
     let all = faults-of-feeds g.F.Feed.told g.C.Clock.told c.args.ends.paths.items c.args.feeds.items c.args.clocks.items c.args.ends.streams.items m.jobs.items results c.in_ok-memory.ensures.jobs.0 zip in
-    let room = c.in_ok-memory.ensures.faults.1 in
+    let space = c.in_ok-memory.ensures.faults.1 in
     let ok = c.args.feeds.ok.0 in
-    (c.in_ok-memory.ensures.faults.0, omega (arith, all, room, ok))
+    (c.in_ok-memory.ensures.faults.0, omega (arith, all, space, ok))
 
 pub returns-clause-faults : goal.returns-clause-faults
 returns-clause-faults g c =

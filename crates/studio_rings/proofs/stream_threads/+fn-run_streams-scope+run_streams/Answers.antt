@@ -20,12 +20,12 @@ pub scoped-requires : goal.scoped-requires
 scoped-requires g t c = record {
   at = λ a.
       let e = c.in-Some.ensures.cases in
-      let room = c.requires.room in
+      let space = c.requires.space in
       let flags = c.requires.flags in
       let less : vec_len c.last_job.new.jobs < vec_len c.args.jobs = omega (arith, e) in
-      let room' : vec_len c.args.results + vec_len c.last_job.new.jobs + 1 ≤ vec_capacity c.args.results = omega (arith, e, room) in
+      let space' : vec_len c.args.results + vec_len c.last_job.new.jobs + 1 ≤ vec_capacity c.args.results = omega (arith, e, space) in
       let flags' : vec_len c.last_job.new.jobs ≤ length c.args.ended.now = omega (arith, e, flags) in
-      (search rules, ((λ n h. h), ((λ n h. h), ((λ n h. h), ((λ n h. h), (search rules, (c.in-Some.ensures.ready, (c.in-Some.ensures.own, (room', (flags', (c.of.ensures, (search rules, search rules, search rules))))))))))));
+      (search rules, ((λ n h. h), ((λ n h. h), ((λ n h. h), ((λ n h. h), (search rules, (c.in-Some.ensures.ready, (c.in-Some.ensures.own, (space', (flags', (c.of.ensures, (search rules, search rules, search rules))))))))))));
 }
 
 pub returns-clause-results : goal.returns-clause-results

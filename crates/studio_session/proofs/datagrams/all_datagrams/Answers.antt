@@ -15,7 +15,7 @@ slice_bounds-out-end g c =
     let len : c.in-Some.len ≡ datagram_length c.args.session.now.mixer.packer.spec = c.in-Some.ensures.len ∙ ap datagram_length c.rounds.invariant.spec in
     let short = c.requires.short in
     let same : length c.next_datagram.new.out ≡ length c.rounds.out = c.next_datagram.auto.out in
-    let long = same ∙ c.rounds.invariant.room in
+    let long = same ∙ c.rounds.invariant.space in
     omega (arith, len, short, long)
 
 pub slice_bounds-from_slice-end : goal.slice_bounds-from_slice-end
@@ -23,7 +23,7 @@ slice_bounds-from_slice-end g c =
     let len : c.in-Some.len ≡ datagram_length c.args.session.now.mixer.packer.spec = c.in-Some.ensures.len ∙ ap datagram_length c.rounds.invariant.spec in
     let short = c.requires.short in
     let same : length c.next_datagram.new.out ≡ length c.rounds.out = c.next_datagram.auto.out in
-    let long = same ∙ c.rounds.invariant.room in
+    let long = same ∙ c.rounds.invariant.space in
     let within : c.in-Some.len ≤ length c.next_datagram.new.out = omega (arith, len, short, long) in
     sym (length-take-le c.in-Some.len c.next_datagram.new.out within)
 
@@ -34,12 +34,12 @@ rounds-preserved g c =
     let len : c.in-Some.len ≡ datagram_length c.args.session.now.mixer.packer.spec = c.in-Some.ensures.len ∙ ap datagram_length inv.spec in
     let short = c.requires.short in
     let same : length c.next_datagram.new.out ≡ length c.rounds.out = c.next_datagram.auto.out in
-    let long = same ∙ c.rounds.invariant.room in
+    let long = same ∙ c.rounds.invariant.space in
     let within : c.in-Some.len ≤ length c.rounds.out = omega (arith, len, short, long, same) in
     let item = c.in_ok-datagram-in-Some.datagram in
     record {
       ready = c.next_datagram.ensures.ready;
-      room = long;
+      space = long;
       spec = c.next_datagram.ensures.spec ∙ inv.spec;
       stands = λ studio run played.
           let before = inv.stands studio run played in

@@ -9,7 +9,7 @@ use Rattle.studio_session.proofs.datagrams.all_datagrams.Given as goal
 abbrev pub invariant-rounds : goal.invariant-rounds
 invariant-rounds g l = record {
   ready : All (IsReadyFor (g.E.EventSource.events l.source)) l.session.cursors;
-  room : length l.out ≡ 1452;
+  space : length l.out ≡ 1452;
   spec : l.session.mixer.packer.spec ≡ l.fn.session.mixer.packer.spec;
   stands : (studio : Studio) → IsRunnableBy studio (g.E.EventSource.events l.source) → HasPlayed studio (g.E.EventSource.events l.source) l.fn.session 0
       → HasGivenBlocks studio (g.E.EventSource.events l.source) l.session (map (λ d. d.items) l.datagrams.items);

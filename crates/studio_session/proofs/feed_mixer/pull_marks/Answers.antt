@@ -20,10 +20,10 @@ marks-preserved c =
           plays_given studio events feeds next c.args.stream c.marks.mixer c.hand_on.new.mixer c.marks.cursor c.pass.new.self (next_of c.marks.cursor) run within p given
           (subst (λ o. IfSome o (TakesMark c.marks.mixer c.hand_on.new.mixer c.args.stream)) shown c.hand_on.ensures.stands) (λ none. c.hand_on.ensures.none (shown ∙ none));
       kept = record { spec = kept.spec ∙ inv.kept.spec; number = kept.number ∙ inv.kept.number; tallies = kept.tallies ∙ inv.kept.tallies; place = kept.place ∙ inv.kept.place };
-      rests = λ none. c.pass.ensures.rests (inv.rests none);
+      stays_idle = λ none. c.pass.ensures.stays_idle (inv.stays_idle none);
       packer = c.hand_on.ensures.packer ∙ inv.packer;
       streams = c.hand_on.ensures.streams ∙ inv.streams;
-      rooms = c.hand_on.ensures.rooms ∙ inv.rooms;
+      capacities = c.hand_on.ensures.capacities ∙ inv.capacities;
     }
 
 pub returns-then-not-pass-clause-out : goal.returns-then-not-pass-clause-out

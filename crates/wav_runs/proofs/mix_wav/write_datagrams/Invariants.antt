@@ -10,7 +10,7 @@ use Rattle.wav_runs.proofs.mix_wav.write_datagrams.Given as goal
 abbrev pub invariant-rounds : goal.invariant-rounds
 invariant-rounds g l = record {
   ready : All (IsReadyFor (g.E.EventSource.events l.source)) l.session.cursors;
-  room : length l.out ≡ 1452;
+  space : length l.out ≡ 1452;
   spec : l.session.mixer.packer.spec ≡ l.fn.session.mixer.packer.spec;
   stands : (studio : Studio) → IsRunnableBy studio (g.E.EventSource.events l.source) → HasPlayed studio (g.E.EventSource.events l.source) l.fn.session 0
       → IsRecording studio (g.E.EventSource.events l.source) (g.W.Write.contents l.fn.writer) l.fn.text (g.F.Write.contents l.fn.file) l.fn.wav

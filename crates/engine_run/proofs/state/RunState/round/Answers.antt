@@ -14,9 +14,9 @@ returns-clause-on g c = λ studio all clock before earlier h.
     let asked = c.ask.ensures.on studio all clock before earlier h in
     let changed = with_changes studio asked.changes in
     let turned = c.in_ok-turn.ensures.on changed all clock before earlier asked.run in
-    let rested = c.in_ok-turn_if_stale.ensures.on changed all clock before earlier (c.notify_before_wait.ensures.on changed all clock before earlier turned) in
-    record { changes = asked.changes; taken = asked.taken; run = c.in_ok-most.ensures.on changed all clock before earlier rested }
+    let idle = c.in_ok-turn_if_stale.ensures.on changed all clock before earlier (c.notify_before_wait.ensures.on changed all clock before earlier turned) in
+    record { changes = asked.changes; taken = asked.taken; run = c.in_ok-most.ensures.on changed all clock before earlier idle }
 
 pub returns-clause-noted : goal.returns-clause-noted
 returns-clause-noted g c = noted_same _ _ _ _ _ c.ask.ensures.noted
-    (c.take.ensures.noted ∙ (ap g.T.RunObserver.noted c.turn_if_stale.ensures.tap ∙ (c.notify_before_wait.ensures.noted ∙ ap g.T.RunObserver.noted c.turn.ensures.tap)))
+    (c.take.ensures.noted ∙ (ap g.T.RunObserver.noted c.turn_if_stale.ensures.observer ∙ (c.notify_before_wait.ensures.noted ∙ ap g.T.RunObserver.noted c.turn.ensures.observer)))

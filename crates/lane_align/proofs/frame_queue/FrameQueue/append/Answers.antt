@@ -7,13 +7,13 @@ use Rattle.lane_align.proofs.frame_queue.FrameQueue.append.Goals as goal
 pub returns : goal.returns
 returns c =
     let q = c.self.inside in
-    let Q = λ (h : Held). length h.values + c.args.silent * h.channels + length c.args.samples.now ≤ h.room in
+    let Q = λ (h : Held). length h.values + c.args.silent * h.channels + length c.args.samples.now ≤ h.capacity in
     values_appended q.channels q.block q.lead q.front q.gap q.stored.items c.self.invariant c.args.silent q.stored.capacity c.fill_from_slice.result c.args.samples.now q.stored c.store_silence.new.stored c.fill_from_slice.new.self
-    refl (subst Q (sym c.self.view_is) c.requires.room) c.store_silence.ensures c.fill_from_slice.ensures.count c.fill_from_slice.ensures.items
-    ∙ ap (λ (h : Held). held_of h.channels h.block h.room (h.values ++ (silence h.channels c.args.silent ++ c.args.samples.now))) c.self.view_is
+    refl (subst Q (sym c.self.view_is) c.requires.space) c.store_silence.ensures c.fill_from_slice.ensures.count c.fill_from_slice.ensures.items
+    ∙ ap (λ (h : Held). held_of h.channels h.block h.capacity (h.values ++ (silence h.channels c.args.silent ++ c.args.samples.now))) c.self.view_is
 
-pub store_silence-requires-clause-room : goal.store_silence-requires-clause-room
-store_silence-requires-clause-room c = grind (arith, elements)
+pub store_silence-requires-clause-space : goal.store_silence-requires-clause-space
+store_silence-requires-clause-space c = grind (arith, elements)
 
 pub invariant_of-self : goal.invariant_of-self
 invariant_of-self c = grind (arith, elements)

@@ -30,8 +30,8 @@ returns-clause-rest c =
     let lead = q.lead - c.min-silent.result + q.gap in
     ap (λ (b : Buffer ℤ). held_of q.channels q.block b.capacity (values_held q.channels lead 0 0 b.items)) c.read_into.ensures.items
     ∙ ap (held_of q.channels q.block q.stored.capacity) (rest_read q.channels q.block q.lead q.front q.gap q.stored.items c.self.invariant c.min-silent.result c.read_into.result c.min-silent.ensures count)
-    ∙ ap (λ (h : Held). held_of h.channels h.block h.room (drop (h.block * h.channels) h.values)) c.self.view_is
-    ∙ ap (λ k. held_of c.args.self.now.channels c.args.self.now.block c.args.self.now.room (drop k c.args.self.now.values)) (sym c.requires.len)
+    ∙ ap (λ (h : Held). held_of h.channels h.block h.capacity (drop (h.block * h.channels) h.values)) c.self.view_is
+    ∙ ap (λ k. held_of c.args.self.now.channels c.args.self.now.block c.args.self.now.capacity (drop k c.args.self.now.values)) (sym c.requires.len)
 
 pub invariant_of-self : goal.invariant_of-self
 invariant_of-self c = grind (arith, elements)

@@ -7,7 +7,7 @@ use Rattle.rtp_stream.specs.MarkRef.{body_from}
 use Rattle.lane_align.specs.HeldValues.{Held}
 use Rattle.lane_align.specs.Lane.{LaneState, IsAfter, frames_between, frames_left, with_slot}
 use Rattle.lane_align.proofs.LaneLemmas.{lane_of}
-use Rattle.lane_align.proofs.SlotLemmas.{slot_joined, slot_sound, kept_room}
+use Rattle.lane_align.proofs.SlotLemmas.{slot_joined, slot_sound, kept_space}
 use Rattle.lane_align.proofs.lane.Lane.keep_slot.Goals.{After-append_slot, After-frames_between, After-frames_before-skipped}
 use Rattle.lane_align.proofs.lane.Lane.keep_slot.Goals as goal
 
@@ -46,35 +46,35 @@ after_is c = subst (λ (l : LaneState). IsAfter l.format.frames l.slot c.args.sl
 fits_is : (c : After-frames_before-skipped) → HasLength (payload_length c.self.inside.format) (body_from (option_copied c.args.payload))
 fits_is c = subst (λ (l : LaneState). HasLength (payload_length l.format) (body_from (option_copied c.args.payload))) (sym c.self.view_is) c.requires.len
 
-room_is : (c : After-frames_before-skipped) → frames_between c.self.inside.position (c.args.slot.media +ℤ pos c.self.inside.format.frames) ≤ c.self.inside.room
-room_is c = subst (λ (l : LaneState). frames_between l.position (c.args.slot.media +ℤ pos l.format.frames) ≤ l.room) (sym c.self.view_is) c.requires.room
+space_is : (c : After-frames_before-skipped) → frames_between c.self.inside.position (c.args.slot.media +ℤ pos c.self.inside.format.frames) ≤ c.self.inside.capacity
+space_is c = subst (λ (l : LaneState). frames_between l.position (c.args.slot.media +ℤ pos l.format.frames) ≤ l.capacity) (sym c.self.view_is) c.requires.space
 
-pub append_slot-requires-clause-room : goal.append_slot-requires-clause-room
-append_slot-requires-clause-room c =
-    let at = goal.at.append_slot-requires-clause-room c in
-    kept_room (lane_of c.self.inside.format c.self.inside.start c.self.inside.block c.self.inside.position c.self.inside.slot c.self.inside.quiet c.self.inside.ended c.self.inside.room c.self.inside.values.values) c.self.inside.values c.args.slot (body_from (option_copied c.args.payload)) (c.frames_between.result - c.frames_left-held.result) (frames_between c.args.slot.media c.self.inside.position) c.frames_before-skipped.result
-    c.self.invariant (fits_is at.After-frames_before-skipped) (ap (λ n. n - c.frames_left-held.result) (before_is at.After-frames_between) ∙ ap (λ n. frames_between c.self.inside.position c.args.slot.media - n) (left_is at.After-frames_between)) refl (skipped_is at.After-frames_before-skipped) (after_is at.After-frames_before-skipped) (room_is at.After-frames_before-skipped)
+pub append_slot-requires-clause-space : goal.append_slot-requires-clause-space
+append_slot-requires-clause-space c =
+    let at = goal.at.append_slot-requires-clause-space c in
+    kept_space (lane_of c.self.inside.format c.self.inside.start c.self.inside.block c.self.inside.position c.self.inside.slot c.self.inside.quiet c.self.inside.ended c.self.inside.capacity c.self.inside.values.values) c.self.inside.values c.args.slot (body_from (option_copied c.args.payload)) (c.frames_between.result - c.frames_left-held.result) (frames_between c.args.slot.media c.self.inside.position) c.frames_before-skipped.result
+    c.self.invariant (fits_is at.After-frames_before-skipped) (ap (λ n. n - c.frames_left-held.result) (before_is at.After-frames_between) ∙ ap (λ n. frames_between c.self.inside.position c.args.slot.media - n) (left_is at.After-frames_between)) refl (skipped_is at.After-frames_before-skipped) (after_is at.After-frames_before-skipped) (space_is at.After-frames_before-skipped)
 
 -- the values that the lane holds after the slot
 joined_is : (c : After-append_slot) → HasLength (payload_length c.self.inside.format) (body_from (option_copied c.args.payload))
     → c.frames_between.result - c.frames_left-held.result ≡ frames_between c.self.inside.position c.args.slot.media - frames_left c.self.inside.format.frames c.self.inside.position c.self.inside.slot
     → c.frames_before-skipped.result ≡ min (frames_between c.args.slot.media c.self.inside.position) c.self.inside.format.frames
-    → c.append_slot.new.values ≡ record c.self.inside.values { values = (with_slot (lane_of c.self.inside.format c.self.inside.start c.self.inside.block c.self.inside.position c.self.inside.slot c.self.inside.quiet c.self.inside.ended c.self.inside.room c.self.inside.values.values) c.args.slot (body_from (option_copied c.args.payload))).values }
+    → c.append_slot.new.values ≡ record c.self.inside.values { values = (with_slot (lane_of c.self.inside.format c.self.inside.start c.self.inside.block c.self.inside.position c.self.inside.slot c.self.inside.quiet c.self.inside.ended c.self.inside.capacity c.self.inside.values.values) c.args.slot (body_from (option_copied c.args.payload))).values }
 joined_is c fits gap skipped =
-    slot_joined (lane_of c.self.inside.format c.self.inside.start c.self.inside.block c.self.inside.position c.self.inside.slot c.self.inside.quiet c.self.inside.ended c.self.inside.room c.self.inside.values.values) c.self.inside.values c.append_slot.new.values c.args.slot (body_from (option_copied c.args.payload)) (c.frames_between.result - c.frames_left-held.result) (frames_between c.args.slot.media c.self.inside.position) c.frames_before-skipped.result
+    slot_joined (lane_of c.self.inside.format c.self.inside.start c.self.inside.block c.self.inside.position c.self.inside.slot c.self.inside.quiet c.self.inside.ended c.self.inside.capacity c.self.inside.values.values) c.self.inside.values c.append_slot.new.values c.args.slot (body_from (option_copied c.args.payload)) (c.frames_between.result - c.frames_left-held.result) (frames_between c.args.slot.media c.self.inside.position) c.frames_before-skipped.result
     c.self.invariant fits gap refl skipped c.append_slot.ensures.added
 
 pub invariant_of-self : goal.invariant_of-self
 invariant_of-self c =
     let at = goal.at.invariant_of-self c in
     let fits = fits_is at.After-frames_before-skipped in
-    slot_sound (lane_of c.self.inside.format c.self.inside.start c.self.inside.block c.self.inside.position c.self.inside.slot c.self.inside.quiet c.self.inside.ended c.self.inside.room c.self.inside.values.values) c.self.inside.values c.append_slot.new.values c.args.slot (body_from (option_copied c.args.payload)) c.self.invariant c.requires.small fits (after_is at.After-frames_before-skipped) (joined_is at.After-append_slot fits (ap (λ n. n - c.frames_left-held.result) (before_is at.After-frames_between) ∙ ap (λ n. frames_between c.self.inside.position c.args.slot.media - n) (left_is at.After-frames_between)) (skipped_is at.After-frames_before-skipped)) c.append_slot.ensures.in_24_bits
+    slot_sound (lane_of c.self.inside.format c.self.inside.start c.self.inside.block c.self.inside.position c.self.inside.slot c.self.inside.quiet c.self.inside.ended c.self.inside.capacity c.self.inside.values.values) c.self.inside.values c.append_slot.new.values c.args.slot (body_from (option_copied c.args.payload)) c.self.invariant c.requires.small fits (after_is at.After-frames_before-skipped) (joined_is at.After-append_slot fits (ap (λ n. n - c.frames_left-held.result) (before_is at.After-frames_between) ∙ ap (λ n. frames_between c.self.inside.position c.args.slot.media - n) (left_is at.After-frames_between)) (skipped_is at.After-frames_before-skipped)) c.append_slot.ensures.in_24_bits
 
 pub returns-clause-taken : goal.returns-clause-taken
 returns-clause-taken c =
     let i = c.self.inside in
     let at = goal.at.returns-clause-taken c in
-    ap (λ (h : Held). lane_of i.format i.start i.block i.position (Some c.args.slot) i.quiet i.ended i.room h.values) (joined_is at.After-append_slot (fits_is at.After-frames_before-skipped) (ap (λ n. n - c.frames_left-held.result) (before_is at.After-frames_between) ∙ ap (λ n. frames_between c.self.inside.position c.args.slot.media - n) (left_is at.After-frames_between)) (skipped_is at.After-frames_before-skipped))
+    ap (λ (h : Held). lane_of i.format i.start i.block i.position (Some c.args.slot) i.quiet i.ended i.capacity h.values) (joined_is at.After-append_slot (fits_is at.After-frames_before-skipped) (ap (λ n. n - c.frames_left-held.result) (before_is at.After-frames_between) ∙ ap (λ n. frames_between c.self.inside.position c.args.slot.media - n) (left_is at.After-frames_between)) (skipped_is at.After-frames_before-skipped))
     ∙ ap (λ (l : LaneState). with_slot l c.args.slot (body_from (option_copied c.args.payload))) c.self.view_is
 
 pub returns-clause-left : goal.returns-clause-left

@@ -9,7 +9,7 @@ use Rattle.lane_align.proofs.lane.Lane.read_block.Goals as goal
 pub invariant_of-self : goal.invariant_of-self
 invariant_of-self c =
     let i = c.self.inside in
-    let lane = lane_of i.format i.start i.block i.position i.slot i.quiet i.ended i.room i.values.values in
+    let lane = lane_of i.format i.start i.block i.position i.slot i.quiet i.ended i.capacity i.values.values in
     let sound = c.self.invariant in
     let late = sound.not_late in
     let early = sound.not_early in
@@ -18,7 +18,7 @@ invariant_of-self c =
     let small : i.position <ℤ pos (2 ^ 62) = subst (λ (l : LaneState). l.position <ℤ pos (2 ^ 62)) (sym c.self.view_is) c.requires.position in
     let len : length c.args.out.now ≡ i.block * i.format.channels = c.requires.len ∙ sym (ap (λ (l : LaneState). l.block * l.format.channels) c.self.view_is) in
     let rest = c.read.ensures.rest ∙ ap (λ k. record i.values { values = drop k i.values.values }) len in
-    subst (λ p. IsLane (lane_of i.format i.start i.block p i.slot i.quiet i.ended i.room c.read.new.self.values) c.read.new.self) (sym moved) (block_sound lane i.values c.read.new.self sound small rest)
+    subst (λ p. IsLane (lane_of i.format i.start i.block p i.slot i.quiet i.ended i.capacity c.read.new.self.values) c.read.new.self) (sym moved) (block_sound lane i.values c.read.new.self sound small rest)
 
 pub returns-clause-values : goal.returns-clause-values
 returns-clause-values c = λ stream from size marks t fed.
@@ -31,7 +31,7 @@ returns-clause-values c = λ stream from size marks t fed.
 pub returns-clause-stands : goal.returns-clause-stands
 returns-clause-stands c = λ stream from size marks t fed.
     let i = c.self.inside in
-    let lane = lane_of i.format i.start i.block i.position i.slot i.quiet i.ended i.room i.values.values in
+    let lane = lane_of i.format i.start i.block i.position i.slot i.quiet i.ended i.capacity i.values.values in
     let sound = c.self.invariant in
     let late = sound.not_late in
     let early = sound.not_early in
@@ -40,7 +40,7 @@ returns-clause-stands c = λ stream from size marks t fed.
     let len : length c.args.out.now ≡ i.block * i.format.channels = c.requires.len ∙ sym (ap (λ (l : LaneState). l.block * l.format.channels) c.self.view_is) in
     let rest = ap (λ (h : Held). h.values) c.read.ensures.rest ∙ ap (λ k. drop k i.values.values) len in
     let fed' : HasFeed stream from size lane marks t = subst (λ l. HasFeed stream from size l marks t) (sym c.self.view_is) fed in
-    subst (λ p. HasFeed stream from size (lane_of i.format i.start i.block p i.slot i.quiet i.ended i.room c.read.new.self.values) marks (t +ℤ pos size)) (sym moved) (block_read stream from size lane marks t c.read.new.self.values fed' rest)
+    subst (λ p. HasFeed stream from size (lane_of i.format i.start i.block p i.slot i.quiet i.ended i.capacity c.read.new.self.values) marks (t +ℤ pos size)) (sym moved) (block_read stream from size lane marks t c.read.new.self.values fed' rest)
 
 pub returns-clause-position : goal.returns-clause-position
 returns-clause-position c = grind (arith, elements)

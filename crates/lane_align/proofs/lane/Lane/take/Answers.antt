@@ -23,8 +23,8 @@ keep_slot-requires-clause-after c =
     let same : to_z w64 (of_z w64 s.media) ≡ s.media = omega (arith, ints) in
     subst (IsAfter now.format.frames now.slot) (sym same) (next_after now c.args.mark.now s.epoch s.number s.media (body_from (option_copied s.payload)) c.requires.accepted (sym c.kind.ensures.value ∙ ap kind_of s.is))
 
-pub returns-then-has_room-clause-stands : goal.returns-then-has_room-clause-stands
-returns-then-has_room-clause-stands c = λ stream from size marks t fed.
+pub returns-then-has_space-clause-stands : goal.returns-then-has_space-clause-stands
+returns-then-has_space-clause-stands c = λ stream from size marks t fed.
     let now = c.args.self.now in
     let s = c.in-Slot in
     let is_slot = sym c.kind.ensures.value ∙ ap kind_of s.is in
@@ -36,8 +36,8 @@ returns-then-has_room-clause-stands c = λ stream from size marks t fed.
     subst (λ l. HasFeed stream from size l (marks ++ c.args.mark.now ∷ []) t) (sym taken)
     (fed_slot stream from size now marks t c.args.mark.now s.epoch s.number s.media (body_from (option_copied s.payload)) fed is_slot fits after c.keep_slot.ensures.left listed)
 
-pub returns-else-has_room-clause-stands : goal.returns-else-has_room-clause-stands
-returns-else-has_room-clause-stands c = λ stream from size marks t fed.
+pub returns-else-has_space-clause-stands : goal.returns-else-has_space-clause-stands
+returns-else-has_space-clause-stands c = λ stream from size marks t fed.
     let now = c.args.self.now in
     let s = c.in-Slot in
     let is_slot = sym c.kind.ensures.value ∙ ap kind_of s.is in
@@ -52,17 +52,17 @@ returns-else-has_room-clause-stands c = λ stream from size marks t fed.
 pub returns-in-Quiet-clause-stands : goal.returns-in-Quiet-clause-stands
 returns-in-Quiet-clause-stands c = λ stream from size marks t fed.
     let i = c.self.inside in
-    let lane = lane_of i.format i.start i.block i.position i.slot i.quiet i.ended i.room i.values.values in
+    let lane = lane_of i.format i.start i.block i.position i.slot i.quiet i.ended i.capacity i.values.values in
     let fed' : HasFeed stream from size lane marks t = subst (λ l. HasFeed stream from size l marks t) (sym c.self.view_is) fed in
     let listed = sym (fed_next stream from size c.args.self.now marks t c.args.mark.now fed) ∙ c.requires.accepted in
     let same : to_z w64 (of_z w64 c.in-Quiet.until) ≡ c.in-Quiet.until = omega (arith, ints) in
-    subst (λ u. HasFeed stream from size (lane_of i.format i.start i.block i.position i.slot (Some u) i.ended i.room i.values.values) (marks ++ c.args.mark.now ∷ []) t) (sym same)
+    subst (λ u. HasFeed stream from size (lane_of i.format i.start i.block i.position i.slot (Some u) i.ended i.capacity i.values.values) (marks ++ c.args.mark.now ∷ []) t) (sym same)
     (fed_quiet stream from size lane marks t c.args.mark.now c.in-Quiet.until fed' (sym c.kind.ensures.value ∙ ap kind_of c.in-Quiet.is) listed)
 
 pub returns-in-End-clause-stands : goal.returns-in-End-clause-stands
 returns-in-End-clause-stands c = λ stream from size marks t fed.
     let i = c.self-in-End.inside in
-    let lane = lane_of i.format i.start i.block i.position i.slot i.quiet i.ended i.room i.values.values in
+    let lane = lane_of i.format i.start i.block i.position i.slot i.quiet i.ended i.capacity i.values.values in
     let fed' : HasFeed stream from size lane marks t = subst (λ l. HasFeed stream from size l marks t) (sym c.self-in-End.view_is) fed in
     let listed = sym (fed_next stream from size c.args.self.now marks t c.args.mark.now fed) ∙ c.requires.accepted in
     fed_end stream from size lane marks t c.args.mark.now fed' (sym c.kind.ensures.value ∙ ap kind_of c.in-End.is) listed
@@ -73,8 +73,8 @@ take_slot-requires-clause-small c = grind (arith, elements)
 pub keep_slot-requires-clause-small : goal.keep_slot-requires-clause-small
 keep_slot-requires-clause-small c = grind (arith, elements)
 
-pub keep_slot-requires-clause-room : goal.keep_slot-requires-clause-room
-keep_slot-requires-clause-room c = grind (arith, elements)
+pub keep_slot-requires-clause-space : goal.keep_slot-requires-clause-space
+keep_slot-requires-clause-space c = grind (arith, elements)
 
 pub invariant_of-self : goal.invariant_of-self
 invariant_of-self c = grind (arith, elements)

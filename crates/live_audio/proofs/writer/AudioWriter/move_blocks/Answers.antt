@@ -12,4 +12,4 @@ returns-in_err-push-in-Ok-clause-failed g c =
 pub returns-in_ok-push-in-Ok-clause-moved : goal.returns-in_ok-push-in-Ok-clause-moved
 returns-in_ok-push-in-Ok-clause-moved g c = λ past moved.
     moved_more past _ _ c.args.self.now _ c.args.parts.now _ c.args.blocks c.pop_entire_slice.new.slice (c.pop_entire_slice.auto.slice ∙ c.requires.size) c.in-Ok.ensures.ok.0 refl refl refl
-    c.saturating_add-self.ensures c.requires.room c.in_ok-push-in-Ok.ensures.ok c.in_ok-push-in-Ok.ensures.counted refl refl refl moved
+    c.saturating_add-self.ensures c.requires.space c.in_ok-push-in-Ok.ensures.ok c.in_ok-push-in-Ok.ensures.counted refl refl refl moved

@@ -4,7 +4,7 @@ use Rattle.std.proofs.lemmas.Int.{to_z-of_z}
 use Rattle.std.proofs.lemmas.Option.{same_Some}
 use Rattle.rtrb.specs.Ring.{sent}
 use Rattle.studio_io.specs.Gains.{changes_in}
-use Rattle.status_page.specs.declared.control.DeskAnswer.TheVariants.{Answered}
+use Rattle.status_page.specs.declared.control.RequestOutcome.TheVariants.{Answered}
 use Rattle.live_gains.specs.GainChannel.{changes_sent}
 use Rattle.live_gains.specs.Planned.{AreKept, planned_after, planned_at}
 use Rattle.live_gains.specs.declared.messages.RequestMessage.{RequestMessage}

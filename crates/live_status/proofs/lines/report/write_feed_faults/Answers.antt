@@ -2,10 +2,10 @@ use Rattle.std.proofs.Common.{◌≡◌, [], Err, rules}
 use Rattle.studio_run.proofs.BufferLemmas.{PassesOn-grown, BreaksOff-longer}
 use Rattle.live_status.proofs.lines.report.write_feed_faults.Goals as goal
 
-pub returns-in_err-make_room-clause-fault : goal.returns-in_err-make_room-clause-fault
-returns-in_err-make_room-clause-fault g c =
-    let is : c.from_residual.result ≡ Err c.in_err-make_room.field-0.0 = search rules in
-    rw is (BreaksOff-longer _ _ _ [] _ c.in_err-make_room.ensures.fault)
+pub returns-in_err-make_space-clause-fault : goal.returns-in_err-make_space-clause-fault
+returns-in_err-make_space-clause-fault g c =
+    let is : c.from_residual.result ≡ Err c.in_err-make_space.field-0.0 = search rules in
+    rw is (BreaksOff-longer _ _ _ [] _ c.in_err-make_space.ensures.fault)
 
 pub returns-clause-ok : goal.returns-clause-ok
-returns-clause-ok g c = PassesOn-grown _ _ _ _ _ _ c.in_ok-make_room.ensures.ok c.push_feed_line.ensures
+returns-clause-ok g c = PassesOn-grown _ _ _ _ _ _ c.in_ok-make_space.ensures.ok c.push_feed_line.ensures

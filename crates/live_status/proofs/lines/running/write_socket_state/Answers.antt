@@ -3,12 +3,12 @@ use Rattle.live_status.specs.Lines.{socket_line}
 use Rattle.studio_run.proofs.BufferLemmas.{PassesOn-grown, BreaksOff-longer}
 use Rattle.live_status.proofs.lines.running.write_socket_state.Goals as goal
 
-pub returns-in_err-make_room-clause-fault : goal.returns-in_err-make_room-clause-fault
-returns-in_err-make_room-clause-fault g c =
-    let is : c.from_residual.result ≡ Err c.in_err-make_room.field-0.0 = search rules in
-    rw is (BreaksOff-longer _ _ _ [] _ c.in_err-make_room.ensures.fault)
+pub returns-in_err-make_space-clause-fault : goal.returns-in_err-make_space-clause-fault
+returns-in_err-make_space-clause-fault g c =
+    let is : c.from_residual.result ≡ Err c.in_err-make_space.field-0.0 = search rules in
+    rw is (BreaksOff-longer _ _ _ [] _ c.in_err-make_space.ensures.fault)
 
 pub returns-clause-ok : goal.returns-clause-ok
 returns-clause-ok g c =
-    let grown : c.push_socket_line.new.text ≡ c.make_room.new.self ++ socket_line c.args.stream c.args.path c.args.time c.args.socket.now = search rules in
-    PassesOn-grown _ _ _ _ _ _ c.in_ok-make_room.ensures.ok grown
+    let grown : c.push_socket_line.new.text ≡ c.make_space.new.self ++ socket_line c.args.stream c.args.path c.args.time c.args.socket.now = search rules in
+    PassesOn-grown _ _ _ _ _ _ c.in_ok-make_space.ensures.ok grown

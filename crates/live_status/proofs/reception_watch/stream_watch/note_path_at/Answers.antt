@@ -11,11 +11,11 @@ returns-in-Some c =
     let old = c.args.watch.now in
     let path = c.in-Some.path.now in
     let at : slice_get c.args.paths.now c.args.place ≡ Some path = sym (found-at c.args.paths.now c.args.place c.get.result c.get.ensures.lookup.1 c.get.ensures.lookup.3) ∙ ap option_copied c.in-Some.is in
-    let this : IsNoted c.args.now c.args.room c.args.begins path old new = subst (λ (now : ℤ). IsNoted now c.args.room c.args.begins path old new) (to_z-of_z w64 c.args.now c.ranges.now) c.note.ensures in
-    subst (λ (o : Option PathState). MatchOption o (new ≡ old) (λ p. IsNoted c.args.now c.args.room c.args.begins p old new)) (sym at) this
+    let this : IsNoted c.args.now c.args.window_span c.args.begins path old new = subst (λ (now : ℤ). IsNoted now c.args.window_span c.args.begins path old new) (to_z-of_z w64 c.args.now c.ranges.now) c.note.ensures in
+    subst (λ (o : Option PathState). MatchOption o (new ≡ old) (λ p. IsNoted c.args.now c.args.window_span c.args.begins p old new)) (sym at) this
 
 pub returns-in_default : goal.returns-in_default
 returns-in_default c =
     let old = c.args.watch.now in
     let at : slice_get c.args.paths.now c.args.place ≡ None = sym (found-at c.args.paths.now c.args.place c.get.result c.get.ensures.lookup.1 c.get.ensures.lookup.3) ∙ ap option_copied c.in_default.is in
-    subst (λ (o : Option PathState). MatchOption o (old ≡ old) (λ p. IsNoted c.args.now c.args.room c.args.begins p old old)) (sym at) refl
+    subst (λ (o : Option PathState). MatchOption o (old ≡ old) (λ p. IsNoted c.args.now c.args.window_span c.args.begins p old old)) (sym at) refl

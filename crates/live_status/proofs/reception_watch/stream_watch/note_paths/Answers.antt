@@ -8,8 +8,8 @@ use Rattle.live_status.proofs.reception_watch.stream_watch.note_paths.Goals as g
 
 pub returns : goal.returns
 returns c =
-    subst (λ (now : ℤ). AreEach (NotesPath now c.args.room c.args.begins c.args.paths.now) c.args.watches.now c.loop-place.watches) (to_z-of_z w64 c.args.now c.ranges.now)
-    (upto-all (NotesPath (to_z w64 (of_z w64 c.args.now)) c.args.room c.args.begins c.args.paths.now) c.loop-place.place c.args.watches.now c.loop-place.watches c.loop-place-test.false c.loop-place.invariant)
+    subst (λ (now : ℤ). AreEach (NotesPath now c.args.window_span c.args.begins c.args.paths.now) c.args.watches.now c.loop-place.watches) (to_z-of_z w64 c.args.now c.ranges.now)
+    (upto-all (NotesPath (to_z w64 (of_z w64 c.args.now)) c.args.window_span c.args.begins c.args.paths.now) c.loop-place.place c.args.watches.now c.loop-place.watches c.loop-place-test.false c.loop-place.invariant)
 
 pub loop-place-init : goal.loop-place-init
 loop-place-init c = grind (arith, elements)

@@ -1,9 +1,9 @@
 use Rattle.std.proofs.lemmas.Grind.{elements}
 use Rattle.std.proofs.Common.{◌≡◌, Some, ap, subst, sym, ◌∙◌, arith}
 use Rattle.rtp_stream.specs.Fate.{place_of}
-use Rattle.rtp_stream.specs.Grid.{in_room}
+use Rattle.rtp_stream.specs.Grid.{of_width}
 use Rattle.rtp_stream.specs.PacketRef.{packet_of}
-use Rattle.rtp_stream.specs.PathTrack.{is_slip_by, room_by, track_heard}
+use Rattle.rtp_stream.specs.FollowTrack.{is_slip_by, width_by, track_heard}
 use Rattle.rtp_stream.specs.Anchor.{is_source_wanted}
 use Rattle.path_merge.specs.MergeState.{MergeState}
 use Rattle.path_merge.specs.Steps.{epoch_media}
@@ -14,21 +14,21 @@ use Rattle.path_merge.proofs.merge.Merge.note_arrival.Goals as goal
 
 pub returns-then-is_either-clause-step : goal.returns-then-is_either-clause-step
 returns-then-is_either-clause-step g c =
-    let place : c.args.place.now ≡ place_of (in_room c.self.inside.spec (room_by c.self.inside.spec c.args.anchor (g.V.Window.base c.self.inside.window) c.self.inside.tracks)) c.args.anchor (g.V.Window.base c.self.inside.window) (packet_of c.args.packet.now) = subst (λ (m : MergeState). c.args.place.now ≡ place_of (in_room m.spec (room_by m.spec c.args.anchor m.base m.tracks)) c.args.anchor m.base (packet_of c.args.packet.now)) (sym c.self.view_is) c.requires.place in
-    let off = c.is_off_place-off.ensures (in_room c.self.inside.spec (room_by c.self.inside.spec c.args.anchor (g.V.Window.base c.self.inside.window) c.self.inside.tracks)) c.args.anchor (g.V.Window.base c.self.inside.window) (packet_of c.args.packet.now) place in
+    let place : c.args.place.now ≡ place_of (of_width c.self.inside.spec (width_by c.self.inside.spec c.args.anchor (g.V.Window.base c.self.inside.window) c.self.inside.tracks)) c.args.anchor (g.V.Window.base c.self.inside.window) (packet_of c.args.packet.now) = subst (λ (m : MergeState). c.args.place.now ≡ place_of (of_width m.spec (width_by m.spec c.args.anchor m.base m.tracks)) c.args.anchor m.base (packet_of c.args.packet.now)) (sym c.self.view_is) c.requires.place in
+    let off = c.is_off_place-off.ensures (of_width c.self.inside.spec (width_by c.self.inside.spec c.args.anchor (g.V.Window.base c.self.inside.window) c.self.inside.tracks)) c.args.anchor (g.V.Window.base c.self.inside.window) (packet_of c.args.packet.now) place in
     let heard = c.update_track-slips.ensures.heard ∙ ap (λ b. track_heard c.self.inside.spec c.args.anchor b c.self.inside.tracks c.args.path (packet_of c.args.packet.now)) c.base-next.ensures in
     rw (← c.self.view_is) (heard_step _ c.args.anchor c.args.path (packet_of c.args.packet.now) c.is_off_place-off.result c.update_probation-completes.new.probations c.update_track-slips.new.tracks off c.update_probation-completes.ensures.heard c.update_probation-completes.ensures.others heard c.update_track-slips.ensures.others)
 
 pub returns-else-is_either-clause-step : goal.returns-else-is_either-clause-step
 returns-else-is_either-clause-step g c =
-    let place : c.args.place.now ≡ place_of (in_room c.self.inside.spec (room_by c.self.inside.spec c.args.anchor (g.V.Window.base c.self.inside.window) c.self.inside.tracks)) c.args.anchor (g.V.Window.base c.self.inside.window) (packet_of c.args.packet.now) = subst (λ (m : MergeState). c.args.place.now ≡ place_of (in_room m.spec (room_by m.spec c.args.anchor m.base m.tracks)) c.args.anchor m.base (packet_of c.args.packet.now)) (sym c.self.view_is) c.requires.place in
-    let off = c.is_off_place-off.ensures (in_room c.self.inside.spec (room_by c.self.inside.spec c.args.anchor (g.V.Window.base c.self.inside.window) c.self.inside.tracks)) c.args.anchor (g.V.Window.base c.self.inside.window) (packet_of c.args.packet.now) place in
+    let place : c.args.place.now ≡ place_of (of_width c.self.inside.spec (width_by c.self.inside.spec c.args.anchor (g.V.Window.base c.self.inside.window) c.self.inside.tracks)) c.args.anchor (g.V.Window.base c.self.inside.window) (packet_of c.args.packet.now) = subst (λ (m : MergeState). c.args.place.now ≡ place_of (of_width m.spec (width_by m.spec c.args.anchor m.base m.tracks)) c.args.anchor m.base (packet_of c.args.packet.now)) (sym c.self.view_is) c.requires.place in
+    let off = c.is_off_place-off.ensures (of_width c.self.inside.spec (width_by c.self.inside.spec c.args.anchor (g.V.Window.base c.self.inside.window) c.self.inside.tracks)) c.args.anchor (g.V.Window.base c.self.inside.window) (packet_of c.args.packet.now) place in
     let heard = c.update_track-slips.ensures.heard ∙ ap (λ b. track_heard c.self.inside.spec c.args.anchor b c.self.inside.tracks c.args.path (packet_of c.args.packet.now)) c.base-next.ensures in
     rw (← c.self.view_is) (heard_step _ c.args.anchor c.args.path (packet_of c.args.packet.now) c.is_off_place-off.result c.update_probation-completes.new.probations c.update_track-slips.new.tracks off c.update_probation-completes.ensures.heard c.update_probation-completes.ensures.others heard c.update_track-slips.ensures.others)
 
 pub returns-then-is_either-clause-opening : goal.returns-then-is_either-clause-opening
 returns-then-is_either-clause-opening g c =
-    let off = c.is_off_place-off.ensures (in_room c.args.self.now.spec (room_by c.args.self.now.spec c.args.anchor c.args.self.now.base c.args.self.now.tracks)) c.args.anchor c.args.self.now.base (packet_of c.args.packet.now) c.requires.place in
+    let off = c.is_off_place-off.ensures (of_width c.args.self.now.spec (width_by c.args.self.now.spec c.args.anchor c.args.self.now.base c.args.self.now.tracks)) c.args.anchor c.args.self.now.base (packet_of c.args.packet.now) c.requires.place in
     let heard = subst (λ (m : MergeState). probation_at c.update_probation-completes.new.probations c.args.path ≡ probation_heard m.spec (probation_at m.probations c.args.path) c.is_off_place-off.result (packet_of c.args.packet.now)) c.self.view_is c.update_probation-completes.ensures.heard in
     let complete = subst (λ (m : MergeState). c.update_probation-completes.result ≡ (is_source_wanted m.spec.ssrc (packet_of c.args.packet.now).ssrc && is_complete (probation_at c.update_probation-completes.new.probations c.args.path))) c.self.view_is c.update_probation-completes.ensures.complete in
     let slip = subst (λ (m : MergeState). c.update_track-slips.result ≡ (is_source_wanted m.spec.ssrc (packet_of c.args.packet.now).ssrc && is_slip_by m.spec c.args.anchor m.base m.tracks c.args.path (packet_of c.args.packet.now))) c.self.view_is (c.update_track-slips.ensures.slip ∙ ap (λ b. is_source_wanted c.self.inside.spec.ssrc (packet_of c.args.packet.now).ssrc && is_slip_by c.self.inside.spec c.args.anchor b c.self.inside.tracks c.args.path (packet_of c.args.packet.now)) c.base-next.ensures) in
@@ -39,7 +39,7 @@ returns-then-is_either-clause-opening g c =
 
 pub returns-else-is_either-clause-opening : goal.returns-else-is_either-clause-opening
 returns-else-is_either-clause-opening g c =
-    let off = c.is_off_place-off.ensures (in_room c.args.self.now.spec (room_by c.args.self.now.spec c.args.anchor c.args.self.now.base c.args.self.now.tracks)) c.args.anchor c.args.self.now.base (packet_of c.args.packet.now) c.requires.place in
+    let off = c.is_off_place-off.ensures (of_width c.args.self.now.spec (width_by c.args.self.now.spec c.args.anchor c.args.self.now.base c.args.self.now.tracks)) c.args.anchor c.args.self.now.base (packet_of c.args.packet.now) c.requires.place in
     let heard = subst (λ (m : MergeState). probation_at c.update_probation-completes.new.probations c.args.path ≡ probation_heard m.spec (probation_at m.probations c.args.path) c.is_off_place-off.result (packet_of c.args.packet.now)) c.self.view_is c.update_probation-completes.ensures.heard in
     let complete = subst (λ (m : MergeState). c.update_probation-completes.result ≡ (is_source_wanted m.spec.ssrc (packet_of c.args.packet.now).ssrc && is_complete (probation_at c.update_probation-completes.new.probations c.args.path))) c.self.view_is c.update_probation-completes.ensures.complete in
     let slip = subst (λ (m : MergeState). c.update_track-slips.result ≡ (is_source_wanted m.spec.ssrc (packet_of c.args.packet.now).ssrc && is_slip_by m.spec c.args.anchor m.base m.tracks c.args.path (packet_of c.args.packet.now))) c.self.view_is (c.update_track-slips.ensures.slip ∙ ap (λ b. is_source_wanted c.self.inside.spec.ssrc (packet_of c.args.packet.now).ssrc && is_slip_by c.self.inside.spec c.args.anchor b c.self.inside.tracks c.args.path (packet_of c.args.packet.now)) c.base-next.ensures) in

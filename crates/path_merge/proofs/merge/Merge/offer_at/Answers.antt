@@ -6,9 +6,9 @@ use Rattle.rtp_stream.specs.Anchor.{is_restart_in_reach, media_time_of, restart_
 use Rattle.path_merge.specs.MergeState.{IsSound, MergeState}
 use Rattle.path_merge.specs.Steps.{IsHeardStep, IsPlaced, IsPutStep, IsRestartStep}
 use Rattle.rtp_stream.specs.Fate.{place_of}
-use Rattle.rtp_stream.specs.Grid.{in_room}
-use Rattle.rtp_stream.specs.PathTrack.{room_by}
-use Rattle.path_merge.proofs.HeardLemmas.{room_few}
+use Rattle.rtp_stream.specs.Grid.{of_width}
+use Rattle.rtp_stream.specs.FollowTrack.{width_by}
+use Rattle.path_merge.proofs.HeardLemmas.{width_few}
 use Rattle.path_merge.specs.Window.{IsEmpty}
 use Rattle.rtp_stream.specs.declared.fate.Fate.TheVariants.{Restarted}
 use Rattle.path_merge.proofs.OpeningLemmas.{Opens, nothing_held, opening_is}
@@ -39,18 +39,18 @@ returns-in-Some-clause-restart g c = λ opens.
 
 pub put_or_refuse-requires-clause-place : goal.put_or_refuse-requires-clause-place
 put_or_refuse-requires-clause-place g c =
-    let placed : IsPlaced c.args.self.now.spec c.args.anchor c.args.self.now.base (packet_of c.args.packet.now) c.args.place = record { room = room_by c.args.self.now.spec c.args.anchor c.args.self.now.base c.args.self.now.tracks; within = room_few c.args.self.now.spec c.args.anchor c.args.self.now.base c.args.self.now.tracks; is = c.requires.place } in
+    let placed : IsPlaced c.args.self.now.spec c.args.anchor c.args.self.now.base (packet_of c.args.packet.now) c.args.place = record { width = width_by c.args.self.now.spec c.args.anchor c.args.self.now.base c.args.self.now.tracks; within = width_few c.args.self.now.spec c.args.anchor c.args.self.now.base c.args.self.now.tracks; is = c.requires.place } in
     subst (λ (m : MergeState). IsPlaced m.spec c.args.anchor m.base (packet_of c.args.packet.now) c.args.place) (sym c.note_arrival.ensures.step.changed) placed
 
 pub returns-in-None-clause-next : goal.returns-in-None-clause-next
 returns-in-None-clause-next g c = λ stays.
     let changed = c.note_arrival.ensures.step.changed in
-    let place : c.args.place ≡ place_of (in_room c.note_arrival.new.self.spec (room_by c.args.self.now.spec c.args.anchor c.args.self.now.base c.args.self.now.tracks)) c.args.anchor c.note_arrival.new.self.base (packet_of c.args.packet.now) = subst (λ (m : MergeState). c.args.place ≡ place_of (in_room m.spec (room_by c.args.self.now.spec c.args.anchor c.args.self.now.base c.args.self.now.tracks)) c.args.anchor m.base (packet_of c.args.packet.now)) (sym changed) c.requires.place in
+    let place : c.args.place ≡ place_of (of_width c.note_arrival.new.self.spec (width_by c.args.self.now.spec c.args.anchor c.args.self.now.base c.args.self.now.tracks)) c.args.anchor c.note_arrival.new.self.base (packet_of c.args.packet.now) = subst (λ (m : MergeState). c.args.place ≡ place_of (of_width m.spec (width_by c.args.self.now.spec c.args.anchor c.args.self.now.base c.args.self.now.tracks)) c.args.anchor m.base (packet_of c.args.packet.now)) (sym changed) c.requires.place in
     record {
       heard = c.note_arrival.new.self.probations;
       noted = c.note_arrival.new.self.tracks;
       hears = subst (λ (m : MergeState). IsHeardStep c.args.self.now m c.args.anchor c.args.path (packet_of c.args.packet.now)) changed c.note_arrival.ensures.step;
-      puts = subst (λ (m : MergeState). IsPutStep m.spec (room_by c.args.self.now.spec c.args.anchor c.args.self.now.base c.args.self.now.tracks) m c.put_or_refuse.new.self c.args.anchor c.args.path (packet_of c.args.packet.now) c.put_or_refuse.result) changed (c.put_or_refuse.ensures (room_by c.args.self.now.spec c.args.anchor c.args.self.now.base c.args.self.now.tracks) place);
+      puts = subst (λ (m : MergeState). IsPutStep m.spec (width_by c.args.self.now.spec c.args.anchor c.args.self.now.base c.args.self.now.tracks) m c.put_or_refuse.new.self c.args.anchor c.args.path (packet_of c.args.packet.now) c.put_or_refuse.result) changed (c.put_or_refuse.ensures (width_by c.args.self.now.spec c.args.anchor c.args.self.now.base c.args.self.now.tracks) place);
     }
 
 pub restart-requires-clause-fits : goal.restart-requires-clause-fits
@@ -59,8 +59,8 @@ restart-requires-clause-fits c = grind (arith, elements)
 pub put_or_refuse-requires-clause-fits : goal.put_or_refuse-requires-clause-fits
 put_or_refuse-requires-clause-fits c = grind (arith, elements)
 
-pub restart-requires-clause-room : goal.restart-requires-clause-room
-restart-requires-clause-room c = grind (arith, elements)
+pub restart-requires-clause-space : goal.restart-requires-clause-space
+restart-requires-clause-space c = grind (arith, elements)
 
 pub restart-requires-clause-few_epochs : goal.restart-requires-clause-few_epochs
 restart-requires-clause-few_epochs c = grind (arith, elements)
@@ -68,8 +68,8 @@ restart-requires-clause-few_epochs c = grind (arith, elements)
 pub returns-in-Some-clause-next : goal.returns-in-Some-clause-next
 returns-in-Some-clause-next c = grind (arith, elements)
 
-pub put_or_refuse-requires-clause-room : goal.put_or_refuse-requires-clause-room
-put_or_refuse-requires-clause-room c = grind (arith, elements)
+pub put_or_refuse-requires-clause-space : goal.put_or_refuse-requires-clause-space
+put_or_refuse-requires-clause-space c = grind (arith, elements)
 
 pub returns-in-None-clause-restart : goal.returns-in-None-clause-restart
 returns-in-None-clause-restart c = grind (arith, elements)

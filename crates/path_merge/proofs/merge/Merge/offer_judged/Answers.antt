@@ -3,8 +3,8 @@ use Rattle.std.proofs.Common.{arith, ap, sym, ◌∙◌, rules}
 use Rattle.std.proofs.lemmas.Int.{ints}
 use Rattle.rtp_stream.specs.PacketRef.{packet_of}
 use Rattle.rtp_stream.specs.Fate.{place_of}
-use Rattle.rtp_stream.specs.Grid.{in_room}
-use Rattle.rtp_stream.specs.PathTrack.{room_by}
+use Rattle.rtp_stream.specs.Grid.{of_width}
+use Rattle.rtp_stream.specs.FollowTrack.{width_by}
 use Rattle.path_merge.specs.MergeState.{MergeState}
 use Rattle.path_merge.proofs.SoundLemmas.{anchored_at, base_small, due_times, media_small}
 use Rattle.path_merge.proofs.merge.Merge.offer_judged.Goals as goal
@@ -32,12 +32,12 @@ place_of-requires-clause-media_high g c =
     let t = due_times _ c.self.inside.next_media c.args.anchor c.self.invariant is_a open_yet in
     omega (arith, ints, t.media_low, t.media_high)
 
-pub place_of-requires-clause-room : goal.place_of-requires-clause-room
-place_of-requires-clause-room g c = omega (arith, c.room_of-room.ensures.few, c.self.invariant.spec_ok.narrow)
+pub place_of-requires-clause-space : goal.place_of-requires-clause-space
+place_of-requires-clause-space g c = omega (arith, c.width_of-width.ensures.few, c.self.invariant.spec_ok.narrow)
 
 pub offer_at-requires-clause-place : goal.offer_at-requires-clause-place
 offer_at-requires-clause-place g c =
-    sym (c.in-Ok.is) ∙ c.place_of.ensures ∙ ap (λ r. place_of (in_room c.self.inside.spec r) c.args.anchor c.base-next.result (packet_of c.args.packet.now)) c.room_of-room.ensures.value ∙ ap (λ b. place_of (in_room c.self.inside.spec (room_by c.self.inside.spec c.args.anchor b c.self.inside.tracks)) c.args.anchor b (packet_of c.args.packet.now)) c.base-next.ensures ∙ ap (λ (m : MergeState). place_of (in_room m.spec (room_by m.spec c.args.anchor m.base m.tracks)) c.args.anchor m.base (packet_of c.args.packet.now)) c.self.view_is
+    sym (c.in-Ok.is) ∙ c.place_of.ensures ∙ ap (λ r. place_of (of_width c.self.inside.spec r) c.args.anchor c.base-next.result (packet_of c.args.packet.now)) c.width_of-width.ensures.value ∙ ap (λ b. place_of (of_width c.self.inside.spec (width_by c.self.inside.spec c.args.anchor b c.self.inside.tracks)) c.args.anchor b (packet_of c.args.packet.now)) c.base-next.ensures ∙ ap (λ (m : MergeState). place_of (of_width m.spec (width_by m.spec c.args.anchor m.base m.tracks)) c.args.anchor m.base (packet_of c.args.packet.now)) c.self.view_is
 
 pub returns-in-Err-clause-next : goal.returns-in-Err-clause-next
 returns-in-Err-clause-next g c = c.offer_elsewhere.ensures.next c.args.anchor c.requires.anchored
@@ -54,8 +54,8 @@ offer_at-requires-clause-anchored g c = search rules
 pub offer_at-requires-clause-open_yet : goal.offer_at-requires-clause-open_yet
 offer_at-requires-clause-open_yet g c = search rules
 
-pub offer_at-requires-clause-room : goal.offer_at-requires-clause-room
-offer_at-requires-clause-room g c = search rules
+pub offer_at-requires-clause-space : goal.offer_at-requires-clause-space
+offer_at-requires-clause-space g c = search rules
 
 pub offer_at-requires-clause-fits : goal.offer_at-requires-clause-fits
 offer_at-requires-clause-fits g c = search rules
@@ -63,8 +63,8 @@ offer_at-requires-clause-fits g c = search rules
 pub offer_elsewhere-requires-clause-open_yet : goal.offer_elsewhere-requires-clause-open_yet
 offer_elsewhere-requires-clause-open_yet g c = search rules
 
-pub offer_elsewhere-requires-clause-room : goal.offer_elsewhere-requires-clause-room
-offer_elsewhere-requires-clause-room g c = search rules
+pub offer_elsewhere-requires-clause-space : goal.offer_elsewhere-requires-clause-space
+offer_elsewhere-requires-clause-space g c = search rules
 
 pub offer_elsewhere-requires-clause-fits : goal.offer_elsewhere-requires-clause-fits
 offer_elsewhere-requires-clause-fits g c = search rules

@@ -3,7 +3,7 @@ use Rattle.std.proofs.Common.{◌≡◌, false, arith, ap, subst, sym, ◌∙◌
 use Rattle.std.proofs.lemmas.Int.{ints}
 use Rattle.rtp_stream.specs.PacketRef.{packet_of}
 use Rattle.rtp_stream.specs.Probation.{is_off}
-use Rattle.rtp_stream.specs.Standing.{is_following}
+use Rattle.rtp_stream.specs.Follow.{is_following}
 use Rattle.path_merge.specs.MergeState.{MergeState}
 use Rattle.path_merge.specs.Steps.{opens_epoch}
 use Rattle.path_merge.proofs.InStepLemmas.{in_step_stays, placed_in_step}

@@ -24,17 +24,17 @@ returns-in-Some-clause-stands g c = λ stream open_at events k at.
     let ts : (packet_of c.args.packet).ts < 2 ^ 32 = search rules in
     let sound : IsSound c.args.self.now c.self.inside.next_media = subst (λ m. IsSound m c.self.inside.next_media) c.self.view_is c.self.invariant in
     let open_yet : c.args.self.now.closed ≡ false = ap (λ (m : MergeState). m.closed) (sym c.self.view_is) ∙ c.if-self.false in
-    let room : c.args.self.now.counts.arrived < 2 ^ 62 = omega (arith, ap (λ (m : MergeState). m.counts.arrived) c.self.view_is, c.if-self-eq-MAX_ARRIVALS.false, sound.few_arrived) in
+    let space : c.args.self.now.counts.arrived < 2 ^ 62 = omega (arith, ap (λ (m : MergeState). m.counts.arrived) c.self.view_is, c.if-self-eq-MAX_ARRIVALS.false, sound.few_arrived) in
     let is_a : c.args.self.now.anchor ≡ Some c.in-Some.anchor = ap (λ (m : MergeState). m.anchor) (sym c.self.view_is) ∙ c.in-Some.is in
-    offers_anchored c.args.self.now c.offer_next.new.self c.in-Some.anchor c.args.path (packet_of c.args.packet) c.offer_next.result c.offer_next.ensures.next c.offer_next.ensures.restart stream open_at c.self.inside.next_media sound open_yet events k at room is_a (paths_few c.args.self.now c.self.inside.next_media sound c.args.path c.requires.path) seq ts
+    offers_anchored c.args.self.now c.offer_next.new.self c.in-Some.anchor c.args.path (packet_of c.args.packet) c.offer_next.result c.offer_next.ensures.next c.offer_next.ensures.restart stream open_at c.self.inside.next_media sound open_yet events k at space is_a (paths_few c.args.self.now c.self.inside.next_media sound c.args.path c.requires.path) seq ts
 
 pub returns-in-None-clause-stands : goal.returns-in-None-clause-stands
 returns-in-None-clause-stands g c = λ stream open_at events k at.
     let sound : IsSound c.args.self.now c.self.inside.next_media = subst (λ m. IsSound m c.self.inside.next_media) c.self.view_is c.self.invariant in
     let open_yet : c.args.self.now.closed ≡ false = ap (λ (m : MergeState). m.closed) (sym c.self.view_is) ∙ c.if-self.false in
-    let room : c.args.self.now.counts.arrived < 2 ^ 62 = omega (arith, ap (λ (m : MergeState). m.counts.arrived) c.self.view_is, c.if-self-eq-MAX_ARRIVALS.false, sound.few_arrived) in
+    let space : c.args.self.now.counts.arrived < 2 ^ 62 = omega (arith, ap (λ (m : MergeState). m.counts.arrived) c.self.view_is, c.if-self-eq-MAX_ARRIVALS.false, sound.few_arrived) in
     let is_none : c.args.self.now.anchor ≡ None = ap (λ (m : MergeState). m.anchor) (sym c.self.view_is) ∙ c.in-None.is in
-    offers_first stream open_at c.args.self.now c.self.inside.next_media sound open_yet events k at is_none room c.args.path (packet_of c.args.packet) (paths_few c.args.self.now c.self.inside.next_media sound c.args.path c.requires.path) c.offer_first.ensures.seq c.offer_first.ensures.ts c.offer_first.new.self c.offer_first.result c.offer_first.ensures.step
+    offers_first stream open_at c.args.self.now c.self.inside.next_media sound open_yet events k at is_none space c.args.path (packet_of c.args.packet) (paths_few c.args.self.now c.self.inside.next_media sound c.args.path c.requires.path) c.offer_first.ensures.seq c.offer_first.ensures.ts c.offer_first.new.self c.offer_first.result c.offer_first.ensures.step
 
 pub returns-in-Some-clause-refused : goal.returns-in-Some-clause-refused
 returns-in-Some-clause-refused g c = refused_anchored c.args.self.now c.offer_next.new.self c.in-Some.anchor c.args.path (packet_of c.args.packet) c.offer_next.result c.offer_next.ensures.next c.offer_next.ensures.restart
@@ -75,8 +75,8 @@ offer_next-requires-clause-anchored g c = search rules
 pub offer_next-requires-clause-open_yet : goal.offer_next-requires-clause-open_yet
 offer_next-requires-clause-open_yet g c = search rules
 
-pub offer_next-requires-clause-room : goal.offer_next-requires-clause-room
-offer_next-requires-clause-room g c = search rules
+pub offer_next-requires-clause-space : goal.offer_next-requires-clause-space
+offer_next-requires-clause-space g c = search rules
 
 pub offer_next-requires-clause-fits : goal.offer_next-requires-clause-fits
 offer_next-requires-clause-fits g c = search rules
@@ -87,8 +87,8 @@ offer_first-requires-clause-unanchored g c = search rules
 pub offer_first-requires-clause-open_yet : goal.offer_first-requires-clause-open_yet
 offer_first-requires-clause-open_yet g c = search rules
 
-pub offer_first-requires-clause-room : goal.offer_first-requires-clause-room
-offer_first-requires-clause-room g c = search rules
+pub offer_first-requires-clause-space : goal.offer_first-requires-clause-space
+offer_first-requires-clause-space g c = search rules
 
 pub offer_first-requires-clause-fits : goal.offer_first-requires-clause-fits
 offer_first-requires-clause-fits g c = search rules

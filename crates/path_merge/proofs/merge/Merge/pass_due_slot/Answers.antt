@@ -1,7 +1,7 @@
 use Rattle.std.proofs.Common.{arith, ap, ◌∙◌}
 use Rattle.std.proofs.lemmas.Int.{ints}
 use Rattle.path_merge.specs.MergeState.{MergeState}
-use Rattle.path_merge.proofs.SoundLemmas.{base_small, few_lost, room_for_got, due_times, sound_slot_is}
+use Rattle.path_merge.proofs.SoundLemmas.{base_small, few_lost, space_for_got, due_times, sound_slot_is}
 use Rattle.path_merge.proofs.StepLemmas.{slot_step_is}
 use Rattle.path_merge.proofs.merge.Merge.pass_due_slot.Goals as goal
 
@@ -32,7 +32,7 @@ drop_slot-requires-clause-number g c =
 pub drop_slot-requires-clause-held : goal.drop_slot-requires-clause-held
 drop_slot-requires-clause-held g c =
     let is_a = ap (λ (m : MergeState). m.anchor) c.self.view_is ∙ c.requires.anchored in
-    λ got. room_for_got _ c.self.inside.next_media c.args.anchor c.self.invariant is_a got
+    λ got. space_for_got _ c.self.inside.next_media c.args.anchor c.self.invariant is_a got
 
 pub invariant_of-self : goal.invariant_of-self
 invariant_of-self g c =

@@ -2,7 +2,7 @@ use Rattle.std.proofs.Common.{arith, ap, sym, subst, refl, ◌∙◌}
 use Rattle.std.proofs.lemmas.Int.{ints}
 use Rattle.path_merge.specs.MergeState.{MergeState}
 use Rattle.path_merge.specs.Steps.{HoldsMore}
-use Rattle.path_merge.proofs.SoundLemmas.{base_small, few_lost, media_small, room_for_got, sound_left_is}
+use Rattle.path_merge.proofs.SoundLemmas.{base_small, few_lost, media_small, space_for_got, sound_left_is}
 use Rattle.path_merge.proofs.merge.Merge.pass_slot_left.Goals as goal
 
 pub overflow_add-self : goal.overflow_add-self
@@ -37,7 +37,7 @@ invariant_of-self g c =
 pub drop_slot-requires-clause-held : goal.drop_slot-requires-clause-held
 drop_slot-requires-clause-held g c =
     let is_a = ap (λ (m : MergeState). m.anchor) c.self.view_is ∙ c.requires.anchored in
-    λ got. room_for_got _ c.self.inside.next_media c.args.anchor c.self.invariant is_a got
+    λ got. space_for_got _ c.self.inside.next_media c.args.anchor c.self.invariant is_a got
 
 pub returns : goal.returns
 returns g c =

@@ -19,7 +19,7 @@ pub invariant_of-self : goal.invariant_of-self
 invariant_of-self g c =
     let is_a = ap (λ (m : MergeState). m.anchor) c.self.view_is ∙ c.requires.anchored in
     let open_yet = ap (λ (m : MergeState). m.closed) c.self.view_is ∙ c.requires.open_yet in
-    let room = subst (λ (m : MergeState). m.counts.arrived < 2 ^ 62) (sym c.self.view_is) c.requires.room in
+    let space = subst (λ (m : MergeState). m.counts.arrived < 2 ^ 62) (sym c.self.view_is) c.requires.space in
     let fits = subst (λ (m : MergeState). Fits m.spec (packet_of c.args.packet.now)) (sym c.self.view_is) c.requires.fits in
     let none_held = subst (λ (m : MergeState). IsEmpty m.held) (sym c.self.view_is) c.requires.nothing_held in
     let an = anchored_at _ c.self.inside.next_media c.self.inside.anchor c.args.anchor is_a c.self.invariant.anchored in
@@ -28,7 +28,7 @@ invariant_of-self g c =
     let there : is_restart_in_reach c.self.inside.spec c.self.inside.time c.self.inside.next_media (to_z w64 (of_z w64 c.args.media)) ≡ true = ap (λ z. is_restart_in_reach c.self.inside.spec c.self.inside.time z (to_z w64 (of_z w64 c.args.media))) an.media_is ∙ ap (is_restart_in_reach c.self.inside.spec c.self.inside.time (media_time_of c.self.inside.spec c.args.anchor (g.V.Window.base c.self.inside.window))) media_is ∙ goes in
     let number : c.following-next.result.number ≡ 65536 + (packet_of c.args.packet.now).seq = ap (λ (a : Anchor). a.number) c.following-next.ensures.value in
     let put = first_put (packet_of c.args.packet.now) c.following-next.result.number (g.V.Window.held c.begin_at.new.self) (g.V.Window.held c.put_ref.new.self) c.put_ref.result number c.begin_at.ensures.held c.put_ref.ensures.answer c.put_ref.ensures.held in
-    sound_restart _ c.self.inside.next_media (to_z w64 (of_z w64 c.args.media)) c.args.path (packet_of c.args.packet.now) c.args.anchor c.following-next.result (g.V.Window.held c.begin_at.new.self) _ _ _ _ _ _ c.self.invariant is_a open_yet room fits c.following-next.ensures.seq c.following-next.ensures.timestamp none_held (in_reach c.self.inside.spec c.self.inside.time c.self.inside.next_media (to_z w64 (of_z w64 c.args.media)) there) c.following-next.ensures.value c.begin_at.ensures.held put (c.put_ref.ensures.base ∙ c.begin_at.ensures.base ∙ number) (c.put_ref.ensures.size ∙ c.begin_at.ensures.size) c.add_fate.ensures
+    sound_restart _ c.self.inside.next_media (to_z w64 (of_z w64 c.args.media)) c.args.path (packet_of c.args.packet.now) c.args.anchor c.following-next.result (g.V.Window.held c.begin_at.new.self) _ _ _ _ _ _ c.self.invariant is_a open_yet space fits c.following-next.ensures.seq c.following-next.ensures.timestamp none_held (in_reach c.self.inside.spec c.self.inside.time c.self.inside.next_media (to_z w64 (of_z w64 c.args.media)) there) c.following-next.ensures.value c.begin_at.ensures.held put (c.put_ref.ensures.base ∙ c.begin_at.ensures.base ∙ number) (c.put_ref.ensures.size ∙ c.begin_at.ensures.size) c.add_fate.ensures
 
 pub returns : goal.returns
 returns g c =

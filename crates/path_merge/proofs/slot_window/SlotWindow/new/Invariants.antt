@@ -4,5 +4,5 @@ use Rattle.path_merge.proofs.slot_window.SlotWindow.new.Given as goal
 abbrev pub invariant-loop : goal.invariant-loop
 invariant-loop l = record {
   empty : l.slots.items ≡ replicate l.counter None;
-  room : l.width ≤ vec_capacity l.slots;
+  space : l.width ≤ vec_capacity l.slots;
 }

@@ -10,7 +10,7 @@ pub invariant_of-self : goal.invariant_of-self
 invariant_of-self c =
     record {
       within = none_so_empty c.self.inside.packets.items c.args.number (c.args.number + c.self.inside.size) (λ n. sym (get_entries _ n) ∙ ap (λ (h : SortedPackets). get (from_entries {R = nat_cmp} h.packets) n) c.self.view_is ∙ c.requires.empty n);
-      room = c.self.invariant.room;
+      space = c.self.invariant.space;
       small = omega (arith, c.requires.small);
       narrow = c.self.invariant.narrow;
     }

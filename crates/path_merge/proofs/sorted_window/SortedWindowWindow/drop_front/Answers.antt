@@ -18,7 +18,7 @@ invariant_of-self c =
     let base = ap (λ (h : SortedPackets). h.base) c.self.view_is in
     record {
       within = rw (add-one, c.remove-first.ensures.items) (higher _ _ _ _ (taken c).1 (omega arith));
-      room = rw c.remove-first.ensures.capacity c.self.invariant.room;
+      space = rw c.remove-first.ensures.capacity c.self.invariant.space;
       small = omega (arith, c.requires);
       narrow = c.self.invariant.narrow;
     }
@@ -28,7 +28,7 @@ invariant_of-self-else-starts_with c =
     let base = ap (λ (h : SortedPackets). h.base) c.self.view_is in
     record {
       within = rw add-one (higher _ _ _ _ (absent (goal.at.invariant_of-self-else-starts_with c).Else-starts_with).1 (omega arith));
-      room = c.self.invariant.room;
+      space = c.self.invariant.space;
       small = omega (arith, c.requires);
       narrow = c.self.invariant.narrow;
     }

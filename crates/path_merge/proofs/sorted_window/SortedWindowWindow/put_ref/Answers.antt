@@ -19,16 +19,16 @@ is_put c =
     let size = ap (λ (h : SortedPackets). h.size) c.self.view_is in
     put_in_gap _ _ _ _ _ _ c.self.invariant.within (omega (arith, c.requires.not_below)) (omega (arith, c.requires.below)) (rw c.deref.ensures.value at c.in-Err.ensures.absent)
 
--- there is room, so it succeeds
+-- there is space, so it succeeds
 new_items : (c : After-insert) → c.insert.new.self.items ≡ insert c.self.inside.packets.items c.in-Err.at (c.args.number, (packet_of c.args.packet))
 new_items c =
-    let ok : IsOk c.insert.result = c.insert.ensures.succeeds (omega (arith, (is_put c).room, c.self.invariant.room, c.self.inside.packets.ok.0)) in
+    let ok : IsOk c.insert.result = c.insert.ensures.succeeds (omega (arith, (is_put c).space, c.self.invariant.space, c.self.inside.packets.ok.0)) in
     grind (arith, c.insert.ensures.items, ok)
 
 pub invariant_of-self : goal.invariant_of-self
 invariant_of-self c = record {
   within = rw (new_items c) (is_put c).within;
-  room = omega (arith, c.insert.ensures.capacity, c.self.invariant.room);
+  space = omega (arith, c.insert.ensures.capacity, c.self.invariant.space);
   small = c.self.invariant.small;
   narrow = c.self.invariant.narrow;
 }

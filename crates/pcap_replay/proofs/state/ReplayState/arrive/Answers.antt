@@ -13,7 +13,7 @@ returns-in-Ok-clause-ok g c = λ studio events written then begun r.
     record {
       datagrams = r.datagrams;
       session = subst (λ e. HasSession studio c.arrive.new.self (events ++ e ∷ []) r.datagrams) same (c.in-Ok.ensures.stands studio events r.datagrams r.session);
-      rested = c.in-Ok.ensures.turning ∙ r.rested;
+      idle = c.in-Ok.ensures.turning ∙ r.idle;
       open_yet = closed_more false events event ∙ r.open_yet;
       wrote = r.wrote;
       told = subst (λ e. g.L.ReplayObserver.heard begun c.arrived.new.self (events ++ e ∷ []) r.datagrams) same (c.arrived.ensures.heard begun events r.datagrams r.told);

@@ -20,7 +20,7 @@ returns-clause-ok g c = λ studio events written begun r.
       datagrams = r.datagrams ++ gives.more;
       session = subst (λ l. HasSession studio c.write_turn.new.engine l (r.datagrams ++ gives.more))
           (turned_alike engine.time (to_z w64 (of_z w64 c.in-Some.now)) (time_at studio.open_at events) (pos (c.args.from + c.args.reading)) events r.session.time reading) gives.stands;
-      rested = c.in_ok-write_turn.ensures.rested studio events r.datagrams r.session fine;
+      idle = c.in_ok-write_turn.ensures.idle studio events r.datagrams r.session fine;
       open_yet = open_turned (time_at studio.open_at events) (pos (c.args.from + c.args.reading)) events r.open_yet;
       wrote = wrote_more _ _ _ _ _ r.datagrams gives.more r.wrote gives.wrote;
       told = subst (λ l. g.L.ReplayObserver.heard begun c.report_reading.new.observer l (r.datagrams ++ gives.more))

@@ -16,8 +16,8 @@ returns-clause-mixes c = λ studio number h.
 
 pub returns-clause-given : goal.returns-clause-given
 returns-clause-given c = λ studio datagrams h.
-    given-turn studio c.args.self.now _ _ datagrams _ _ c.next_block-len.auto.out c.requires.room c.take_streams-taken.ensures.took.all (returns-clause-mixes c studio (length datagrams) h.feeds) h
+    given-turn studio c.args.self.now _ _ datagrams _ _ c.next_block-len.auto.out c.requires.space c.take_streams-taken.ensures.took.all (returns-clause-mixes c studio (length datagrams) h.feeds) h
 
 pub returns-clause-all : goal.returns-clause-all
 returns-clause-all c none = λ studio datagrams h.
-    given-all studio c.args.self.now _ _ datagrams _ _ c.next_block-len.auto.out c.requires.room c.take_streams-taken.ensures.took.all (returns-clause-mixes c studio (length datagrams) h.feeds) none h
+    given-all studio c.args.self.now _ _ datagrams _ _ c.next_block-len.auto.out c.requires.space c.take_streams-taken.ensures.took.all (returns-clause-mixes c studio (length datagrams) h.feeds) none h

@@ -13,7 +13,7 @@ use Rattle.studio_ends.proofs.mix_end.marks_in.feed_if_accepted.Given.{Over}
 -- the test was made for the mark that is in the cell
 asked : (g : Over) (c : After-accepts_ref g) (studio : Studio) (feeds : List Feed) (number : ℕ) (feed : Feed)
     → HasFeeds studio c.args.mixer.now feeds number → slice_get feeds c.args.stream ≡ Some feed
-    → c.accepts_ref.result ≡ is_mark_list (format_of feed.stream) (feed.marks ++ c.args.room.now ∷ [])
+    → c.accepts_ref.result ≡ is_mark_list (format_of feed.stream) (feed.marks ++ c.args.cell.now ∷ [])
 asked g c studio feeds number feed h is =
     subst (λ (m : MarkView). c.accepts_ref.result ≡ is_mark_list (format_of feed.stream) (feed.marks ++ m ∷ [])) c.as_ref-mark.ensures (c.accepts_ref.ensures.stands studio feeds number feed h is)
 

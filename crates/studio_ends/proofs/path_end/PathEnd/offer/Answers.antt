@@ -13,7 +13,7 @@ received_is : (c : goal.After-push) → reception_from c.receive_ref-reception.r
 received_is c = ap reception_from c.in-Sent.is
 
 pushed : (c : goal.After-push) → sent c.push.new.self ≡ sent c.args.self.now.ring ++ packet_of c.in-Sent.packet ∷ []
-pushed c = c.push.ensures.sent ∙ ap (λ l. l ++ packet_of c.in-Sent.packet ∷ []) c.lacks_room.ensures.ring.1
+pushed c = c.push.ensures.sent ∙ ap (λ l. l ++ packet_of c.in-Sent.packet ∷ []) c.lacks_space.ensures.ring.1
 
 pub invariant_of-self-in-Sent-clause-all_counted : goal.invariant_of-self-in-Sent-clause-all_counted
 invariant_of-self-in-Sent-clause-all_counted c =
@@ -30,11 +30,11 @@ invariant_of-self-in-Sent-clause-all_fit c =
     let fits = subst (FitsReception p.spec) (received_is c) c.receive_ref-reception.ensures.fits in
     fitting-more p.spec (sent p.ring) (sent c.push.new.self) (packet_of c.in-Sent.packet) (pushed c) p.all_fit fits
 
-pub push-requires-clause-roomy : goal.push-requires-clause-roomy
-push-requires-clause-roomy c = grind (arith, elements)
+pub push-requires-clause-cells : goal.push-requires-clause-cells
+push-requires-clause-cells c = grind (arith, elements)
 
-pub returns-then-lacks_room-clause-answer : goal.returns-then-lacks_room-clause-answer
-returns-then-lacks_room-clause-answer c = grind (arith, elements)
+pub returns-then-lacks_space-clause-answer : goal.returns-then-lacks_space-clause-answer
+returns-then-lacks_space-clause-answer c = grind (arith, elements)
 
 pub push-requires-clause-free : goal.push-requires-clause-free
 push-requires-clause-free c = grind (arith, elements)
@@ -42,8 +42,8 @@ push-requires-clause-free c = grind (arith, elements)
 pub invariant_of-self-in-Sent-clause-few : goal.invariant_of-self-in-Sent-clause-few
 invariant_of-self-in-Sent-clause-few c = grind (arith, elements)
 
-pub returns-then-lacks_room-clause-known : goal.returns-then-lacks_room-clause-known
-returns-then-lacks_room-clause-known c = grind (arith, elements)
+pub returns-then-lacks_space-clause-known : goal.returns-then-lacks_space-clause-known
+returns-then-lacks_space-clause-known c = grind (arith, elements)
 
 pub returns-in-Sent-clause-answer : goal.returns-in-Sent-clause-answer
 returns-in-Sent-clause-answer c = grind (arith, elements)

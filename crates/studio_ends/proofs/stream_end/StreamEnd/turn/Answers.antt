@@ -9,8 +9,8 @@ returns-clause-turned c =
     let z : to_z w64 (of_z w64 c.args.now) ≡ c.args.now = search rules in
     turned c.args.self.now _ c.args.now _ c.take_all-from.new.merge t.0 _ t.1 t.2 t.3 (at_now _ _ _ _ _ c.args.now _ z c.push_marks-marks.ensures.pushed) refl c.push_marks-marks.ensures.most (search rules) (stop_now _ _ _ c.args.now _ _ z c.push_marks-marks.ensures.stop) c.show_counts.ensures.ring (rw c.counts.ensures at (c.show_counts.ensures.shows)) refl
 
-pub push_marks-marks-requires-clause-roomy : goal.push_marks-marks-requires-clause-roomy
-push_marks-marks-requires-clause-roomy c = grind (arith, elements)
+pub push_marks-marks-requires-clause-cells : goal.push_marks-marks-requires-clause-cells
+push_marks-marks-requires-clause-cells c = grind (arith, elements)
 
 pub push_marks-marks-requires-clause-low : goal.push_marks-marks-requires-clause-low
 push_marks-marks-requires-clause-low c = grind (arith, elements)

@@ -6,15 +6,15 @@ use Rattle.path_merge.specs.NextMark.{next_left}
 use Rattle.path_merge.proofs.GoalLemmas.{given_all}
 use Rattle.studio_ends.specs.StreamTurns.{DrainsMarks}
 use Rattle.studio_ends.proofs.DrainLemmas.{drained-none, drained-more}
-use Rattle.studio_ends.proofs.RoomRingLemmas.{roomy_on}
+use Rattle.studio_ends.proofs.CellSizeLemmas.{cells_on}
 use Rattle.studio_ends.proofs.TurnLemmas.{producers}
 use Rattle.studio_ends.proofs.stream_end.marks_out.drain_marks.Goals as goal
 use Rattle.studio_ends.proofs.stream_end.marks_out.drain_marks.Goals.{After-push_next}
 
-pub push_next-requires-clause-roomy : goal.push_next-requires-clause-roomy
-push_next-requires-clause-roomy c =
+pub push_next-requires-clause-cells : goal.push_next-requires-clause-cells
+push_next-requires-clause-cells c =
     let i = c.loop.invariant.0 in
-    roomy_on c.args.merge.now c.loop.merge c.args.marks.now c.is_full.new.self i.spec (producers c.args.marks.now c.loop.marks c.is_full.new.self i.ring c.is_full.ensures.looked.0) c.requires.roomy
+    cells_on c.args.merge.now c.loop.merge c.args.marks.now c.is_full.new.self i.spec (producers c.args.marks.now c.loop.marks c.is_full.new.self i.ring c.is_full.ensures.looked.0) c.requires.cells
 
 pub loop-init : goal.loop-init
 loop-init c = (drained-none _ _, omega arith)
@@ -49,8 +49,8 @@ returns-clause-all c = λ e. given_all _ (sym c.ended-2.ensures ∙ e)
 pub returns-then-is_full-clause-drained : goal.returns-then-is_full-clause-drained
 returns-then-is_full-clause-drained c = grind (arith, elements)
 
-pub push_next-requires-clause-room : goal.push_next-requires-clause-room
-push_next-requires-clause-room c = grind (arith, elements)
+pub push_next-requires-clause-space : goal.push_next-requires-clause-space
+push_next-requires-clause-space c = grind (arith, elements)
 
 pub returns-then-ended-clause-some : goal.returns-then-ended-clause-some
 returns-then-ended-clause-some c = grind (arith, elements)

@@ -4,15 +4,15 @@ use Rattle.std.specs.Option.{option_to_list}
 use Rattle.rtp_stream.specs.MarkFacts.{MarkView}
 use Rattle.path_merge.specs.NextMark.{next_mark}
 use Rattle.studio_ends.proofs.MarkLemmas.{Pushing, pushing-none, pushing-more, pushed, pushing-at}
-use Rattle.studio_ends.proofs.RoomRingLemmas.{roomy_on}
+use Rattle.studio_ends.proofs.CellSizeLemmas.{cells_on}
 use Rattle.studio_ends.proofs.TurnLemmas.{producers}
 use Rattle.studio_ends.proofs.stream_end.marks_out.push_marks.Goals as goal
 use Rattle.studio_ends.proofs.stream_end.marks_out.push_marks.Goals.{After-push_next}
 
-pub push_next-requires-clause-roomy : goal.push_next-requires-clause-roomy
-push_next-requires-clause-roomy c =
+pub push_next-requires-clause-cells : goal.push_next-requires-clause-cells
+push_next-requires-clause-cells c =
     let i = c.loop-count.invariant.1 in
-    roomy_on c.args.merge.now c.loop-count.merge c.args.marks.now c.is_full.new.self i.spec (producers c.args.marks.now c.loop-count.marks c.is_full.new.self i.ring c.is_full.ensures.looked.0) c.requires.roomy
+    cells_on c.args.merge.now c.loop-count.merge c.args.marks.now c.is_full.new.self i.spec (producers c.args.marks.now c.loop-count.marks c.is_full.new.self i.ring c.is_full.ensures.looked.0) c.requires.cells
 
 pub loop-count-init : goal.loop-count-init
 loop-count-init c =
@@ -66,8 +66,8 @@ returns-then-not-push_next-clause-stop c = grind (arith, elements)
 pub returns-then-is_full-clause-stop : goal.returns-then-is_full-clause-stop
 returns-then-is_full-clause-stop c = grind (arith, elements)
 
-pub push_next-requires-clause-room : goal.push_next-requires-clause-room
-push_next-requires-clause-room c = grind (arith, elements)
+pub push_next-requires-clause-space : goal.push_next-requires-clause-space
+push_next-requires-clause-space c = grind (arith, elements)
 
 pub push_next-requires-clause-can : goal.push_next-requires-clause-can
 push_next-requires-clause-can c = grind (arith, elements)

@@ -2,14 +2,14 @@ use Rattle.std.proofs.lemmas.Grind.{elements}
 use Rattle.std.proofs.Common.{◌∙◌, sym, subst, arith}
 use Rattle.rtp_stream.specs.MarkFacts.{payload_length}
 use Rattle.rtp_stream.specs.declared.mark.PacketFormat.{PacketFormat}
-use Rattle.studio_ends.specs.RoomRings.{HasRoomFor}
+use Rattle.studio_ends.specs.CellSizes.{HasCellsFor}
 use Rattle.studio_ends.proofs.FormatLemmas.{next_format}
 use Rattle.studio_ends.proofs.stream_end.marks_out.push_next.Goals as goal
 
-pub push-requires-clause-roomy : goal.push-requires-clause-roomy
-push-requires-clause-roomy c =
+pub push-requires-clause-cells : goal.push-requires-clause-cells
+push-requires-clause-cells c =
     let same = next_format c.args.merge.now c.args.goal c.in-Some.mark (sym c.mark_to-next.ensures ∙ c.in-Some.is) in
-    subst (λ (f : PacketFormat). HasRoomFor (payload_length f) c.args.marks.now) (sym same) c.requires.roomy
+    subst (λ (f : PacketFormat). HasCellsFor (payload_length f) c.args.marks.now) (sym same) c.requires.cells
 
 pub returns-clause-there : goal.returns-clause-there
 returns-clause-there c = grind (arith, elements)

@@ -5,7 +5,7 @@ use Rattle.studio_config.specs.Studio.{Studio}
 use Rattle.studio_session.specs.Event.{TraceEvent}
 use Rattle.studio_session.specs.Play.{HasPlayed, IsRunnableBy}
 use Rattle.studio_engine.specs.Cursors.{AreBehind, CursorsState, all_at}
-use Rattle.studio_engine.specs.Engine.{AreAtRest, HaveCome}
+use Rattle.studio_engine.specs.Engine.{AreIdle, HaveCome}
 use Rattle.studio_engine.proofs.CursorsLemmas.{all_come, at_come, behind_come, of_both}
 use Rattle.studio_engine.proofs.cursors.Cursors.keep_early_marks.Goals as goal
 
@@ -39,8 +39,8 @@ returns-clause-stands c =
     → HasPlayed studio events (record { mixer = c.keep_early_marks.new.mixer; cursors = after }) next)
     c.as_mut_slice-2.result.now c.args.self.now.cursors moved (all_at i.count kept) from seen c.keep_early_marks.ensures.stands
 
-pub returns-clause-rested : goal.returns-clause-rested
-returns-clause-rested c =
+pub returns-clause-idle : goal.returns-clause-idle
+returns-clause-idle c =
     let i = c.self.inside in
     let caught = c.catch_up.new.cursors in
     let long : length caught ≡ i.cursors.len = c.catch_up.auto.cursors ∙ c.as_mut_slice.ensures.len in
@@ -51,7 +51,7 @@ returns-clause-rested c =
     let back : kept ≡ moved = lent i.cursors.len (length moved) moved (take i.cursors.len (caught ++ drop (length caught) i.cursors.items)) (c.keep_early_marks.auto.cursors ∙ ap length first ∙ long) in
     let come : HaveCome i.count moved = c.keep_early_marks.ensures.come i.count (subst (HaveCome i.count) (sym start) (all_come i.count i.cursors.items)) in
     let seen : moved ≡ all_at i.count kept = sym (ap (all_at i.count) back ∙ at_come i.count moved come) in
-    λ e. subst AreAtRest seen (c.keep_early_marks.ensures.rested e)
+    λ e. subst AreIdle seen (c.keep_early_marks.ensures.idle e)
 
 pub returns-clause-come : goal.returns-clause-come
 returns-clause-come c =

@@ -7,7 +7,7 @@ use Rattle.studio_session.specs.Play.{IsRunnableBy}
 use Rattle.studio_session.specs.PushedEvents.{HaveTaken}
 use Rattle.studio_session.specs.Run.{HasGivenBlocks}
 use Rattle.studio_engine.specs.Cursors.{AreBehind, CursorsState, all_at}
-use Rattle.studio_engine.specs.Engine.{AreAtRest, HaveCome}
+use Rattle.studio_engine.specs.Engine.{AreIdle, HaveCome}
 use Rattle.studio_engine.specs.Give.{GivesBlock, HasNoBlock}
 use Rattle.studio_engine.proofs.CursorsLemmas.{all_come, at_come, behind_come, of_both}
 use Rattle.studio_engine.proofs.cursors.Cursors.next_datagram.Goals as goal
@@ -61,8 +61,8 @@ returns-clause-none c =
     → HasNoBlock studio events (record { mixer = c.next_datagram.new.mixer; cursors = after }) datagrams)
     c.as_mut_slice-2.result.now c.args.self.now.cursors moved (all_at i.count kept) from seen c.next_datagram.ensures.none
 
-pub returns-clause-rested : goal.returns-clause-rested
-returns-clause-rested c =
+pub returns-clause-idle : goal.returns-clause-idle
+returns-clause-idle c =
     let i = c.self.inside in
     let caught = c.catch_up.new.cursors in
     let long : length caught ≡ i.cursors.len = c.catch_up.auto.cursors ∙ c.as_mut_slice.ensures.len in
@@ -74,7 +74,7 @@ returns-clause-rested c =
     let come : HaveCome i.count moved = c.next_datagram.ensures.come i.count (subst (HaveCome i.count) (sym start) (all_come i.count i.cursors.items)) in
     let from : c.as_mut_slice-2.result.now ≡ c.args.self.now.cursors = start ∙ ap (λ (s : CursorsState). s.cursors) c.self.view_is in
     let seen : moved ≡ all_at i.count kept = sym (ap (all_at i.count) back ∙ at_come i.count moved come) in
-    of_both (λ before after. AreAtRest before → AreAtRest after) c.as_mut_slice-2.result.now c.args.self.now.cursors moved (all_at i.count kept) from seen c.next_datagram.ensures.rested
+    of_both (λ before after. AreIdle before → AreIdle after) c.as_mut_slice-2.result.now c.args.self.now.cursors moved (all_at i.count kept) from seen c.next_datagram.ensures.idle
 
 pub returns-clause-come : goal.returns-clause-come
 returns-clause-come c =

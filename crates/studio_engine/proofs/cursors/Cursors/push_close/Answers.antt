@@ -4,7 +4,7 @@ use Rattle.studio_mix.proofs.NextLemmas.{lent}
 use Rattle.studio_session.specs.Event.{Closing}
 use Rattle.studio_session.specs.PushedEvents.{AreHanded}
 use Rattle.studio_engine.specs.Cursors.{CursorsState, all_at}
-use Rattle.studio_engine.specs.Engine.{AreAtRest, HaveCome}
+use Rattle.studio_engine.specs.Engine.{AreIdle, HaveCome}
 use Rattle.studio_engine.proofs.CursorsLemmas.{all_come, at_come, of_both}
 use Rattle.studio_engine.proofs.cursors.Cursors.push_close.Goals as goal
 
@@ -36,8 +36,8 @@ returns-clause-come c =
     let come : HaveCome (i.count + 1) moved = c.push_close.ensures.come in
     all_come (i.count + 1) kept
 
-pub returns-clause-rested : goal.returns-clause-rested
-returns-clause-rested c =
+pub returns-clause-idle : goal.returns-clause-idle
+returns-clause-idle c =
     let i = c.self.inside in
     let caught = c.catch_up.new.cursors in
     let long : length caught ≡ i.cursors.len = c.catch_up.auto.cursors ∙ c.as_mut_slice.ensures.len in
@@ -48,7 +48,7 @@ returns-clause-rested c =
     let back : kept ≡ moved = lent i.cursors.len (length moved) moved (take i.cursors.len (caught ++ drop (length caught) i.cursors.items)) (c.push_close.auto.cursors ∙ ap length first ∙ long) in
     let come : HaveCome (i.count + 1) moved = c.push_close.ensures.come in
     let seen : moved ≡ all_at (i.count + 1) kept = sym (ap (all_at (i.count + 1)) back ∙ at_come (i.count + 1) moved come) in
-    subst AreAtRest seen c.push_close.ensures.rested
+    subst AreIdle seen c.push_close.ensures.idle
 
 pub invariant_of-self : goal.invariant_of-self
 invariant_of-self c = grind (arith, elements)

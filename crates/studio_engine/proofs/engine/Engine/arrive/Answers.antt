@@ -16,10 +16,10 @@ returns-clause-stands c = λ studio events datagrams s.
     c.self.invariant.taken c.in-Some-push_datagram.ensures.count refl refl
     (taken_arrival studio inside events datagrams c.args.stream c.args.path c.args.octets.now s' fine) s'
 
-pub returns-clause-receipt : goal.returns-clause-receipt
-returns-clause-receipt c = λ studio events datagrams spec s at.
+pub returns-clause-outcome : goal.returns-clause-outcome
+returns-clause-outcome c = λ studio events datagrams spec s at.
     let i = c.self.inside in
     let inside : EngineState = record { mixer = i.mixer; cursors = i.cursors.cursors; time = i.time; turning = i.turning; closed = i.closed; settled = i.settled; count = i.cursors.count } in
     let s' : HasSession studio inside events datagrams = subst (λ e. HasSession studio e events datagrams) (sym c.self.view_is) s in
     let found = pulled_at studio inside events datagrams c.args.stream spec s' at in
-    c.in-Some-push_datagram.ensures.receipt found.0 spec c.args.stream studio.open_at events found.1 found.2 s'.count found.3
+    c.in-Some-push_datagram.ensures.outcome found.0 spec c.args.stream studio.open_at events found.1 found.2 s'.count found.3

@@ -3,7 +3,7 @@ use Rattle.std.proofs.Common.{◌≡◌, Bool, length, false, true, not, refl, s
 use Rattle.std.proofs.lemmas.Bool.{false≢true}
 use Rattle.studio_engine.specs.Engine.{EngineState, HaveCome}
 use Rattle.studio_engine.specs.Session.{HasSession}
-use Rattle.studio_engine.proofs.EngineLemmas.{comes_to_rest, engine_kept, session_stops, stops_kept, taken_of}
+use Rattle.studio_engine.proofs.EngineLemmas.{becomes_idle, engine_kept, session_stops, stops_kept, taken_of}
 use Rattle.studio_engine.proofs.engine.Engine.continue_turn.Goals as goal
 
 pub invariant_of-self-else-is_none : goal.invariant_of-self-else-is_none
@@ -13,7 +13,7 @@ invariant_of-self-else-is_none c =
     let inside : EngineState = record { mixer = i.mixer; cursors = i.cursors.cursors; time = i.time; turning = i.turning; closed = i.closed; settled = i.settled; count = i.cursors.count } in
     let given = c.next_datagram-given.ensures in
     engine_kept inside c.next_datagram-given.new.mixer c.next_datagram-given.new.self i.turning i.settled given.count inv given.streams given.cursors given.come
-    (λ e. given.rested (inv.rested e)) inv.open_yet inv.shut
+    (λ e. given.idle (inv.idle e)) inv.open_yet inv.shut
 
 pub invariant_of-self : goal.invariant_of-self
 invariant_of-self c =
@@ -25,7 +25,7 @@ invariant_of-self c =
     let open_yet : i.closed ≡ false = ap (λ (e : EngineState). e.closed) c.self.view_is ∙ c.requires.open_yet in
     engine_kept inside c.keep_early_marks-there.new.mixer c.keep_early_marks-there.new.self (not c.keep_early_marks-there.result) i.settled (kept.count ∙ given.count) inv
     (kept.streams ∙ given.streams) (kept.cursors ∙ given.cursors) kept.come
-    (λ e. kept.rested (not_false c.keep_early_marks-there.result e))
+    (λ e. kept.idle (not_false c.keep_early_marks-there.result e))
     (λ e. open_yet) inv.shut
   where
     not_false : (b : Bool) → not b ≡ false → b ≡ true
@@ -41,7 +41,7 @@ returns-then-is_none-clause-finished c = λ none studio events datagrams s.
     let given = c.next_datagram-given.ensures in
     let open_yet : i.closed ≡ false = ap (λ (e : EngineState). e.closed) c.self.view_is ∙ c.requires.open_yet in
     let stop = given.none none studio events datagrams s'.runnable (taken_of events i.cursors.cursors i.cursors.count s'.count inv.taken) s'.given in
-    comes_to_rest studio inside c.next_datagram-given.new.mixer c.next_datagram-given.new.self.cursors events datagrams c.keep_early_marks-there.result s' open_yet given.rooms
+    becomes_idle studio inside c.next_datagram-given.new.mixer c.next_datagram-given.new.self.cursors events datagrams c.keep_early_marks-there.result s' open_yet given.capacities
     (subst (λ n. HaveCome n c.next_datagram-given.new.self.cursors) given.count given.come) stop
     (c.keep_early_marks-there.ensures.all studio events)
 
@@ -58,7 +58,7 @@ returns-then-is_none-clause-none c = λ none studio events datagrams s.
     let after = stops_kept studio events (record { mixer = c.next_datagram-given.new.mixer; cursors = c.next_datagram-given.new.self.cursors })
     (record { mixer = c.keep_early_marks-there.new.mixer; cursors = c.keep_early_marks-there.new.self.cursors }) datagrams stop
     (kept.stands studio events (length datagrams) s'.runnable stop.given.played) (sym s'.closed ∙ open_yet) in
-    session_stops studio inside _ events datagrams refl refl (kept.count ∙ given.count) (not_settled i.settled i.closed inv.shut open_yet) (kept.rooms ∙ given.rooms) s' after
+    session_stops studio inside _ events datagrams refl refl (kept.count ∙ given.count) (not_settled i.settled i.closed inv.shut open_yet) (kept.capacities ∙ given.capacities) s' after
   where
     not_settled : (settled closed : Bool) → (settled ≡ true → closed ≡ true) → closed ≡ false → settled ≡ false
     not_settled true closed shut open_yet = absurd (false≢true (sym open_yet ∙ shut refl))

@@ -10,7 +10,7 @@ returns-clause-stands c =
     let high = sound.open_high in
     let value = c.open_at.ensures.value in
     let time : to_z w64 (of_z w64 c.open_at.result) ≡ c.args.spec.now.open_at = omega (arith, ints, value, low, high) in
-    session_new c.args.spec.now c.in_ok-mixer.mixer c.in_ok-cursors.cursors (to_z w64 (of_z w64 c.open_at.result)) c.is_runnable.ensures c.in_ok-mixer.ensures.stands (record { rooms = c.in_ok-mixer.ensures.rooms }) c.in_ok-cursors.ensures.new c.in_ok-cursors.ensures.none time
+    session_new c.args.spec.now c.in_ok-mixer.mixer c.in_ok-cursors.cursors (to_z w64 (of_z w64 c.open_at.result)) c.is_runnable.ensures c.in_ok-mixer.ensures.stands (record { capacities = c.in_ok-mixer.ensures.capacities }) c.in_ok-cursors.ensures.new c.in_ok-cursors.ensures.none time
 
 pub invariant_of-result : goal.invariant_of-result
 invariant_of-result c =

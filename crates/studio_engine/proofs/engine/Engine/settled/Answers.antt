@@ -8,7 +8,7 @@ returns-clause-whole c = λ e.
     let i = c.self.inside in
     let inv = c.self.invariant in
     let inside : EngineState = record { mixer = i.mixer; cursors = i.cursors.cursors; time = i.time; turning = i.turning; closed = i.closed; settled = i.settled; count = i.cursors.count } in
-    let whole : HasAllMarks inside = record { rested = at_rest i.turning i.closed inv.open_yet (inv.shut e); given = λ _. e } in
+    let whole : HasAllMarks inside = record { idle = at_rest i.turning i.closed inv.open_yet (inv.shut e); given = λ _. e } in
     subst HasAllMarks c.self.view_is whole
   where
     at_rest : (turning closed : Bool) → (turning ≡ true → closed ≡ false) → closed ≡ true → turning ≡ false

@@ -5,7 +5,7 @@ use Rattle.std.proofs.lemmas.Int.{ints, to_z-of_z}
 use Rattle.path_merge.specs.Clock.{clock_fault_of}
 use Rattle.path_merge.proofs.RunLemmas.{no_fault}
 use Rattle.mix_packets.specs.Packer.{PackerState}
-use Rattle.studio_session.specs.Event.{Reading}
+use Rattle.studio_session.specs.Event.{Tick}
 use Rattle.studio_session.specs.Run.{blocks_left}
 use Rattle.studio_engine.specs.Engine.{EngineState}
 use Rattle.studio_engine.specs.Session.{HasGivenReady}
@@ -71,7 +71,7 @@ returns-then-now-self-clause-there c = λ none studio events datagrams s.
 pub returns-clause-there : goal.returns-clause-there
 returns-clause-there c = λ none studio events datagrams s.
     let same = to_z-of_z w64 c.args.now c.ranges.now in (
-      c.continue_turn-2.ensures.finished none studio (events ++ Reading (to_z w64 (of_z w64 c.args.now)) ∷ []) datagrams
+      c.continue_turn-2.ensures.finished none studio (events ++ Tick (to_z w64 (of_z w64 c.args.now)) ∷ []) datagrams
           (c.set_out.ensures.stands studio events datagrams (c.continue_turn.ensures.none c.in_default-continue_turn.is studio events datagrams s).stands),
       c.continue_turn-2.ensures.time ∙ c.set_out.ensures.time ∙ same,
     )
@@ -80,8 +80,8 @@ pub returns-clause-fewer : goal.returns-clause-fewer
 returns-clause-fewer c =
     subst (λ (p : PackerState). IfSome c.continue_turn-2.result (λ (len : ℕ). blocks_left c.continue_turn-2.new.self.mixer.packer < blocks_left p)) (c.set_out.ensures.packer ∙ c.continue_turn.ensures.left c.in_default-continue_turn.is) c.continue_turn-2.ensures.fewer
 
-pub continue_turn-requires-2-clause-room : goal.continue_turn-requires-2-clause-room
-continue_turn-requires-2-clause-room c = grind (arith, elements)
+pub continue_turn-requires-2-clause-space : goal.continue_turn-requires-2-clause-space
+continue_turn-requires-2-clause-space c = grind (arith, elements)
 
 pub returns-in-Some-continue_turn-clause-some : goal.returns-in-Some-continue_turn-clause-some
 returns-in-Some-continue_turn-clause-some c = grind (arith, elements)

@@ -27,9 +27,9 @@ invariant_of-self c =
       some_lanes = sound.some_lanes;
       width = wide ∙ sound.width;
       height = high ∙ sound.height;
-      one_room = sound.one_room;
-      ins_room = sound.ins_room ∙ ap (λ w. i.output.frames * w) (sym wide);
-      outs_room = sound.outs_room;
+      one_length = sound.one_length;
+      ins_length = sound.ins_length ∙ ap (λ w. i.output.frames * w) (sym wide);
+      outs_length = sound.outs_length;
       in_24_bits = sound.in_24_bits;
       counts = sound.counts;
     }

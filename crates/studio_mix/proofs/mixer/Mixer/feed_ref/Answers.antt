@@ -4,7 +4,7 @@ use Rattle.std.proofs.Math.Seq.{map-set_same}
 use Rattle.lane_align.specs.Lane.{LaneState}
 use Rattle.mix_packets.specs.Block.{block_start}
 use Rattle.studio_mix.specs.Mixer.{MixerState, HasFeeds}
-use Rattle.studio_mix.specs.Room.{rooms_of}
+use Rattle.studio_mix.specs.LaneCapacity.{capacities_of}
 use Rattle.studio_mix.proofs.MixerLemmas.{fed_at, fed_more, all_at}
 use Rattle.studio_mix.proofs.SaturatedLemmas.{longer_set, saturated_longer}
 use Rattle.studio_mix.proofs.mixer.Mixer.feed_ref.Goals as goal
@@ -20,11 +20,11 @@ returns-clause-stands c = λ studio feeds number feed fed at.
     fed_more studio mixer feeds number c.args.stream c.feed_ref.new.self feed c.args.mark.now fed' at fed_lane
     (saturated_longer studio feeds _ number i.saturated.items (longer_set studio i.lanes.items feeds c.args.stream c.feed_ref.new.self feed c.args.mark.now (block_start studio.output number) fed'.lanes at fed_lane) fed'.saturated)
 
-pub returns-clause-rooms : goal.returns-clause-rooms
-returns-clause-rooms c =
+pub returns-clause-capacities : goal.returns-clause-capacities
+returns-clause-capacities c =
     let i = c.self.inside in
-    map-set_same (λ (l : LaneState). l.room) i.lanes.items c.args.stream c.feed_ref.new.self c.index_mut-lane.result.now (c.feed_ref.ensures.facts.room ∙ ap (λ (l : LaneState). l.room) c.index_mut-lane.ensures.value)
-    ∙ ap (λ (m : MixerState). rooms_of m.lanes) c.self.view_is
+    map-set_same (λ (l : LaneState). l.capacity) i.lanes.items c.args.stream c.feed_ref.new.self c.index_mut-lane.result.now (c.feed_ref.ensures.facts.capacity ∙ ap (λ (l : LaneState). l.capacity) c.index_mut-lane.ensures.value)
+    ∙ ap (λ (m : MixerState). capacities_of m.lanes) c.self.view_is
 
 pub feed_ref-requires-clause-wanted : goal.feed_ref-requires-clause-wanted
 feed_ref-requires-clause-wanted c = grind (arith, elements)

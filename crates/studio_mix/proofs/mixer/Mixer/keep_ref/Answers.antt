@@ -4,7 +4,7 @@ use Rattle.std.proofs.Math.Seq.{map-set_same}
 use Rattle.lane_align.specs.Lane.{LaneState}
 use Rattle.mix_packets.specs.Block.{block_start}
 use Rattle.studio_mix.specs.Mixer.{MixerState, HasFeeds}
-use Rattle.studio_mix.specs.Room.{rooms_of}
+use Rattle.studio_mix.specs.LaneCapacity.{capacities_of}
 use Rattle.studio_mix.proofs.MixerLemmas.{fed_at, fed_more, all_at}
 use Rattle.studio_mix.proofs.SaturatedLemmas.{longer_set, saturated_longer}
 use Rattle.studio_mix.proofs.mixer.Mixer.keep_ref.Goals as goal
@@ -20,14 +20,14 @@ returns-clause-stands c = λ studio feeds number feed fed at.
     fed_more studio mixer feeds number c.args.stream c.keep_ref.new.self feed c.args.mark.now fed' at fed_lane
     (saturated_longer studio feeds _ number i.saturated.items (longer_set studio i.lanes.items feeds c.args.stream c.keep_ref.new.self feed c.args.mark.now (block_start studio.output number) fed'.lanes at fed_lane) fed'.saturated)
 
-pub returns-clause-rooms : goal.returns-clause-rooms
-returns-clause-rooms c =
+pub returns-clause-capacities : goal.returns-clause-capacities
+returns-clause-capacities c =
     let i = c.self.inside in
-    map-set_same (λ (l : LaneState). l.room) i.lanes.items c.args.stream c.keep_ref.new.self c.index_mut-lane.result.now (c.keep_ref.ensures.facts.room ∙ ap (λ (l : LaneState). l.room) c.index_mut-lane.ensures.value)
-    ∙ ap (λ (m : MixerState). rooms_of m.lanes) c.self.view_is
+    map-set_same (λ (l : LaneState). l.capacity) i.lanes.items c.args.stream c.keep_ref.new.self c.index_mut-lane.result.now (c.keep_ref.ensures.facts.capacity ∙ ap (λ (l : LaneState). l.capacity) c.index_mut-lane.ensures.value)
+    ∙ ap (λ (m : MixerState). capacities_of m.lanes) c.self.view_is
 
-pub keep_ref-requires-clause-room : goal.keep_ref-requires-clause-room
-keep_ref-requires-clause-room c = grind (arith, elements)
+pub keep_ref-requires-clause-space : goal.keep_ref-requires-clause-space
+keep_ref-requires-clause-space c = grind (arith, elements)
 
 pub index_mut-lane-requires : goal.index_mut-lane-requires
 index_mut-lane-requires c = grind (arith, elements)

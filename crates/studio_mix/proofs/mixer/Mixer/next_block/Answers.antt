@@ -16,7 +16,7 @@ use Rattle.studio_mix.specs.Output.{block_samples, datagram_of}
 use Rattle.studio_mix.specs.Lanes.{AreFed, IsLaneAt, IsReadyLane, lane_channels}
 use Rattle.studio_mix.specs.Mixer.{MixerState, HasFeeds}
 use Rattle.studio_mix.specs.Ready.{are_covered}
-use Rattle.studio_mix.specs.Room.{rooms_of}
+use Rattle.studio_mix.specs.LaneCapacity.{capacities_of}
 use Rattle.studio_mix.proofs.MixerLemmas.{block_begin, next_start}
 use Rattle.studio_mix.proofs.LawLemmas.{ready_covered, same_rows}
 use Rattle.studio_mix.proofs.ChangedLemmas.{fed_matrix}
@@ -51,7 +51,7 @@ next-len-requires-clause-fit c =
     let wide : (u : ℤ) → ins_of (matrix_at i.schedule u) ≡ ins_of i.schedule.first = c.mix_counted.ensures.ins in
     let shift : c.shift.result ≡ shift_of i.packer.spec.enc = c.shift.ensures ∙ ap (λ (o : Output). shift_of o.enc) sound.out_is in
     let len : length c.mix_counted.new.outs ≡ c.from-frames.result * length i.schedule.first =
-    c.mix_counted.auto.outs ∙ ap length c.as_mut_slice-4.ensures.value ∙ sound.outs_room ∙ ap (λ k. i.output.frames * k) (sym sound.height) ∙ ap (λ k. k * length i.schedule.first) (sym frames) in
+    c.mix_counted.auto.outs ∙ ap length c.as_mut_slice-4.ensures.value ∙ sound.outs_length ∙ ap (λ k. i.output.frames * k) (sym sound.height) ∙ ap (λ k. k * length i.schedule.first) (sym frames) in
     subst (All (FitsEncoding i.packer.spec.enc)) (sym (c.as_slice-2.ensures.value ∙ back))
     (mixed_fits i.packer.spec.enc i.schedule t c.as_slice.result.now c.mix_counted.new.outs c.from-frames.result c.shift.result (ins_of i.schedule.first) (length i.schedule.first) shift mixed high wide len)
 
@@ -106,7 +106,7 @@ returns-clause-some c = λ studio feeds number fed.
     let wide : (u : ℤ) → ins_of (matrix_at i.schedule u) ≡ ins_of i.schedule.first = c.mix_counted.ensures.ins in
     let width : c.ins-width.result ≡ ins_of i.schedule.first = c.ins-width.ensures.first in
     let len : length c.mix_counted.new.outs ≡ c.from-frames.result * length i.schedule.first =
-    c.mix_counted.auto.outs ∙ ap length c.as_mut_slice-4.ensures.value ∙ sound.outs_room ∙ ap (λ k. i.output.frames * k) (sym sound.height) ∙ ap (λ k. k * length i.schedule.first) (sym (c.from-frames.ensures ∙ c.frames.ensures.value)) in
+    c.mix_counted.auto.outs ∙ ap length c.as_mut_slice-4.ensures.value ∙ sound.outs_length ∙ ap (λ k. i.output.frames * k) (sym sound.height) ∙ ap (λ k. k * length i.schedule.first) (sym (c.from-frames.ensures ∙ c.frames.ensures.value)) in
     let was_fed : AreFed studio.output.start c.from-frames.result c.as_mut_slice.result.now feeds (block_start studio.output number) =
     subst (λ n. AreFed studio.output.start n c.as_mut_slice.result.now feeds (block_start studio.output number)) (sym frames)
     (subst (λ ls. AreFed studio.output.start studio.output.frames ls feeds (block_start studio.output number)) (sym c.as_mut_slice.ensures.value) fed'.lanes) in
@@ -149,11 +149,11 @@ returns-clause-some c = λ studio feeds number fed.
           (subst (λ u. c.pass.new.self ≡ rest_at i.schedule u) next c.pass.ensures.rest) c.pass.ensures.ins,
     )
 
-pub returns-clause-rooms : goal.returns-clause-rooms
-returns-clause-rooms c =
+pub returns-clause-capacities : goal.returns-clause-capacities
+returns-clause-capacities c =
     let i = c.self.inside in
     let lanes = lent i.lanes.len (length c.read_lanes.new.lanes) c.read_lanes.new.lanes i.lanes.items (c.read_lanes.auto.lanes ∙ c.as_mut_slice.ensures.len) in
-    ap rooms_of lanes ∙ c.read_lanes.ensures.rooms ∙ ap rooms_of c.as_mut_slice.ensures.value ∙ ap (λ (m : MixerState). rooms_of m.lanes) c.self.view_is
+    ap capacities_of lanes ∙ c.read_lanes.ensures.capacities ∙ ap capacities_of c.as_mut_slice.ensures.value ∙ ap (λ (m : MixerState). capacities_of m.lanes) c.self.view_is
 
 pub mix_counted-requires-clause-counts_len : goal.mix_counted-requires-clause-counts_len
 mix_counted-requires-clause-counts_len c = grind (arith, elements)
@@ -191,8 +191,8 @@ returns-clause-number c = grind (arith, elements)
 pub read_lanes-requires-clause-in_24_bits : goal.read_lanes-requires-clause-in_24_bits
 read_lanes-requires-clause-in_24_bits c = grind (arith, elements)
 
-pub next-len-requires-clause-room : goal.next-len-requires-clause-room
-next-len-requires-clause-room c = grind (arith, elements)
+pub next-len-requires-clause-space : goal.next-len-requires-clause-space
+next-len-requires-clause-space c = grind (arith, elements)
 
 pub returns-clause-early : goal.returns-clause-early
 returns-clause-early c = grind (arith, common_steps)

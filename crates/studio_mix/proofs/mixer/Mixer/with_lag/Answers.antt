@@ -12,7 +12,7 @@ use Rattle.mix_packets.specs.Packer.{PackerState}
 use Rattle.studio_config.specs.Studio.{channel_total}
 use Rattle.studio_mix.specs.Feed.{unfed}
 use Rattle.studio_mix.specs.Lanes.{AreFed, IsLaneAt}
-use Rattle.studio_mix.specs.Room.{capacity_for}
+use Rattle.studio_mix.specs.LaneCapacity.{capacity_for}
 use Rattle.studio_mix.proofs.NewLemmas.{first_start, unfed_streams}
 use Rattle.studio_mix.proofs.SaturatedLemmas.{none_saturated}
 use Rattle.studio_mix.proofs.mixer.Mixer.with_lag.Goals as goal
@@ -37,9 +37,9 @@ invariant_of-result c =
       some_lanes = let n = c.in_ok-lanes.ensures.count in let m = studio.some_streams in let v = ap length c.streams.ensures.value in omega (arith, n, m, v);
       width = c.in_ok-schedule.ensures.ins ∙ ap (λ (h : Changes). ins_of h.first) c.schedule.ensures ∙ studio.ins ∙ ap channel_total (sym c.streams.ensures.value) ∙ sym c.in_ok-lanes.ensures.channels;
       height = c.in_ok-schedule.ensures.outs ∙ ap (λ (h : Changes). length h.first) c.schedule.ensures ∙ studio.outs ∙ ap (λ (o : Output). o.channels) (sym c.output.ensures);
-      one_room = ap length c.in_ok-one.ensures ∙ length-replicate _ (pos 0) ∙ ap (λ n. n * 64) frames;
-      ins_room = ap length c.in_ok-ins.ensures ∙ length-replicate _ (pos 0) ∙ ap (λ n. n * c.ins.result) frames ∙ ap (λ w. out.frames * w) c.ins.ensures.first;
-      outs_room = ap length c.in_ok-outs.ensures ∙ length-replicate _ (pos 0) ∙ ap (λ n. n * c.from.result) frames ∙ ap (λ w. out.frames * w) (c.from.ensures ∙ c.channels.ensures.value);
+      one_length = ap length c.in_ok-one.ensures ∙ length-replicate _ (pos 0) ∙ ap (λ n. n * 64) frames;
+      ins_length = ap length c.in_ok-ins.ensures ∙ length-replicate _ (pos 0) ∙ ap (λ n. n * c.ins.result) frames ∙ ap (λ w. out.frames * w) c.ins.ensures.first;
+      outs_length = ap length c.in_ok-outs.ensures ∙ length-replicate _ (pos 0) ∙ ap (λ n. n * c.from.result) frames ∙ ap (λ w. out.frames * w) (c.from.ensures ∙ c.channels.ensures.value);
       in_24_bits = subst (All Is24Bits) (sym c.in_ok-ins.ensures) (All-replicate Is24Bits _ (pos 0) (lit< tt));
       counts = ap length (c.in_ok-saturated.ensures.items_if_clones_equal (λ y e. e)) ∙ length-replicate _ 0 ∙ c.from-2.ensures ∙ c.channels-2.ensures.value;
     }
@@ -72,9 +72,9 @@ returns-clause-stands c =
       saturated = none_saturated c.args.spec.now _ _ _ (c.in_ok-saturated.ensures.items_if_clones_equal (λ y e. e)) (c.from-2.ensures ∙ c.channels-2.ensures.value ∙ ap (λ (o : Output). o.channels) c.output.ensures);
     }
 
-pub returns-clause-rooms : goal.returns-clause-rooms
-returns-clause-rooms c =
-    c.in_ok-lanes.ensures.rooms
+pub returns-clause-capacities : goal.returns-clause-capacities
+returns-clause-capacities c =
+    c.in_ok-lanes.ensures.capacities
     ∙ ap (λ n. map (capacity_for c.args.lag n) c.streams.result.now) c.frames-2.ensures.value
     ∙ ap (λ (o : Output). map (capacity_for c.args.lag o.frames) c.streams.result.now) c.output.ensures
     ∙ ap (map (capacity_for c.args.lag c.args.spec.now.output.frames)) c.streams.ensures.value

@@ -5,14 +5,14 @@ use Rattle.studio_rings.proofs.worker.mixer.run_mixer_with_gains.Goals as goal
 
 pub loop-init : goal.loop-init
 loop-init g c = record {
-  room = refl;
+  space = refl;
   mixes = subst (λ n. MixesWith g.K.Sink.handed c.args.end c.args.sink 0 false c.args.end c.args.sink n (g.G.GainSource.taken c.args.gains) (g.G.GainSource.taken c.args.gains)) (sym c.new-counts.ensures)
       (with-none g.K.Sink.handed c.args.end c.args.sink 0 (g.G.GainSource.taken c.args.gains));
 }
 
 pub loop-preserved-then-not-mix_once : goal.loop-preserved-then-not-mix_once
 loop-preserved-then-not-mix_once g c = record {
-  room = c.ask_source.auto.room ∙ c.loop.invariant.room;
+  space = c.ask_source.auto.buffer ∙ c.loop.invariant.space;
   mixes = with-more g.K.Sink.handed _ _ _ _ _ _ _ _ _ _ _ _ _ _ c.loop.invariant.mixes (with-turn g.K.Sink.handed _ _ _ _ _ _ _ _ _ _ c.ask_source.ensures c.if-not-mix_once.ensures);
 }
 
@@ -21,6 +21,6 @@ returns-then-last g c = with-more g.K.Sink.handed _ _ _ _ _ _ _ _ _ _ _ _ _ _ c.
 
 pub loop-preserved : goal.loop-preserved
 loop-preserved g c = record {
-  room = c.ask_source.auto.room ∙ c.loop.invariant.room;
+  space = c.ask_source.auto.buffer ∙ c.loop.invariant.space;
   mixes = with-on g.K.Sink.handed _ _ _ _ _ _ _ _ _ (with-more g.K.Sink.handed _ _ _ _ _ _ _ _ _ _ _ _ _ _ c.loop.invariant.mixes (with-turn g.K.Sink.handed _ _ _ _ _ _ _ _ _ _ c.ask_source.ensures c.if-not-mix_once.ensures));
 }

@@ -4,6 +4,6 @@ use Rattle.studio_rings.proofs.worker.mixer.run_mixer_with_gains.Given as goal
 
 abbrev pub invariant-loop : goal.invariant-loop
 invariant-loop g l = record {
-  room : length l.room ≡ 8192;
+  space : length l.buffer ≡ 8192;
   mixes : MixesWith g.K.Sink.handed l.initial.end l.initial.sink 0 false l.end l.sink l.counts.blocks (g.G.GainSource.taken l.initial.gains) (g.G.GainSource.taken l.gains);
 }

@@ -13,9 +13,9 @@ loop-result-init g c = record {
   left = omega arith;
   counts = no_items c.args.counts.now.items (let e = c.requires.counts.0 in let k = c.args.counts.now.ok.0 in omega (arith, e, k));
   counted = c.requires.counts.0;
-  room = refl;
+  space = refl;
   faults = c.requires.faults.0;
-  fault_room = refl;
+  fault_space = refl;
   later = goes-none _ _;
   handed = refl;
 }
@@ -46,9 +46,9 @@ loop-result-preserved g c =
       left = omega (arith, gone, left);
       counts = counted-more at.yielded x _ _ at.invariant.counts c.push_reserved.ensures.items;
       counted = omega (arith, one, counted);
-      room = c.push_reserved.ensures.capacity ∙ at.invariant.room;
+      space = c.push_reserved.ensures.capacity ∙ at.invariant.space;
       faults = omega (arith, two, faults);
-      fault_room = c.push_reserved-in-loop-result.ensures.capacity ∙ at.invariant.fault_room;
+      fault_space = c.push_reserved-in-loop-result.ensures.capacity ∙ at.invariant.fault_space;
       later = goes-trans _ _ at.stream _ at.invariant.later c.pass_token-all.ensures.later;
       handed = handed-next _ _ at.yielded _ x _ _ _ at.place at.invariant.place (subst (λ (l : List PathResult). AllTokensFit l c.args.stream.now.end.sides.items) (sym all) c.requires.tokens) at.invariant.handed c.pass_token-all.ensures.handed;
     }

@@ -13,9 +13,9 @@ invariant-loop-result g l = record {
   left : l.place + into_iter_len l.result-iterator ≡ into_iter_len l.initial.result-iterator;
   counts : l.counts.items ≡ map (λ (r : PathResult). r.counts) l.yielded;
   counted : vec_len l.counts ≡ l.place;
-  room : vec_capacity l.counts ≡ vec_capacity l.initial.counts;
+  space : vec_capacity l.counts ≡ vec_capacity l.initial.counts;
   faults : vec_len l.faults ≡ l.place;
-  fault_room : vec_capacity l.faults ≡ vec_capacity l.initial.faults;
+  fault_space : vec_capacity l.faults ≡ vec_capacity l.initial.faults;
   later : GoesOn g.C.Clock.told l.initial.stream l.stream;
   handed : AreHandedIn l.all l.yielded l.initial.stream.end.sides.items l.stream.end.sides.items;
 }

@@ -17,12 +17,12 @@ pub made_schedule-requires : goal.made_schedule-requires
 made_schedule-requires c =
     let kept = c.changes_before-later.ensures ∙ ap (λ t. before t c.into_parts-first.result.1.items) (to_z-of_z w64 c.args.at c.ranges.at) ∙ ap (before c.args.at) c.into_parts-first.ensures.later in
     let count : c.len.result ≡ length c.changes_before-later.result.items = search rules in
-    let room : length (before c.args.at c.args.schedule.later) < 64 = omega (arith, count, ap length kept) in
+    let space : length (before c.args.at c.args.schedule.later) < 64 = omega (arith, count, ap length kept) in
     let pushed : c.push.new.self.items ≡ c.changes_before-later.result.items ++ (to_z w64 (of_z w64 c.args.at), c.args.matrix) ∷ [] = search rules in
     let parts = c.into_parts-first.ensures in
     ap (λ (f : List (List ℤ)). schedule_fault_of f c.push.new.self.items) parts.first
     ∙ ap (schedule_fault_of c.args.schedule.first) (pushed ∙ ap (λ (l : List (ℤ × List (List ℤ))). l ++ (to_z w64 (of_z w64 c.args.at), c.args.matrix) ∷ []) kept ∙ ap (λ (t : ℤ). before c.args.at c.args.schedule.later ++ (t, c.args.matrix) ∷ []) (to_z-of_z w64 c.args.at c.ranges.at))
-    ∙ changed-no_fault c.args.schedule.first c.args.schedule.later (c.args.at, c.args.matrix) parts.no_fault c.requires.time c.requires.outs c.requires.ins room
+    ∙ changed-no_fault c.args.schedule.first c.args.schedule.later (c.args.at, c.args.matrix) parts.no_fault c.requires.time c.requires.outs c.requires.ins space
 
 pub returns-in-Ok-clause-ok : goal.returns-in-Ok-clause-ok
 returns-in-Ok-clause-ok c =

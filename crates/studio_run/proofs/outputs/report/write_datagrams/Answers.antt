@@ -10,7 +10,7 @@ use Rattle.studio_run.proofs.outputs.report.write_datagrams.Goals as goal
 pub rounds-init : goal.rounds-init
 rounds-init g c = record {
   ready = c.requires.ready;
-  room = refl;
+  space = refl;
   spec = refl;
   stands = λ studio run played. reporting_none studio (g.E.EventSource.events c.args.source.now) _ _ c.args.session.now played;
 }
@@ -22,11 +22,11 @@ rounds-preserved g c =
     let len : c.in-Some.len ≡ datagram_length c.args.session.now.mixer.packer.spec = c.in-Some.ensures.len ∙ ap datagram_length inv.spec in
     let short = c.requires.short in
     let same : length c.next_datagram.new.out ≡ length c.rounds.out = c.next_datagram.auto.out in
-    let long = same ∙ inv.room in
+    let long = same ∙ inv.space in
     let within : c.in-Some.len ≤ length c.rounds.out = omega (arith, len, short, long, same) in
     record {
       ready = c.next_datagram.ensures.ready;
-      room = long;
+      space = long;
       spec = c.next_datagram.ensures.spec ∙ inv.spec;
       stands = λ studio run played.
           let r = inv.stands studio run played in
@@ -47,7 +47,7 @@ returns-in_err-write_datagram-in-Some-clause-fault g c =
     let len : c.in-Some.len ≡ datagram_length c.args.session.now.mixer.packer.spec = c.in-Some.ensures.len ∙ ap datagram_length inv.spec in
     let short = c.requires.short in
     let same : length c.next_datagram.new.out ≡ length c.rounds.out = c.next_datagram.auto.out in
-    let long = same ∙ inv.room in
+    let long = same ∙ inv.space in
     let within : c.in-Some.len ≤ length c.rounds.out = omega (arith, len, short, long, same) in
     let is : c.from_residual.result ≡ Err c.in_err-write_datagram-in-Some.field-0.0 = search rules in
     rw is (λ studio datagrams run played are.

@@ -10,7 +10,7 @@ use Rattle.studio_run.proofs.outputs.report.write_datagrams.Given as goal
 abbrev pub invariant-rounds : goal.invariant-rounds
 invariant-rounds g l = record {
   ready : All (IsReadyFor (g.E.EventSource.events l.source)) l.session.cursors;
-  room : length l.out ≡ 1452;
+  space : length l.out ≡ 1452;
   spec : l.session.mixer.packer.spec ≡ l.fn.session.mixer.packer.spec;
   stands : (studio : Studio) → IsRunnableBy studio (g.E.EventSource.events l.source) → HasPlayed studio (g.E.EventSource.events l.source) l.fn.session 0
       → IsReporting studio (g.E.EventSource.events l.source) (g.W.Write.contents l.fn.writer) l.fn.text l.session (g.W.Write.contents l.writer) l.text;

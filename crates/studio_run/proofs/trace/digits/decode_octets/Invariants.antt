@@ -5,4 +5,4 @@ use Rattle.studio_run.proofs.trace.digits.decode_octets.Given as goal
 
 -- the octets so far, and the digits that are left
 abbrev pub invariant-loop-place : goal.invariant-loop-place
-invariant-loop-place l = decode_pairs 0 l.text ≡ prepend (take l.place l.room) (decode_pairs (2 * l.place) (drop (2 * l.place) l.text))
+invariant-loop-place l = decode_pairs 0 l.text ≡ prepend (take l.place l.buffer) (decode_pairs (2 * l.place) (drop (2 * l.place) l.text))

@@ -1,7 +1,7 @@
 use Rattle.std.proofs.lemmas.Grind.{elements}
 use Rattle.std.proofs.Common.{◌≡◌, ◌≢◌, ◌<◌, length, Some, slice_get, sym, subst, ap, ◌∙◌, arith, to_z, of_z, w64}
 use Rattle.std.proofs.lemmas.Int.{ints}
-use Rattle.studio_session.specs.Event.{Arrival, Reading}
+use Rattle.studio_session.specs.Event.{Arrival, Tick}
 use Rattle.studio_session.specs.Session.{step_of}
 use Rattle.studio_session.specs.Cursor.{CursorState}
 use Rattle.studio_session.proofs.CursorLemmas.{arrival_of, closing_of, event_here, others_arrival, reading_of}
@@ -61,7 +61,7 @@ returns-in-Tick-clause-stands g c = λ stream n open_at k run pulled.
     let at : slice_get events now.place ≡ Some found.0 = subst (λ (s : CursorState). slice_get events s.place ≡ Some found.0) c.self.view_is found.1 in
     let same : to_z w64 (of_z w64 c.in-Tick.now) ≡ c.in-Tick.now = omega (arith, ints) in
     let is = reading_of found.0 c.in-Tick.now (sym c.in-Tick.is ∙ c.outline.ensures found.0 found.1) in
-    c.set_out.ensures.stands stream n open_at events k run (at ∙ ap Some (is ∙ ap Reading (sym same))) pulled
+    c.set_out.ensures.stands stream n open_at events k run (at ∙ ap Some (is ∙ ap Tick (sym same))) pulled
 
 pub returns-in-Close-clause-stands : goal.returns-in-Close-clause-stands
 returns-in-Close-clause-stands g c = λ stream n open_at k run pulled.

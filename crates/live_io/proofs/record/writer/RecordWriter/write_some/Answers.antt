@@ -19,10 +19,10 @@ returns-in-Err-clause-failed g c = λ w.
     let least = c.min-held.ensures in
     let was = c.as_mut_slice-octets.ensures.value in
     let got = c.pop_partial_slice-taken.ensures.received in
-    let room = c.pop_partial_slice-taken.auto.slice in
+    let space = c.pop_partial_slice-taken.auto.slice in
     let now = over old h fresh in
     let hl : h ≤ length old = omega (arith, least) in
-    let tl : t ≤ length fresh = let f = got.0 in omega (arith, f, room) in
+    let tl : t ≤ length fresh = let f = got.0 in omega (arith, f, space) in
     let within = c.whole_blocks-blocks.ensures.within in
     let bl : b ≤ h + t = let l = length-take (h + t) now in omega (arith, within, l) in
     let held : take self.held self.octets.items ≡ take h old =
@@ -45,13 +45,13 @@ returns-clause-written g c = λ w.
     let least = c.min-held.ensures in
     let was = c.as_mut_slice-octets.ensures.value in
     let got = c.pop_partial_slice-taken.ensures.received in
-    let room = c.pop_partial_slice-taken.auto.slice in
+    let space = c.pop_partial_slice-taken.auto.slice in
     let now = over old h fresh in
     let hl : h ≤ length old = omega (arith, least) in
     let part : length (take (length old - h) (drop h old)) ≡ length old - h =
     let d = length-drop h old in length-take-le (length old - h) (drop h old) (omega (arith, d)) in
-    let size : length fresh ≡ length old - h = room ∙ part in
-    let tl : t ≤ length fresh = let f = got.0 in omega (arith, f, room) in
+    let size : length fresh ≡ length old - h = space ∙ part in
+    let tl : t ≤ length fresh = let f = got.0 in omega (arith, f, space) in
     let within = c.whole_blocks-blocks.ensures.within in
     let bl : b ≤ h + t = let l = length-take (h + t) now in omega (arith, within, l) in
     let items = with_items_is self.octets c.copy_within.new.self (c.copy_within.auto.self ∙ (same_length old fresh h hl size ∙ c.as_mut_slice-octets.ensures.len)) in

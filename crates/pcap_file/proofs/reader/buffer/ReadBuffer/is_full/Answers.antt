@@ -5,5 +5,5 @@ use Rattle.pcap_file.proofs.reader.buffer.ReadBuffer.is_full.Goals as goal
 pub returns-clause-full : goal.returns-clause-full
 returns-clause-full c = grind (arith, elements)
 
-pub returns-clause-room : goal.returns-clause-room
-returns-clause-room c = grind (arith, elements)
+pub returns-clause-space : goal.returns-clause-space
+returns-clause-space c = grind (arith, elements)

@@ -1,7 +1,7 @@
 use Rattle.std.proofs.Common.{◌∙◌, sym, ap}
 use Rattle.studio_ends.specs.MarkRings.{side_in}
 use Rattle.studio_ends.specs.declared.rings.marks.MarkConsumer.TheInside.{Inside}
-use Rattle.studio_ends.proofs.RoomRingLemmas.{wanted_seen}
+use Rattle.studio_ends.proofs.CellSizeLemmas.{wanted_seen}
 use Rattle.studio_ends.proofs.rings.marks.MarkConsumer.take.Goals as goal
 use Rattle.studio_ends.proofs.rings.marks.MarkConsumer.take.Goals.{in-Short, in-Middle, in-Long}
 

@@ -1,5 +1,5 @@
 use Rattle.std.proofs.Common.{◌∙◌, length, ap}
-use Rattle.studio_ends.proofs.RoomLemmas.{length_is, written, written_is}
+use Rattle.studio_ends.proofs.CellLemmas.{length_is, written, written_is}
 use Rattle.studio_ends.proofs.rings.payload_cell.PayloadCell.fill.Goals as goal
 
 pub invariant_of-self : goal.invariant_of-self

@@ -1,5 +1,0 @@
-use Rattle.gain_mix.specs.Live.{HasFree}
-use Rattle.gain_mix.proofs.live.with_free.Given as goal
-
-abbrev pub invariant-loop : goal.invariant-loop
-invariant-loop l = HasFree l.schedule.first l.schedule.later l.slots.items l.counter

@@ -1,8 +1,0 @@
--- The room of the ring of a run's audio.
-use Rattle.std.specs.Prelude.{ℕ, ◌+◌, ◌*◌}
-use Rattle.wav_file.specs.declared.header.WavFormat.{WavFormat}
-use Rattle.wav_file.specs.Header.{frame_length}
-
--- the octets of this many sampling instants, and of two seconds more
-abbrev pub room_for : WavFormat → ℕ → ℕ
-room_for format latency = (latency + 96000) * frame_length format

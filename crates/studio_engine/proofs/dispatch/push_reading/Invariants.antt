@@ -1,7 +1,0 @@
-use Rattle.studio_session.specs.Event.{Reading}
-use Rattle.studio_session.specs.PushedEvents.{AreHanded}
-use Rattle.studio_engine.proofs.dispatch.push_reading.Given as goal
-
--- the streams so far took the reading
-abbrev pub invariant-loop-number : goal.invariant-loop-number
-invariant-loop-number l = AreHanded (Reading l.now) l.fn.cursors l.cursors l.number
