@@ -33,7 +33,7 @@ use crate::codes::{
     NO_PATH, SHORT_ROOM, UNFINISHED, arrive_fault_code, change_fault_code, clock_fault_code,
     outcome_code,
 };
-use path_merge::Path;
+use rtp_stream::Path;
 use studio_engine::Engine;
 
 /// Takes a datagram.

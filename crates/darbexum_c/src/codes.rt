@@ -3,8 +3,8 @@ ghost use Rattle.std.specs.Prelude.{◌≡◌, ◌<ℤ◌, pos};
 ghost use Rattle.darbexum_c.specs.Codes as code;
 
 use gain_mix::ChangeFault;
-use path_merge::{ClockFault, Fate};
-use rtp_stream::StreamClock;
+use path_merge::ClockFault;
+use rtp_stream::{Fate, StreamClock};
 use studio_engine::ArriveFault;
 use studio_session::ArriveOutcome;
 

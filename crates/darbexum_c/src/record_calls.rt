@@ -26,7 +26,7 @@ use crate::handle::Handle;
 use crate::records::{
     COUNTS_SIZE, Counts, OUTPUT_SIZE, Output, PATH_COUNTS_SIZE, PathCounts, STREAM_SIZE, Stream,
 };
-use path_merge::Path;
+use rtp_stream::Path;
 use std::alloc::Global;
 use studio_engine::Engine;
 

@@ -7,7 +7,7 @@ ghost use Rattle.engine_run.specs.Intake.{GaveBy, Takes, TakesAll, TakesStream};
 
 use crate::feed_reader::FeedReader;
 use crate::observer::RunObserver;
-use path_merge::Path;
+use rtp_stream::Path;
 use studio_engine::{ArriveFault, Engine};
 use studio_io::{Feed, FeedAnswer};
 

@@ -2,7 +2,7 @@
 ghost use Rattle.std.specs.Prelude.{◌≡◌, ℤ, List, [], ◌∷◌, Option, None};
 ghost use Rattle.engine_run.specs.Observers.{Heard, Hears, Came, Closed, NotesChanges};
 
-use path_merge::Path;
+use rtp_stream::Path;
 use studio_engine::Engine;
 use studio_session::ArriveOutcome;
 

@@ -13,8 +13,7 @@ ghost use Rattle.engine_run.specs.Intake.{fault_number, fault_numbers};
 
 use crate::feed_reader::FeedReader;
 use crate::state::RunState;
-use path_merge::{Path, StreamSpec};
-use rtp_stream::{Counts, PathCounts, StreamCounts};
+use rtp_stream::{Counts, Path, PathCounts, StreamCounts, StreamSpec};
 use std::alloc::{AllocError, Global};
 use studio_engine::Engine;
 use studio_io::WorkReport;

@@ -3,9 +3,8 @@ ghost use Rattle.std.specs.Prelude.{IfOk};
 ghost use Rattle.live_status.specs.Each.{AreEach};
 ghost use Rattle.live_status.specs.EngineOffers.{AddsOfferAt, IsNewTracker};
 
-use path_merge::Path;
 use rtp_stats::CopyTracker;
-use rtp_stream::StreamSpec;
+use rtp_stream::{Path, StreamSpec};
 use std::alloc::{AllocError, Global};
 use studio_session::OfferedPacket;
 

@@ -7,7 +7,7 @@ ghost use Rattle.studio_engine.specs.Session.{HasSession};
 ghost use Rattle.studio_run.specs.Buffer.{BreaksOff, PassesOn};
 ghost use Rattle.studio_run.specs.Listing.{counts_text_of, paths_text, stream_counts_text};
 
-use path_merge::{Path, StreamSpec};
+use rtp_stream::{Path, StreamSpec};
 use std::io::Write;
 use studio_engine::Engine;
 use studio_run::{TextBuffer, WriteFault, write_merge_counts, write_path_counts};

@@ -54,11 +54,12 @@ use crate::output::write_turn;
 use crate::record_times::first_close;
 use crate::routing::{PacketRole, Routing, StreamPath};
 use crate::state::ReplayState;
-use path_merge::{Path, clock_fault};
+use path_merge::clock_fault;
 use pcap_file::{
     BlockParser, CaptureBlock, Packet, ReadBuffer, ReaderFault, RecordMark, next_block,
 };
 use pcap_flows::datagram_octets;
+use rtp_stream::Path;
 use std::io::{Read, Write};
 use studio_engine::{ArriveFault, Engine};
 use studio_session::StudioFault;

@@ -3,7 +3,7 @@ ghost use Rattle.std.specs.Prelude.{[], ◌≡◌, ◌≤◌, ◌∷◌, ◌++�
 ghost use Rattle.studio_session.specs.Event.{TraceEvent, Arrival, Closing, Tick};
 ghost use Rattle.pcap_replay.specs.Observed.{HasHeardIf};
 
-use path_merge::Path;
+use rtp_stream::Path;
 
 /// An observer of each event that a replay takes, and of each datagram of the output, in order. The replay waits for
 /// each call to return.

@@ -9,9 +9,9 @@ ghost use Rattle.pcap_file.specs.Packet.{packet_view};
 ghost use Rattle.pcap_replay.specs.Routing.{clock_before, closing_of, opening_of, plan_view, role_of};
 
 use crate::changes::RecordedChanges;
-use path_merge::StreamSpec;
 use pcap_file::{BlockParser, Packet, ReadBuffer, ReaderFault, has_block, has_whole_block};
 use pcap_flows::{CaptureClock, Route, route_in};
+use rtp_stream::StreamSpec;
 use std::io::Read;
 
 /// The rule by which packets get paths and times.

@@ -3,7 +3,7 @@
 ghost use Rattle.std.specs.Prelude.{◌≡◌, ◌<◌};
 ghost use Rattle.reception_chart.specs.Bins.{row_of};
 
-use path_merge::Path;
+use rtp_stream::Path;
 
 pub(crate) mod axis;
 pub(crate) mod bins;

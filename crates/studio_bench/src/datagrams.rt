@@ -1,5 +1,5 @@
 //! The datagrams of one stream, made before a kernel is timed, and the numbers of the command line.
-use path_merge::{StreamClock, StreamSpec};
+use rtp_stream::{StreamClock, StreamSpec};
 use rtp_wire::Enc;
 use std::alloc::Global;
 use std::env::Args;

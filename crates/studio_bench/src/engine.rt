@@ -1,16 +1,17 @@
 //! A trace that an engine takes event by event, and the report of it, in the form of `play`.
 use anyhow::{anyhow, bail};
 use mix_packets::MAX_OUTPUT_OCTETS;
-use path_merge::{Path, StreamSpec};
+use rtp_stream::{Path, StreamSpec};
 use std::alloc::Global;
 use std::env::Args;
 use std::fs;
 use std::io::Write;
+use studio_config::StudioSpec;
 use studio_engine::Engine;
 use studio_run::{
-    StudioEvent, StudioSpec, TextBuffer, read_octets, read_trace, write_datagram,
-    write_merge_counts, write_path_counts,
+    TextBuffer, read_octets, read_trace, write_datagram, write_merge_counts, write_path_counts,
 };
+use studio_session::StudioEvent;
 
 /// The lines of a report that are not written yet, and their writer.
 #[derive(Drop)]

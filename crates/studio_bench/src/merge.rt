@@ -6,7 +6,8 @@ ghost use Rattle.std.specs.Prelude.{◌≡◌};
 
 use crate::datagrams::{Datagrams, NUMBERS, make_datagrams, number, stream};
 use anyhow::bail;
-use path_merge::{MarkKindRef, MarkRef, Merge, Path, SlotWindow, StreamSpec};
+use path_merge::{Merge, SlotWindow};
+use rtp_stream::{MarkKindRef, MarkRef, Path, StreamSpec};
 use rtp_wire::read;
 use std::alloc::Global;
 use std::env::Args;

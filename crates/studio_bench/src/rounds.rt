@@ -5,7 +5,7 @@ use crate::datagrams::number;
 use crate::engine::studio_at;
 use anyhow::bail;
 use mix_packets::MAX_OUTPUT_OCTETS;
-use path_merge::Path;
+use rtp_stream::Path;
 use std::env::Args;
 use std::time::Instant;
 use studio_engine::Engine;

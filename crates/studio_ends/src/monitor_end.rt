@@ -2,7 +2,7 @@
 ghost use Rattle.std.specs.Prelude.{◌≡◌, ◌++◌, ◌∷◌, [], ◌<◌, IfSome, IsSome, None, length};
 ghost use Rattle.rtrb.specs.Ring.{received, known_items, SameConsumer};
 
-use path_merge::Counts;
+use rtp_stream::Counts;
 use rtrb::Consumer;
 
 /// The receiver of a stream's counts. It gets the counts of each turn that found space in its ring, in order.

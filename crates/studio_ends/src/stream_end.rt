@@ -7,8 +7,9 @@ ghost use Rattle.studio_ends.specs.CellSizes.{HasCellsFor};
 
 use crate::rings::marks::MarkProducer;
 use crate::rings::packets::PacketConsumer;
-use path_merge::{Counts, Merge, SlotWindow, StreamSpec};
+use path_merge::{Merge, SlotWindow};
 use rtp_stats::StreamStatsSender;
+use rtp_stream::{Counts, StreamSpec};
 use rtrb::Producer;
 
 pub(crate) mod marks_out;

@@ -38,7 +38,7 @@ use crate::deadline::reading_past;
 use crate::dispatch::{catch_up, push_close, push_datagram, push_tick};
 use crate::early_marks::keep_early_marks;
 use crate::next_block::next_datagram;
-use path_merge::Path;
+use rtp_stream::Path;
 use std::alloc::{AllocError, Global};
 use std::marker::Model;
 use studio_config::StudioSpec;

@@ -8,7 +8,7 @@ ghost use Rattle.studio_session.specs.ArriveOutcome.{outcome_of};
 ghost use Rattle.studio_engine.specs.Cursors.{AreBehind, all_at};
 ghost use Rattle.studio_engine.specs.Engine.{AreIdle, HaveCome};
 
-use path_merge::Path;
+use rtp_stream::Path;
 use studio_session::{ArriveOutcome, Cursor};
 
 /// Lets every cursor pass over the events that it missed, so that each has passed `count` events.

@@ -11,7 +11,7 @@ ghost use Rattle.studio_session.specs.Play.{HasPlayed, IsRunnableBy, Plays, Take
 ghost use Rattle.studio_engine.specs.Engine.{AreIdle, HaveCome};
 ghost use Rattle.studio_engine.specs.Near.{HasCapacities, IsAwaited};
 
-use path_merge::MarkRef;
+use rtp_stream::MarkRef;
 use studio_mix::Mixer;
 use studio_session::Cursor;
 

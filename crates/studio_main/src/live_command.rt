@@ -11,8 +11,9 @@ use live_io::{
     InheritedSockets, LivePorts, RunHealth, SocketConfig, TaiOffset, TaiTime, UnexpectedSources,
     tai_now, unopened_socket,
 };
-use live_run::{LiveFault, LiveInputs, LiveRun, StreamName, Token, run_studio_live};
+use live_run::{LiveFault, LiveInputs, LiveRun, run_studio_live};
 use rtp_stream::Path;
+use status_page::{StreamName, Token};
 use std::alloc::{AllocError, Global};
 use std::io::Write;
 use std::net::Net;

@@ -4,7 +4,7 @@ ghost use Rattle.std.specs.Fs.{IsFile, file_type, metadata_len, metadata_mode};
 
 use crate::fault::ProgramFault;
 use file_commands::CommandFault;
-use live_run::Token;
+use status_page::Token;
 use std::alloc::Global;
 use std::fs::Metadata;
 use std::os::unix::fs::MetadataExt;

@@ -1,5 +1,5 @@
 //! The outcome of a datagram that a stream received.
-use path_merge::Fate;
+use rtp_stream::Fate;
 use rtp_wire::WireFault;
 
 /// A packet of a stream that was offered to the merge, without its samples.

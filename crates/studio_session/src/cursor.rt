@@ -51,8 +51,8 @@ ghost use Rattle.studio_session.specs.ArriveOutcome.{outcome_in, outcome_of};
 use crate::arrive_outcome::{ArriveOutcome, OfferedPacket};
 use crate::event::EventHeader;
 use crate::source::{DatagramBuffer, EventSource};
-use path_merge::{Counts, Goal, MarkRef, Merge, Path, SlotWindow, StreamSpec};
-use rtp_stream::{PathCounts, ReceptionRef, receive_ref};
+use path_merge::{Goal, Merge, SlotWindow};
+use rtp_stream::{Counts, MarkRef, Path, PathCounts, ReceptionRef, StreamSpec, receive_ref};
 use std::alloc::{AllocError, Global};
 use std::marker::Model;
 

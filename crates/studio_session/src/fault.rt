@@ -17,7 +17,7 @@ ghost use Rattle.studio_session.specs.Play.{HasPathsBy, IsRunnableBy};
 use crate::event::EventHeader;
 use crate::source::EventSource;
 use mix_packets::OutSpec;
-use path_merge::{Path, StreamSpec};
+use rtp_stream::{Path, StreamSpec};
 use std::alloc::AllocError;
 use studio_config::StudioSpec;
 use thiserror::Error;

@@ -10,7 +10,7 @@ ghost use Rattle.studio_session.specs.Play.{IsRunnableBy, TakesMark, Plays, Play
 
 use crate::cursor::Cursor;
 use crate::source::{DatagramBuffer, EventSource};
-use path_merge::MarkRef;
+use rtp_stream::MarkRef;
 use studio_mix::Mixer;
 
 /// Feeds a stream's mark to the mixer, if there is one and the mixer accepts it.

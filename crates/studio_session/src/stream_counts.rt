@@ -12,8 +12,7 @@ ghost use Rattle.studio_session.specs.Report.{AreCounts, AreCountsOf, ArePulled,
 use crate::cursor::Cursor;
 use crate::finish::finish_stream;
 use crate::source::EventSource;
-use path_merge::Path;
-use rtp_stream::{PathCounts, StreamCounts};
+use rtp_stream::{Path, PathCounts, StreamCounts};
 use std::alloc::{AllocError, Global};
 
 /// Returns the counts of each path of a stream.

@@ -10,7 +10,7 @@ ghost use Rattle.wav_runs.specs.StreamSamples.{stream_format, stream_samples};
 
 use crate::stream_track::StreamTrack;
 use crate::stream_wav::add_taken;
-use path_merge::Path;
+use rtp_stream::Path;
 use std::marker::Model;
 use studio_session::Cursor;
 use wav_file::{FileFault, Overwrite};

@@ -2,8 +2,8 @@
 ghost use Rattle.wav_runs.specs.StreamEvents.{HasFollowed};
 
 use crate::stream_events::StreamWav;
-use path_merge::Path;
 use pcap_replay::ReplayObserver;
+use rtp_stream::Path;
 use wav_file::Overwrite;
 
 /// The WAV file of a stream takes each event of a replay, and none of the datagrams.

@@ -11,7 +11,7 @@ ghost use Rattle.wav_runs.specs.StreamSamples.{body_samples, gap_samples, sample
 ghost use Rattle.wav_file.specs.PartFile.{HasPrefix};
 ghost use Rattle.wav_runs.specs.StreamTrack.{HasTracked, first_track};
 
-use path_merge::{MarkKindRef, MarkRef, StreamSpec};
+use rtp_stream::{MarkKindRef, MarkRef, StreamSpec};
 use std::io::Write;
 use wav_file::{WavFault, WavFormat, WavWriter};
 

@@ -16,7 +16,7 @@ ghost use Rattle.wav_runs.specs.declared.stream_track.StreamTrack.{StreamTrack};
 
 use crate::fault::{StreamWavFault, WavRunFault};
 use crate::stream_track::StreamTrack;
-use path_merge::StreamSpec;
+use rtp_stream::StreamSpec;
 use rtp_wire::MAX_ARRIVAL_OCTETS;
 use std::alloc::Global;
 use std::io::{Read, Write};

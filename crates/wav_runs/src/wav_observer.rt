@@ -6,8 +6,8 @@ ghost use Rattle.wav_file.specs.MixSamples.{output_format, samples_in};
 ghost use Rattle.wav_runs.specs.WavObserver.{HasFront, HasHead, HasSounded, SoundState};
 
 use mix_packets::OutSpec;
-use path_merge::Path;
 use pcap_replay::ReplayObserver;
+use rtp_stream::Path;
 use std::io::Write;
 use std::marker::Model;
 use wav_file::{FileFault, Overwrite, WavFormat, WavWriter};

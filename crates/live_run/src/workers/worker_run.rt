@@ -13,8 +13,8 @@ use std::thread::Threads;
 use std::time::Clock;
 use studio_config::StudioSpec;
 use studio_ends::Ends;
-use studio_io::{GainSource, NoGains};
-use studio_rings::{WorkReport, run_workers_with_gains};
+use studio_io::{GainSource, NoGains, WorkReport};
+use studio_rings::run_workers_with_gains;
 
 /// The ends of the rings, the feeds, the clocks and the sink of a run's workers.
 #[derive(Drop)]

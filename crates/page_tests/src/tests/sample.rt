@@ -1,10 +1,10 @@
 //! A snapshot, in which each number is another.
 //!
 //! All parts find space in it, which the texts show: so its functions test no result, and hold little across a test.
+use rtp_stats::ArrivalMargin;
 use rtp_stream::{Counts, PathCounts};
 use status_page::{
-    ArrivalMargin, ChannelState, Condition, CopyCounts, PathState, Snapshot, SocketState,
-    StreamName, StreamState,
+    ChannelState, Condition, CopyCounts, PathState, Snapshot, SocketState, StreamName, StreamState,
 };
 use studio_io::{OutputCounts, OutputEnd, OutputKind, OutputState, OutputStates};
 

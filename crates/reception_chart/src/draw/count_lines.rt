@@ -1,6 +1,6 @@
 //! The counts of a stream, in the lines of its report.
 use crate::draw::fmt_result;
-use path_merge::Path;
+use rtp_stream::Path;
 use std::alloc::{AllocError, Global};
 use std::io::Write;
 use studio_run::{TextBuffer, write_merge_counts, write_path_counts};

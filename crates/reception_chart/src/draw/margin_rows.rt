@@ -2,7 +2,7 @@
 use crate::draw::bars::{LEFT, PLOT_WIDTH, height_of, push_bars};
 use crate::draw::{fmt_result, push_text};
 use crate::reception::margins::{MARGIN_BINS, Margins, PathMargins};
-use path_merge::Path;
+use rtp_stream::Path;
 use std::alloc::AllocError;
 use std::io::Write;
 use studio_run::millis;

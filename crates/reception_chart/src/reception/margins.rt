@@ -1,6 +1,6 @@
 //! The arrival margins of a stream's copies by path: the times from their arrival to their deadlines.
 use crate::reception::{CopyTiming, ReceptionEvent, ReceptionKind};
-use path_merge::Path;
+use rtp_stream::Path;
 
 /// The number of intervals of the time before a deadline.
 pub(crate) const MARGIN_BINS: usize = 96;

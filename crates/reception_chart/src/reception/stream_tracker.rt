@@ -4,8 +4,7 @@ ghost use Rattle.studio_session.specs.Cursor.{IsSameCursor};
 ghost use Rattle.reception_chart.specs.Places.{CountsOne};
 
 use crate::reception::{CopyTiming, ReceptionEvent, ReceptionKind, ReceptionObserver};
-use path_merge::{Fate, MarkKindRef, Path};
-use rtp_stream::{StreamSpec, is_taken, near32};
+use rtp_stream::{Fate, MarkKindRef, Path, StreamSpec, is_taken, near32};
 use rtp_wire::MAX_ARRIVAL_OCTETS;
 use std::alloc::{AllocError, Global};
 use studio_config::StudioSpec;

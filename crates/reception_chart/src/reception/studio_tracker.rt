@@ -4,7 +4,7 @@ use crate::reception::axis::Axis;
 use crate::reception::extent::Extent;
 use crate::reception::panel_data::PanelData;
 use crate::reception::stream_tracker::{StreamTracker, track_stream};
-use path_merge::Path;
+use rtp_stream::Path;
 use std::alloc::{AllocError, Global};
 use studio_config::StudioSpec;
 use studio_session::EventSource;

@@ -6,7 +6,7 @@ ghost use Rattle.rtp_stream.specs.MarkRef.{kind_of};
 ghost use Rattle.studio_ends.specs.MarkCells.{octets_in, said_of};
 
 use crate::rings::payload_cell::PayloadCell;
-use path_merge::{MarkKindRef, MarkRef, PacketFormat};
+use rtp_stream::{MarkKindRef, MarkRef, PacketFormat};
 use rtrb::{Finished, Producer};
 use std::marker::Model;
 

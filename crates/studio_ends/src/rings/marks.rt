@@ -37,7 +37,7 @@ use crate::mix_end::marks_in::take_stream;
 use crate::rings::TokenConsumer;
 use crate::rings::mark_cell::{MarkCell, SizedMarkProducer};
 use crate::rings::payload_cell::{LONG, MIDDLE, SHORT};
-use path_merge::{MarkRef, PacketFormat};
+use rtp_stream::{MarkRef, PacketFormat};
 use rtrb::{Finished, RingBuffer};
 use std::alloc::{AllocError, Global};
 use std::marker::Model;

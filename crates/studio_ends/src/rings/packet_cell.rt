@@ -4,7 +4,7 @@ ghost use Rattle.rtrb.specs.Ring.{Finishes, ProducerLooked, SameProducer, known_
 ghost use Rattle.rtp_stream.specs.PacketRef.{packet_of};
 
 use crate::rings::payload_cell::PayloadCell;
-use path_merge::PacketRef;
+use rtp_stream::PacketRef;
 use rtrb::{Finished, Producer};
 use std::marker::Model;
 

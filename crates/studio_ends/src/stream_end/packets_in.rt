@@ -7,8 +7,9 @@ ghost use Rattle.studio_ends.specs.StreamTurns.{AllTakePackets, Joins, TakesPack
 use crate::rings::TokenConsumer;
 use crate::rings::packet_cell::PacketCell;
 use crate::rings::packets::PacketConsumer;
-use path_merge::{Fate, Merge, PacketRef, Path, SlotWindow, StreamSpec};
+use path_merge::{Merge, SlotWindow};
 use rtp_stats::StreamStatsSender;
+use rtp_stream::{Fate, PacketRef, Path, StreamSpec};
 
 /// The most packets of a path, or marks of a stream, that one turn moves.
 // A limit, so that a ring that never runs empty cannot hold up the rings that a turn comes to after it.

@@ -43,8 +43,9 @@ use crate::rings::marks::MarkToken;
 use crate::stream_end::StreamEnd;
 use crate::stream_end::marks_out::{StopReason, TurnNote, drain_marks, push_marks};
 use crate::stream_end::packets_in::take_all;
-use path_merge::{ClockFault, Counts, Merge, SlotWindow, StreamSpec, clock_fault};
+use path_merge::{ClockFault, Merge, SlotWindow, clock_fault};
 use rtp_stats::StreamStatsSender;
+use rtp_stream::{Counts, StreamSpec};
 use rtrb::Producer;
 
 /// The error of `StreamEnd::close`. A path is still open if it has not finished or sent packets that were not taken.

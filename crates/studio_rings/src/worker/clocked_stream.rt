@@ -2,7 +2,7 @@
 ghost use Rattle.std.specs.Prelude.{◌≡◌, ◌^◌, ◌≤ℤ◌, pos, false};
 
 use crate::worker::Backoff;
-use path_merge::{Counts, StreamSpec};
+use rtp_stream::{Counts, StreamSpec};
 use studio_ends::{StreamDone, StreamEnd};
 use studio_io::Clock;
 

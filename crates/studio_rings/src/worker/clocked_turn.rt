@@ -5,8 +5,7 @@ ghost use Rattle.studio_rings.specs.Turns.{CatchesUp, Closes, GoesOn, KeepsToken
 
 use crate::worker::Backoff;
 use crate::worker::clocked_stream::ClockedStream;
-use path_merge::StreamClock;
-use rtp_stream::MAX_TIME;
+use rtp_stream::{MAX_TIME, StreamClock};
 use std::sync::Wait;
 use studio_ends::{StopReason, StreamEnd, TurnNote};
 use studio_io::Clock;

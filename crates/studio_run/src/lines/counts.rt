@@ -16,8 +16,7 @@ ghost use Rattle.studio_run.specs.Report.{
 
 use crate::text_buffer::TextBuffer;
 use crate::text_io::WriteFault;
-use path_merge::{Counts, Path};
-use rtp_stream::{COUNTS_AFTER_PATHS, COUNTS_BEFORE_PATHS, CountField, PathCounts};
+use rtp_stream::{COUNTS_AFTER_PATHS, COUNTS_BEFORE_PATHS, CountField, Counts, Path, PathCounts};
 use std::io::Write;
 
 /// Writes the line of a datagram of the output: an RTP header of 12 octets and a payload of at most 1,440.

@@ -6,7 +6,7 @@ ghost use Rattle.studio_run.specs.Text.{number_text, body_text, mark_text, mark_
 
 use crate::text_buffer::TextBuffer;
 use crate::text_io::WriteFault;
-use path_merge::{MarkKindRef, MarkRef};
+use rtp_stream::{MarkKindRef, MarkRef};
 use std::io::Write;
 
 /// Writes the line of a stream's mark.

@@ -17,7 +17,7 @@ use crate::lines::counts::{write_datagram, write_merge_counts, write_path_counts
 use crate::text_buffer::TextBuffer;
 use crate::text_io::WriteFault;
 use mix_packets::MAX_OUTPUT_OCTETS;
-use path_merge::Path;
+use rtp_stream::Path;
 use std::io::Write;
 use studio_session::{Cursor, EventSource, Session, finish_stream};
 

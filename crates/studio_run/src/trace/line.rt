@@ -8,7 +8,7 @@ ghost use Rattle.studio_run.specs.Lines.{line_length, first_line, after_line, li
 use crate::text_field::{decimal_number, first_place, split_field};
 use crate::trace::digits::spells_octets;
 use crate::trace::fault::TraceFaultKind;
-use path_merge::Path;
+use rtp_stream::Path;
 
 /// The greatest length of a line in octets, without its line feed.
 const MAX_LINE_OCTETS: usize = 4096;

@@ -9,7 +9,7 @@ use crate::trace::digits::decode_octets;
 use crate::trace::fault::{OUT_OF_MEMORY, TraceFault};
 use crate::trace::line::LineEvent;
 use crate::trace::reader::TraceReader;
-use path_merge::Path;
+use rtp_stream::Path;
 use std::alloc::Global;
 use std::marker::Model;
 use studio_session::{DatagramBuffer, EventHeader, EventSource};
