@@ -36,12 +36,9 @@ mod writer;
 
 pub use channel::AudioChannel;
 pub use parts::AudioParts;
-pub use pcm_channel::PcmChannel;
 pub use pcm_output::{PcmTask, RawPcmOutput};
 pub use pcm_tap::PcmTap;
 pub use pcm_writer::{PcmStop, PcmWriter, PcmWritten, write_pcm};
-pub use renewal::is_renewal_due;
-pub use ring_size::ring_octets;
 pub use tap::AudioTap;
 pub use wav_output::{WavOutput, WavTask};
 pub use writer::{AudioFile, AudioWriter, write_audio};

@@ -16,7 +16,6 @@ mod page_requester;
 mod planned;
 mod run_gains;
 
-pub use gain_channel::GainChannel;
 pub use gain_control::{GainControl, open_control};
 pub use link::GainLink;
 pub use page_requester::PageRequester;

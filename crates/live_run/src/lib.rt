@@ -44,5 +44,3 @@ mod workers;
 pub use fault::LiveFault;
 pub use inputs::{LiveInputs, LiveRun};
 pub use run::run_studio_live;
-pub use status_page::{StreamName, Token};
-pub use studio_io::LiveOptions;

@@ -42,7 +42,7 @@ pub use fault::ImportFault;
 pub use flow_text::table_text;
 pub use import::clock::CaptureClock;
 pub use import::config::{CaptureConfig, config_for};
-pub use import::{MAX_TRACE_EVENTS, MAX_TRACE_OCTETS, datagram_octets, route_in, trace_text};
+pub use import::{datagram_octets, route_in, trace_text};
 pub use packet::FlowKey;
 pub use packet_place::place_of_packet;
 pub use routes::{Route, Routes, routes_of};

@@ -39,9 +39,7 @@ mod reception;
 mod stream_counts;
 mod stream_spec;
 
-pub use anchor::{
-    Anchor, is_in_step, is_wanted_source, media_of_first, media_of_restart, number_of,
-};
+pub use anchor::{Anchor, media_of_first, media_of_restart};
 pub use arrival::{
     continues_media_time, fate_of_first, fate_of_put, is_off_place, is_taken, place_of,
 };

@@ -41,7 +41,6 @@ pub use page::controls_html::CONTROLS;
 pub use page::html::HTML;
 pub use page::metrics::metrics_text;
 pub use page::state::state_json;
-pub use rtp_stats::ArrivalMargin;
 pub use server::client::{new_connection, new_control_connection};
 pub use server::served::ServedPage;
 pub use server::source::{RingSource, serve_page};

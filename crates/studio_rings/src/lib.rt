@@ -31,7 +31,6 @@ mod stream_threads;
 mod tokens;
 mod worker;
 
-pub use jobs::{PathJob, PathResult};
 pub use run::{run_workers, run_workers_with_gains};
 pub use studio_ends::{
     Ends, MixEnd, MixNote, MonitorEnd, Offer, OpenFault, PathCounts, PathDone, PathEnd, PathsOpen,
@@ -42,7 +41,5 @@ pub use studio_io::{
     SendCounts, Sink, WorkFault, WorkReport,
 };
 pub use tokens::is_settled_with;
-pub use worker::Backoff;
 pub use worker::clocked_stream::ClockedStream;
-pub use worker::mixer::{MixResult, run_mixer, run_mixer_with_gains};
-pub use worker::path::run_path;
+pub use worker::mixer::{MixResult, run_mixer};

@@ -36,7 +36,6 @@ pub use lines::counts::{
     push_count, push_tally, write_datagram, write_merge_counts, write_path_counts,
 };
 pub use lines::instants::millis;
-pub use lines::mark::write_mark;
 pub use outputs::listing::{list_marks_and_counts, write_whole_listing};
 pub use outputs::report::write_counts;
 pub use player::{PlayFault, list_marks, play, read_all, runnable_events};
@@ -47,6 +46,5 @@ pub use studio_session::{Report, StudioEvent, StudioFault, run_studio};
 pub use text_buffer::TextBuffer;
 pub use text_io::{ReadFault, WriteFault, read_octets, write_text};
 pub use trace::events::read_trace;
-pub use trace::fault::{MAX_EVENTS as MAX_TRACE_EVENTS, TraceFault, TraceFaultKind};
-pub use trace::reader::MAX_TRACE_OCTETS;
+pub use trace::fault::{TraceFault, TraceFaultKind};
 pub use trace::text_events::TracedEvents;

@@ -36,14 +36,12 @@ mod stream_counts;
 
 pub use arrive_outcome::{ArriveOutcome, OfferedPacket};
 pub use cursor::Cursor;
-pub use datagrams::all_datagrams;
 pub use event::{EventHeader, StudioEvent};
 pub use fault::{StudioFault, first_fault, is_runnable};
 pub use feed_mixer::pull_marks;
 pub use finish::finish_stream;
 pub use laws::ticks_may_be_left_out;
 pub use report::Report;
-pub use rtp_stream::{PathCounts, Reception, ReceptionRef, StreamCounts, receive_ref};
 pub use run_list::run_studio;
 pub use session::{Session, studio_cursors};
-pub use source::{DatagramBuffer, EventList, EventSource};
+pub use source::{DatagramBuffer, EventSource};
