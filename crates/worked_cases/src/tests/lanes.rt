@@ -251,12 +251,13 @@ fn a_lane_is_filled_to_its_last_frame(rt: HostRuntime) {
 #[test]
 fn got_and_lost_slots_cover_up_to_their_end(rt: HostRuntime) {
     let player = &mut Player::with_capacity(&rt, rt.alloc(), 90);
-    for place in 0..15i16 {
-        let number = 65_537 + place as u32;
+    for place in 0..15u8 {
+        let number = 65_537 + u32::from(place);
+        let media = 6 * i16::from(place);
         let slot = if place < 8 {
-            Plain::Got(0, number, 6 * place, [100; 6])
+            Plain::Got(0, number, media, [100; 6])
         } else {
-            Plain::Lost(0, number, 6 * place)
+            Plain::Lost(0, number, media)
         };
         player.take(&rt, &[Step::Keep(slot)]);
     }
