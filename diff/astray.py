@@ -47,7 +47,7 @@ def run(random, paths, start, begin):
     delays = [random.choice((0, 0, 0, 1, 6, 13, 24, 60)) for _ in range(paths)]
     lost, jitter = random.choice((0, 0, 0.02, 0.2)), random.choice((0, 0, 1, 6, 12))
     forged, strays = random.choice((0, 0, 0, 0.5, 1)), random.choice((0, 0, 0.1))
-    for n, at in enumerate(sent_at(random, random.randrange(8, 220))):
+    for n, at in enumerate(sent_at(random, random.randrange(8, 500))):
         payload = bytes([n % 256]) * OCTETS
         for path in range(paths):
             now = start + at + delays[path] + random.randrange(jitter + 1)
@@ -73,13 +73,19 @@ def trace(random: Random) -> tuple[int, list[tuple]]:
     begin = random.choice((0, 1, 65500, random.randrange(65536))), random.randrange(2**32), random.choice((1, 2))
     for _ in range(random.choice((1, 1, 2))):
         comings += run(random, paths, start, begin)
-        start = max(time for time, _, _ in comings) + random.choice((0, 6, 100, 1000)) if comings else start
+        if comings:
+            start = max(time for time, _, _ in comings) + random.choice((0, 6, 100, 1000))
+            if random.random() < 0.1:
+                # a silence of about a second
+                start += random.randrange(47_900, 48_100)
         if random.random() < 0.5:
             begin = random.randrange(65536), random.randrange(2**32), random.choice((1, 2, 3))
     last, step = max([start] + [time for time, _, _ in comings]) + 30, random.choice((1, 3, 6, 6, 7, 12, 40))
-    comings += [
-        (now, random.random(), ("tick", now)) for now in range(random.randrange(6), last, step) if random.random() < 0.9
-    ]
+    if last > 10_000:
+        # a trace with a silence would be readings for the most part
+        step *= 20
+    readings = range(random.randrange(6), last, step)
+    comings += [(now, random.random(), ("tick", now)) for now in readings if random.random() < 0.9]
     if random.random() < 0.7:
         comings.append((last, 2, ("close",)))
     comings.sort(key=lambda coming: coming[:2])

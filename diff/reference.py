@@ -4,11 +4,14 @@ It finds the anchors, each epoch's packets and all fates over the whole trace be
 have to be well formed; faults of events are answered.
 """
 from collections import Counter, defaultdict, namedtuple
+from itertools import islice
 
 FRAMES, LATENCY, WINDOW, TYPE, OCTETS = 6, 12, 8, 96, 18
 PROBATION = 8
-# a sender is astray if so many of the last arrivals on a path are behind or beyond
-ASTRAY, LAST = 8, 64
+# a path is astray if so many of its last arrivals are behind or beyond; its sender is once that lasts for so long
+ASTRAY, LAST, LASTING = 8, 256, 960
+# the time after which the arrivals of a path no longer count, if no other one came on it
+SILENCE = 48_000
 LATEST = 2**60
 
 # what a specification asks for: a source or None, the offset of the media clock or None for the clocks of arrivals,
@@ -21,7 +24,7 @@ Epoch = namedtuple("Epoch", "place anchor packets")
 # an arrival of a path after the anchor in force, and whether it was off as it came
 Came = namedtuple("Came", "packet off")
 # how an arrival after the anchor in force stands by the clock that follows: its number if it is a copy in time, or None
-Stood = namedtuple("Stood", "path number behind beyond")
+Stood = namedtuple("Stood", "path time number behind beyond")
 
 PROGRAM = Stream()
 
@@ -114,47 +117,82 @@ def completes_probation(came):
     return len(last) == PROBATION and all(one.off for one in last) and in_sequence
 
 
-def last_of_path(stood, path):
-    return [one for one in stood if one.path == path][-LAST:]
+def run_of_path(stood, path):
+    """Gives the arrivals of a path, the latest first, up to the first that came too long before the one after it."""
+    after = None
+    for one in reversed(stood):
+        if one.path != path:
+            continue
+        if after and one.time + SILENCE < after.time:
+            return
+        yield one
+        after = one
 
 
-def is_emptying(anchor, due, stood):
+def is_astray(one):
+    return one.behind or one.beyond
+
+
+def is_early(stood, time, path):
+    """Whether packets come too early on a path, if its last one is not too long ago."""
+    run = list(islice(run_of_path(stood, path), LAST))
+    return bool(run) and run[0].time + SILENCE >= time and sum(one.beyond for one in run) >= ASTRAY
+
+
+def holds_one(stood, due, path):
+    """Whether a packet of a path is held."""
+    return any(one.path == path and one.number is not None and one.number >= due for one in stood)
+
+
+def is_emptying(anchor, due, time, stood):
     """Whether what is held is handed on and nothing more is taken: packets come too early on each path of which one is
     held."""
-    early, holds = {}, {}
-    for path in "abcd":
-        early[path] = sum(one.beyond for one in last_of_path(stood, path)) >= ASTRAY
-        holds[path] = any(one.path == path and one.number is not None and one.number >= due for one in stood)
-    return anchor.number < due and any(early.values()) and all(early[path] for path in "abcd" if holds[path])
+    early = {path: is_early(stood, time, path) for path in "abcd"}
+    if anchor.number >= due or not any(early.values()):
+        return False
+    return all(early[path] for path in "abcd" if holds_one(stood, due, path))
 
 
-def width_of(stream, anchor, due, stood):
+def width_of(stream, anchor, time, stood):
     """How many numbers, from the one due next on, are in time."""
-    return 0 if stream.follows and is_emptying(anchor, due, stood) else WINDOW
+    return 0 if stream.follows and is_emptying(anchor, next_due(anchor, time), time, stood) else WINDOW
 
 
 def stands(stream, anchor, time, stood, path, packet):
     """How an arrival stands, after those that stood so."""
     due, number = next_due(anchor, time), number_of(anchor, time, packet)
     if is_off(anchor, time, packet):
-        return Stood(path, None, False, False)
-    width = width_of(stream, anchor, due, stood)
+        return Stood(path, time, None, False, False)
+    width = width_of(stream, anchor, time, stood)
     greatest = max([anchor.number] + [one.number for one in stood if one.number is not None])
     in_time = due <= number < due + width
-    return Stood(path, number if in_time else None, greatest < number < due, number >= due and not in_time)
+    return Stood(path, time, number if in_time else None, greatest < number < due, number >= due and not in_time)
 
 
-def is_slip(stood):
-    """Whether the sender is astray with the last arrival: it is behind or beyond, and so are many on its path."""
-    last = stood[-1]
-    many = sum(one.behind or one.beyond for one in last_of_path(stood, last.path)) >= ASTRAY
-    return (last.behind or last.beyond) and many
+def astray_since(run):
+    """Since when a path is astray at each of its arrivals up to the latest, which comes first; or None."""
+    since, many = None, sum(map(is_astray, run[:LAST]))
+    for place, one in enumerate(run):
+        if many < ASTRAY:
+            break
+        since = one.time
+        # The window of the arrival before: without this one, and with the one behind its end.
+        many += sum(map(is_astray, run[place + LAST : place + LAST + 1])) - is_astray(one)
+    return since
+
+
+def is_slip(time, stood):
+    """Whether the sender is astray with the last arrival: it is behind or beyond, and its path is astray for long."""
+    if not is_astray(stood[-1]):
+        return False
+    since = astray_since(list(run_of_path(stood, stood[-1].path)))
+    return since is not None and since + LASTING <= time
 
 
 def anchor_of_restart(stream, epoch, time, came, stood):
     """The next epoch's anchor, where the last of a path's arrivals opens it; or None."""
     due, packet = next_due(epoch.anchor, time), came[-1].packet
-    opens = completes_probation(came) or stream.follows and is_slip(stood)
+    opens = completes_probation(came) or stream.follows and is_slip(time, stood)
     if not opens or any(number >= due for number in epoch.packets):
         return None
     media, least = first_media(stream, time, packet), media_time_of(epoch.anchor, due)
@@ -212,7 +250,7 @@ def arrivals(events, stream=PROGRAM):
             continue
         of_path, width = came[event[0]], WINDOW
         if epochs:
-            width = width_of(stream, epochs[-1].anchor, next_due(epochs[-1].anchor, time), stood)
+            width = width_of(stream, epochs[-1].anchor, time, stood)
         if epochs and is_asked_for(stream, packet):
             of_path.append(Came(packet, is_off(epochs[-1].anchor, time, packet)))
             stood.append(stands(stream, epochs[-1].anchor, time, stood, event[0], packet))

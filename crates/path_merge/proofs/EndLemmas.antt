@@ -177,10 +177,10 @@ module _ (stream : Stream) (open_at : ℤ) (some : 0 < stream.frames) where
         by_event (Tick u) few = rw (append-nil (copies_since stream open_at place a events), append-nil (standings_since stream open_at place a events)) ends.1
         by_event Close few = rw (append-nil (copies_since stream open_at place a events), append-nil (standings_since stream open_at place a events)) ends.1
         by_event (Arrive path packet) few =
-            subst (λ f. end_of_copies (copies_since stream open_at place a events ++ copies_under_at stream place a open_at events (Arrive path packet)) ≤ end_since a (λ on. end_of_standings (standings_on on (standings_since stream open_at place a events ++ (if f && (is_counting events && is_source_wanted stream.ssrc packet.ssrc) then standing_after stream a (next_number stream a (time_of open_at events)) (standings_since stream open_at place a events) path packet ∷ [] else []))))) (sym follows)
+            subst (λ f. end_of_copies (copies_since stream open_at place a events ++ copies_under_at stream place a open_at events (Arrive path packet)) ≤ end_since a (λ on. end_of_standings (standings_on on (standings_since stream open_at place a events ++ (if f && (is_counting events && is_source_wanted stream.ssrc packet.ssrc) then standing_after stream a (next_number stream a (time_of open_at events)) (time_of open_at events) (standings_since stream open_at place a events) path packet ∷ [] else []))))) (sym follows)
             (one_more a (standings_since stream open_at place a events) (copies_since stream open_at place a events) (is_counting events) (is_source_wanted stream.ssrc packet.ssrc)
             (is_in_time (of_width stream (width_since stream open_at place a events)) a (next_number stream a (time_of open_at events)) packet)
-            (standing_after stream a (next_number stream a (time_of open_at events)) (standings_since stream open_at place a events) path packet)
+            (standing_after stream a (next_number stream a (time_of open_at events)) (time_of open_at events) (standings_since stream open_at place a events) path packet)
             (extended_number packet (next_number stream a (time_of open_at events))) packet refl (few_last events path packet few) wanted ends.1)
           where
             same_source : (b c : Bool) → nat_eq packet.ssrc a.source ≡ b → (b && c) ≡ true → packet.ssrc ≡ a.source

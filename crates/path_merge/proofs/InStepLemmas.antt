@@ -27,19 +27,19 @@ placed_in_step stream width a next packet number is = by_tests (nat_eq packet.ss
 
 module _ (m : MergeState) (a : Anchor) (path : ℕ) (packet : Packet) (plain : is_following m.spec.clock ≡ false) where
   -- the window has its width
-  pub width_whole : width_by m.spec a m.base m.tracks ≡ m.spec.window
+  pub width_whole : width_by m.spec a m.base m.time m.tracks ≡ m.spec.window
   width_whole = rw plain refl
 
   module _ (on : is_off m.spec a m.base packet ≡ false) where
     -- a packet in step opens no epoch
     pub in_step_stays : opens_epoch m a path packet ≡ false
     in_step_stays =
-        ap (λ off. is_some (if is_source_wanted m.spec.ssrc packet.ssrc && (is_complete (probation_heard m.spec (probation_at m.probations path) off packet) || is_slip_by m.spec a m.base m.tracks path packet) then epoch_media m a packet else None)) on
+        ap (λ off. is_some (if is_source_wanted m.spec.ssrc packet.ssrc && (is_complete (probation_heard m.spec (probation_at m.probations path) off packet) || is_slip_by m.spec a m.base m.time m.tracks path packet) then epoch_media m a packet else None)) on
         ∙ by_wanted (is_source_wanted m.spec.ssrc packet.ssrc) refl
       where
-        no_slip : is_slip_by m.spec a m.base m.tracks path packet ≡ false
+        no_slip : is_slip_by m.spec a m.base m.time m.tracks path packet ≡ false
         no_slip = rw plain refl
 
-        by_wanted : (w : Bool) → is_source_wanted m.spec.ssrc packet.ssrc ≡ w → is_some (if w && (is_complete (probation_heard m.spec (probation_at m.probations path) false packet) || is_slip_by m.spec a m.base m.tracks path packet) then epoch_media m a packet else None) ≡ false
+        by_wanted : (w : Bool) → is_source_wanted m.spec.ssrc packet.ssrc ≡ w → is_some (if w && (is_complete (probation_heard m.spec (probation_at m.probations path) false packet) || is_slip_by m.spec a m.base m.time m.tracks path packet) then epoch_media m a packet else None) ≡ false
         by_wanted false wanted = refl
         by_wanted true wanted = rw (wanted, no_slip) refl

@@ -82,34 +82,34 @@ module _ (stream : Stream) (open_at : ℤ) (m : MergeState) (media : ℤ) (s : I
   anchor_then = anchor_is stream open_at (events ++ Arrive path packet ∷ []) ∙ ap anchor_in same_last
 
   -- the width that the tracks leave is that of the history
-  width_then : (o : Option (ℕ × Anchor)) → o ≡ Some (place, a) → width_in_force stream open_at o events ≡ width_by stream a m.base m.tracks
+  width_then : (o : Option (ℕ × Anchor)) → o ≡ Some (place, a) → width_in_force stream open_at o events ≡ width_by stream a m.base m.time m.tracks
   width_then o is = ap (λ o. width_in_force stream open_at o events) is ∙ sym (width_is stream open_at m media s open_yet events k at space a is_a place last path packet few_paths)
 
   copies_of_width : (r : ℕ) → copies_with (anchor_of stream open_at events) (copies_under_with (of_width stream r) (time_of open_at events) (is_counting events) (anchor_of stream open_at (events ++ Arrive path packet ∷ [])) packet) ≡ (if is_in_time (of_width stream r) a m.base packet then (extended_number packet m.base, packet) ∷ [] else [])
   copies_of_width r = rw (anchor_now, anchor_then, hearing, next, at.time) (all_tags stream open_at a (if is_in_time (of_width stream r) a (next_number stream a (time_of open_at events)) packet then (extended_number packet (next_number stream a (time_of open_at events)), packet) ∷ [] else []))
 
-  copies_then : copies_of stream open_at (events ++ Arrive path packet ∷ []) ≡ copies_of stream open_at events ++ (if is_in_time (of_width stream (width_by stream a m.base m.tracks)) a m.base packet then (extended_number packet m.base, packet) ∷ [] else [])
+  copies_then : copies_of stream open_at (events ++ Arrive path packet ∷ []) ≡ copies_of stream open_at events ++ (if is_in_time (of_width stream (width_by stream a m.base m.time m.tracks)) a m.base packet then (extended_number packet m.base, packet) ∷ [] else [])
   copies_then =
       copies_of-push stream open_at events (Arrive path packet) (anchor_then ∙ sym anchor_now)
       ∙ ap (λ l. copies_of stream open_at events ++ l)
       (ap (λ r. copies_with (anchor_of stream open_at events) (copies_under_with (of_width stream r) (time_of open_at events) (is_counting events) (anchor_of stream open_at (events ++ Arrive path packet ∷ [])) packet)) (width_then (last_of (anchors_of stream open_at (events ++ Arrive path packet ∷ []))) same_last)
-      ∙ copies_of_width (width_by stream a m.base m.tracks))
+      ∙ copies_of_width (width_by stream a m.base m.time m.tracks))
 
   held_from : (n : ℕ) → m.base ≤ n → get m.held n ≡ first_copy stream open_at events n
   held_from n le = let past : nat_lt n m.base ≡ false = grind (arith, nat_tests, le) in at.held n ∙ rw past refl
 
   next_held : (new : MergeState) (fate : Fate) → IsNextStep stream m new a path packet fate → (n : ℕ) → get new.held n ≡ (if nat_lt n m.base then None else first_copy stream open_at (events ++ Arrive path packet ∷ []) n)
-  next_held new fate step n = by_place (place_of (of_width stream (width_by stream a m.base m.tracks)) a m.base packet) refl
+  next_held new fate step n = by_place (place_of (of_width stream (width_by stream a m.base m.time m.tracks)) a m.base packet) refl
     where
-      by_place : (place : Result ℕ Fate) → place_of (of_width stream (width_by stream a m.base m.tracks)) a m.base packet ≡ place → get new.held n ≡ (if nat_lt n m.base then None else first_copy stream open_at (events ++ Arrive path packet ∷ []) n)
+      by_place : (place : Result ℕ Fate) → place_of (of_width stream (width_by stream a m.base m.time m.tracks)) a m.base packet ≡ place → get new.held n ≡ (if nat_lt n m.base then None else first_copy stream open_at (events ++ Arrive path packet ∷ []) n)
       by_place (Err fault) is =
-          let out = has_no_place (of_width stream (width_by stream a m.base m.tracks)) a m.base packet fault is in
+          let out = has_no_place (of_width stream (width_by stream a m.base m.time m.tracks)) a m.base packet fault is in
           let fate_f : fate ≡ fault = step.puts.fate_is ∙ ap (λ o. fate_at o (get m.held) packet) is in
           let same : copies_of stream open_at (events ++ Arrive path packet ∷ []) ≡ copies_of stream open_at events = copies_then ∙ ap (λ b. copies_of stream open_at events ++ (if b then (extended_number packet m.base, packet) ∷ [] else [])) out.out_of_time ∙ append-nil _ in
           step.puts.held n ∙ ap (λ b. if b && nat_eq n (extended_number packet m.base) then Some packet else get m.held n) (ap is_taken_fate fate_f ∙ out.untaken) ∙ at.held n
           ∙ ap (λ l. if nat_lt n m.base then None else first_with n l) (sym same)
       by_place (Ok number) is =
-          let here = has_place (of_width stream (width_by stream a m.base m.tracks)) a m.base packet number is in
+          let here = has_place (of_width stream (width_by stream a m.base m.time m.tracks)) a m.base packet number is in
           let fate_p : fate ≡ fate_of_put (put_answer (get m.held number) packet) = step.puts.fate_is ∙ ap (λ o. fate_at o (get m.held) packet) is in
           let one : copies_of stream open_at (events ++ Arrive path packet ∷ []) ≡ copies_of stream open_at events ++ (number, packet) ∷ [] = copies_then ∙ ap (λ b. copies_of stream open_at events ++ (if b then (extended_number packet m.base, packet) ∷ [] else [])) here.in_time ∙ ap (λ x. copies_of stream open_at events ++ (x, packet) ∷ []) (sym here.is) in
           step.puts.held n ∙ ap (λ b. if b && nat_eq n (extended_number packet m.base) then Some packet else get m.held n) (ap is_taken_fate fate_p ∙ taken_answer (get m.held number) packet)
@@ -128,18 +128,18 @@ module _ (stream : Stream) (open_at : ℤ) (m : MergeState) (media : ℤ) (s : I
       by_count : (n : ℕ) → n < 2 ^ 62 → (if not (nat_lt n (2 ^ 62)) then CountersFull else next_fate (of_width stream r) a m.base (copies_of stream open_at events) packet) ≡ next_fate (of_width stream r) a m.base (copies_of stream open_at events) packet
       by_count n h = let yes : nat_lt n (2 ^ 62) ≡ true = grind (arith, nat_tests, h) in rw yes refl
 
-  fate_heard : fate_of stream open_at events path packet ≡ next_fate (of_width stream (width_by stream a m.base m.tracks)) a m.base (copies_of stream open_at events) packet
+  fate_heard : fate_of stream open_at events path packet ≡ next_fate (of_width stream (width_by stream a m.base m.time m.tracks)) a m.base (copies_of stream open_at events) packet
   fate_heard =
       fate_of_width (width_in_force stream open_at (last_of (anchors_of stream open_at events)) events)
       ∙ ap (λ r. next_fate (of_width stream r) a m.base (copies_of stream open_at events) packet) (width_then (last_of (anchors_of stream open_at events)) last)
 
   pub fate_next : (new : MergeState) (fate : Fate) → IsNextStep stream m new a path packet fate → fate ≡ fate_of stream open_at events path packet
   fate_next new answer step =
-      step.puts.fate_is ∙ by_place (place_of (of_width stream (width_by stream a m.base m.tracks)) a m.base packet) refl ∙ sym fate_heard
+      step.puts.fate_is ∙ by_place (place_of (of_width stream (width_by stream a m.base m.time m.tracks)) a m.base packet) refl ∙ sym fate_heard
     where
-      by_place : (place : Result ℕ Fate) → place_of (of_width stream (width_by stream a m.base m.tracks)) a m.base packet ≡ place → fate_at (place_of (of_width stream (width_by stream a m.base m.tracks)) a m.base packet) (get m.held) packet ≡ fate_at (place_of (of_width stream (width_by stream a m.base m.tracks)) a m.base packet) (first_copy stream open_at events) packet
+      by_place : (place : Result ℕ Fate) → place_of (of_width stream (width_by stream a m.base m.time m.tracks)) a m.base packet ≡ place → fate_at (place_of (of_width stream (width_by stream a m.base m.time m.tracks)) a m.base packet) (get m.held) packet ≡ fate_at (place_of (of_width stream (width_by stream a m.base m.time m.tracks)) a m.base packet) (first_copy stream open_at events) packet
       by_place (Err fault) is = ap (λ o. fate_at o (get m.held) packet) is ∙ sym (ap (λ o. fate_at o (first_copy stream open_at events) packet) is)
-      by_place (Ok number) is = ap (λ o. fate_at o (get m.held) packet) is ∙ ap (λ g. fate_of_put (put_answer g packet)) (held_from number (has_place (of_width stream (width_by stream a m.base m.tracks)) a m.base packet number is).low) ∙ sym (ap (λ o. fate_at o (first_copy stream open_at events) packet) is)
+      by_place (Ok number) is = ap (λ o. fate_at o (get m.held) packet) is ∙ ap (λ g. fate_of_put (put_answer g packet)) (held_from number (has_place (of_width stream (width_by stream a m.base m.time m.tracks)) a m.base packet number is).low) ∙ sym (ap (λ o. fate_at o (first_copy stream open_at events) packet) is)
 
   -- each path's probation
   heard_then : (on : ℕ) → heard_of stream open_at (last_of (anchors_of stream open_at (events ++ Arrive path packet ∷ []))) (events ++ Arrive path packet ∷ []) on ≡ heard_since stream open_at place a events on ++ heard_by stream open_at (Some (place, a)) events (Arrive path packet) on
@@ -179,14 +179,14 @@ module _ (stream : Stream) (open_at : ℤ) (m : MergeState) (media : ℤ) (s : I
 
   -- the standings on the other paths stay the same
   on_other : (on : ℕ) → nat_eq path on ≡ false → standings_on on (standings_since stream open_at place a events ++ standings_at stream a open_at (standings_since stream open_at place a events) events (Arrive path packet)) ≡ standings_on on (standings_since stream open_at place a events)
-  on_other on apart = by_test (is_following stream.clock && (is_counting events && is_source_wanted stream.ssrc packet.ssrc)) (standing_after stream a (next_number stream a (time_of open_at events)) (standings_since stream open_at place a events) path packet) refl
+  on_other on apart = by_test (is_following stream.clock && (is_counting events && is_source_wanted stream.ssrc packet.ssrc)) (standing_after stream a (next_number stream a (time_of open_at events)) (time_of open_at events) (standings_since stream open_at place a events) path packet) refl
     where
       by_test : (b : Bool) (x : Standing) → x.path ≡ path → standings_on on (standings_since stream open_at place a events ++ (if b then x ∷ [] else [])) ≡ standings_on on (standings_since stream open_at place a events)
       by_test true x own = standings_on-other on (standings_since stream open_at place a events) x (ap (λ p. nat_eq p on) own ∙ apart)
       by_test false x own = ap (standings_on on) (append-nil _)
 
-  on_own : track_heard stream a m.base m.tracks path packet ≡ track_of (standings_on path (standings_since stream open_at place a events ++ standings_at stream a open_at (standings_since stream open_at place a events) events (Arrive path packet)))
-  on_own = by_tests (is_following stream.clock) (is_counting events) (is_source_wanted stream.ssrc packet.ssrc) (standing_by stream a m.base m.tracks path packet) (standing_after stream a (next_number stream a (time_of open_at events)) (standings_since stream open_at place a events) path packet) hearing (stands_is stream open_at m media s open_yet events k at space a is_a place last path packet few_paths) refl
+  on_own : track_heard stream a m.base m.time m.tracks path packet ≡ track_of (standings_on path (standings_since stream open_at place a events ++ standings_at stream a open_at (standings_since stream open_at place a events) events (Arrive path packet)))
+  on_own = by_tests (is_following stream.clock) (is_counting events) (is_source_wanted stream.ssrc packet.ssrc) (standing_by stream a m.base m.time m.tracks path packet) (standing_after stream a (next_number stream a (time_of open_at events)) (time_of open_at events) (standings_since stream open_at place a events) path packet) hearing (stands_is stream open_at m media s open_yet events k at space a is_a place last path packet few_paths) refl
     where
       left : standings_on path (standings_since stream open_at place a events) ≡ standings_on path (standings_since stream open_at place a events ++ [])
       left = ap (standings_on path) (sym (append-nil _))
@@ -212,7 +212,7 @@ module _ (stream : Stream) (open_at : ℤ) (m : MergeState) (media : ℤ) (s : I
       by_path true true ee ee' =
           let same : path ≡ on = grind (arith, nat_tests, ee') in
           subst (λ x. track_at new.tracks x ≡ track_of (standings_on x (standings_since stream open_at place a events ++ standings_at stream a open_at (standings_since stream open_at place a events) events (Arrive path packet)))) same
-          (ap (λ (x : MergeState). track_at x.tracks path) step.puts.changed ∙ step.hears.track ∙ ap (λ sp. track_heard sp a m.base m.tracks path packet) at.spec ∙ on_own)
+          (ap (λ (x : MergeState). track_at x.tracks path) step.puts.changed ∙ step.hears.track ∙ ap (λ sp. track_heard sp a m.base m.time m.tracks path packet) at.spec ∙ on_own)
 
   pub stands_next : (new : MergeState) (fate : Fate) → IsNextStep stream m new a path packet fate → HasHistory stream open_at new (events ++ Arrive path packet ∷ []) k
   stands_next new fate step = stands_after_arrival stream open_at (some_frames stream open_at m media s open_yet events k at) m new events k path packet at open_yet (few stream open_at m media s open_yet events k at space) (record {
@@ -224,7 +224,7 @@ module _ (stream : Stream) (open_at : ℤ) (m : MergeState) (media : ℤ) (s : I
     probation = next_probation new fate step;
     tracks = next_tracks new fate step;
     quiet = ap (λ (x : MergeState). x.quiet) step.puts.changed;
-    counts = ap (λ (x : MergeState). x.counts) step.puts.changed ∙ ap (λ t. with_fate t path fate) (at.counts ∙ ap (counts_of stream open_at events) (all stream open_at m media s open_yet events k at)) ∙ sym (counts_heard stream open_at m media s open_yet events k at path packet space fate (fate_next new fate step) (ap is_counted_fate (fate_next new fate step ∙ fate_heard) ∙ counts_at (of_width stream (width_by stream a m.base m.tracks)) a m.base packet (λ number. first_with number (copies_of stream open_at events))) few_paths);
+    counts = ap (λ (x : MergeState). x.counts) step.puts.changed ∙ ap (λ t. with_fate t path fate) (at.counts ∙ ap (counts_of stream open_at events) (all stream open_at m media s open_yet events k at)) ∙ sym (counts_heard stream open_at m media s open_yet events k at path packet space fate (fate_next new fate step) (ap is_counted_fate (fate_next new fate step ∙ fate_heard) ∙ counts_at (of_width stream (width_by stream a m.base m.time m.tracks)) a m.base packet (λ number. first_with number (copies_of stream open_at events))) few_paths);
     closed = ap (λ (x : MergeState). x.closed) step.puts.changed;
     ended = ap (λ (x : MergeState). x.ended) step.puts.changed;
   })
@@ -265,7 +265,7 @@ module _ (m new : MergeState) (a : Anchor) (path : ℕ) (packet : Packet) (fate 
 
   pub counted_anchored : is_counted_fate fate ≡ true
   counted_anchored = by_opening (is_counted_fate fate ≡ true)
-      (λ e step. ap is_counted_fate step.puts.fate_is ∙ counts_at (of_width m.spec (width_by m.spec a m.base m.tracks)) a m.base packet (get m.held))
+      (λ e step. ap is_counted_fate step.puts.fate_is ∙ counts_at (of_width m.spec (width_by m.spec a m.base m.time m.tracks)) a m.base packet (get m.held))
       (λ e step. ap is_counted_fate step.fate_is)
 
   -- an offer extends the history, with the fate of the definition

@@ -47,7 +47,7 @@ pub record Opens (m : MergeState) (a : Anchor) (packet : Packet) (media : ℤ) :
   pub continues_media_time : is_restart_in_reach m.spec m.time (media_time_of m.spec a m.base) media ≡ true
 
 pub opening_is : (m : MergeState) (a : Anchor) (path : ℕ) (packet : Packet) (media : ℤ) → Some media ≡ opening_of m a path packet → Opens m a packet media
-opening_is m a path packet media is = by_tests (is_source_wanted m.spec.ssrc packet.ssrc && (is_complete (probation_heard m.spec (probation_at m.probations path) (is_off m.spec a m.base packet) packet) || is_slip_by m.spec a m.base m.tracks path packet)) (holds_nothing m) (is_restart_in_reach m.spec m.time (media_time_of m.spec a m.base) (restart_media_time m.spec.clock packet.ts m.time (media_time_of m.spec a m.base))) refl refl is
+opening_is m a path packet media is = by_tests (is_source_wanted m.spec.ssrc packet.ssrc && (is_complete (probation_heard m.spec (probation_at m.probations path) (is_off m.spec a m.base packet) packet) || is_slip_by m.spec a m.base m.time m.tracks path packet)) (holds_nothing m) (is_restart_in_reach m.spec m.time (media_time_of m.spec a m.base) (restart_media_time m.spec.clock packet.ts m.time (media_time_of m.spec a m.base))) refl refl is
   where
     some_inj : {x y : ℤ} → Some x ≡ Some y → x ≡ y
     some_inj e = cc

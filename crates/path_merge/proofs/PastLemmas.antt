@@ -1,5 +1,5 @@
 -- An arrival in step that opens an epoch has a number past all that was heard in the epoch before.
-use Rattle.std.proofs.Common.{◌≡◌, ℕ, ◌+◌, ◌^◌, ◌<◌, ◌≤◌, Bool, true, false, not, ◌&&◌, ◌||◌, List, [], ◌∷◌, ◌++◌, length, Option, Some, None, Ok, Err, ℤ, refl, sym, ap, subst, ◌∙◌, arith, if◌then◌else◌}
+use Rattle.std.proofs.Common.{◌≡◌, ℕ, ◌+◌, ◌^◌, ◌<◌, ◌≤◌, Bool, true, false, not, ◌&&◌, ◌||◌, List, [], ◌∷◌, ◌++◌, length, reverse, Option, Some, None, Ok, Err, ℤ, refl, sym, ap, subst, ◌∙◌, arith, if◌then◌else◌}
 use Rattle.std.specs.Prelude.{bytes_eq, int_le, nat_eq, nat_le, nat_lt, pos, ◌+ℤ◌, ◌-ℤ◌, ◌*◌}
 use Rattle.std.proofs.lemmas.Bool.Decides.{nat_tests}
 use Rattle.path_merge.proofs.AnewLemmas.{itself_eq}
@@ -15,7 +15,7 @@ use Rattle.rtp_stream.specs.History.{arrival_count, is_closed, is_counting, time
 use Rattle.rtp_stream.specs.PathProbation.{is_complete}
 use Rattle.rtp_stream.specs.Probation.{completes_probation, heard_since, is_off}
 use Rattle.rtp_stream.specs.Put.{put_answer}
-use Rattle.rtp_stream.specs.Follow.{are_many, end_of_standings, end_since, has_wire_size, is_astray, is_following, is_slip, width_after, standing_after, standings_on, standings_since}
+use Rattle.rtp_stream.specs.Follow.{astray_since, end_of_standings, end_since, has_wire_size, is_astray, is_following, is_for_long, is_slip, run_of, width_after, standing_after, standings_on, standings_since}
 use Rattle.path_merge.specs.HeardOnce.{HasFewPaths}
 use Rattle.rtp_stream.specs.declared.stream_spec.Stream.{Stream}
 use Rattle.rtp_stream.specs.declared.anchor.Anchor.{Anchor}
@@ -97,9 +97,9 @@ module _ (stream : Stream) (open_at : ℤ) (some : 0 < stream.frames) (events : 
       let end = both (is_source_wanted stream.ssrc packet.ssrc) (completes_probation stream (heard_since stream open_at place a (events ++ Arrive path packet ∷ []) path) || is_slip stream open_at place a events path packet) rest.1 in
       let within : place < length events = subst (WithinLength (length events)) last (place_within stream open_at events) in
       let slip = slips within counts on end.0 end.1 in
-      let follows = both (is_following stream.clock) (has_wire_size packet && (is_astray (standing_after stream a (next_number stream a (time_of open_at events)) (standings_since stream open_at place a events) path packet) && are_many is_astray (standings_on path (standings_since stream open_at place a (events ++ Arrive path packet ∷ []))))) slip in
-      let sized = both (has_wire_size packet) (is_astray (standing_after stream a (next_number stream a (time_of open_at events)) (standings_since stream open_at place a events) path packet) && are_many is_astray (standings_on path (standings_since stream open_at place a (events ++ Arrive path packet ∷ [])))) follows.1 in
-      let astray = both (is_astray (standing_after stream a (next_number stream a (time_of open_at events)) (standings_since stream open_at place a events) path packet)) (are_many is_astray (standings_on path (standings_since stream open_at place a (events ++ Arrive path packet ∷ [])))) sized.1 in
+      let follows = both (is_following stream.clock) (has_wire_size packet && (is_astray (standing_after stream a (next_number stream a (time_of open_at events)) (time_of open_at events) (standings_since stream open_at place a events) path packet) && is_for_long (astray_since (run_of (reverse (standings_on path (standings_since stream open_at place a (events ++ Arrive path packet ∷ [])))))) (time_of open_at events))) slip in
+      let sized = both (has_wire_size packet) (is_astray (standing_after stream a (next_number stream a (time_of open_at events)) (time_of open_at events) (standings_since stream open_at place a events) path packet) && is_for_long (astray_since (run_of (reverse (standings_on path (standings_since stream open_at place a (events ++ Arrive path packet ∷ [])))))) (time_of open_at events)) follows.1 in
+      let astray = both (is_astray (standing_after stream a (next_number stream a (time_of open_at events)) (time_of open_at events) (standings_since stream open_at place a events) path packet)) (is_for_long (astray_since (run_of (reverse (standings_on path (standings_since stream open_at place a (events ++ Arrive path packet ∷ [])))))) (time_of open_at events)) sized.1 in
       let ends : EndsWithin stream open_at some (Some (place, a)) events = subst (λ o. EndsWithin stream open_at some o events) last (ends_within stream open_at some follows.0 events few) in
       let given : end_of_copies (copies_since stream open_at place a events) ≤ next_number stream a (time_of open_at events) = all_given rest.0 in
       record {
@@ -110,13 +110,13 @@ module _ (stream : Stream) (open_at : ℤ) (some : 0 < stream.frames) (events : 
       all_given : is_all_given stream open_at place a events ≡ true → end_of_copies (copies_since stream open_at place a events) ≤ next_number stream a (time_of open_at events)
       all_given is = grind (arith, nat_tests, is)
 
-      by_limit : (limit : ℕ) → limit ≤ end_since a (λ on. end_of_standings (standings_on on (standings_since stream open_at place a events))) → limit ≤ next_number stream a (time_of open_at events) → is_astray (standing_after stream a (next_number stream a (time_of open_at events)) (standings_since stream open_at place a events) path packet) ≡ true → limit ≤ extended_number packet (next_number stream a (time_of open_at events))
+      by_limit : (limit : ℕ) → limit ≤ end_since a (λ on. end_of_standings (standings_on on (standings_since stream open_at place a events))) → limit ≤ next_number stream a (time_of open_at events) → is_astray (standing_after stream a (next_number stream a (time_of open_at events)) (time_of open_at events) (standings_since stream open_at place a events) path packet) ≡ true → limit ≤ extended_number packet (next_number stream a (time_of open_at events))
       by_limit limit low high is = astray_past limit (end_since a (λ on. end_of_standings (standings_on on (standings_since stream open_at place a events)))) (next_number stream a (time_of open_at events)) (extended_number packet (next_number stream a (time_of open_at events)))
           (is_off stream a (next_number stream a (time_of open_at events)) packet)
           (nat_lt (extended_number packet (next_number stream a (time_of open_at events))) (next_number stream a (time_of open_at events)))
           (nat_le (end_since a (λ on. end_of_standings (standings_on on (standings_since stream open_at place a events)))) (extended_number packet (next_number stream a (time_of open_at events))))
           (nat_le (next_number stream a (time_of open_at events)) (extended_number packet (next_number stream a (time_of open_at events))))
-          (nat_le (next_number stream a (time_of open_at events) + width_after stream a (next_number stream a (time_of open_at events)) (standings_since stream open_at place a events)) (extended_number packet (next_number stream a (time_of open_at events))))
+          (nat_le (next_number stream a (time_of open_at events) + width_after stream a (next_number stream a (time_of open_at events)) (time_of open_at events) (standings_since stream open_at place a events)) (extended_number packet (next_number stream a (time_of open_at events))))
           refl refl low high is
 
 -- the same, by the fate of the arrival

@@ -1,13 +1,13 @@
 -- An offer that opens an epoch takes the history on.
-use Rattle.std.proofs.Common.{◌≡◌, ℕ, ◌+◌, ◌^◌, ◌<◌, ◌≤◌, Bool, true, false, not, ◌&&◌, ◌||◌, List, [], ◌∷◌, ◌++◌, length, take, min, Some, None, ℤ, refl, sym, ap, subst, ◌∙◌, arith, append-nil, length-append, if◌then◌else◌}
+use Rattle.std.proofs.Common.{◌≡◌, ℕ, ◌+◌, ◌^◌, ◌<◌, ◌≤◌, Bool, true, false, not, ◌&&◌, ◌||◌, List, [], ◌∷◌, ◌++◌, length, reverse, take, min, Some, None, ℤ, refl, sym, ap, subst, ◌∙◌, arith, append-nil, length-append, if◌then◌else◌}
 use Rattle.std.specs.Prelude.{IsSome, is_some, nat_eq, nat_le, nat_lt, ◌-◌}
 use Rattle.std.specs.FinMap.{get}
 use Rattle.std.proofs.lemmas.Bool.Decides.{nat_tests}
 use Rattle.path_merge.proofs.ArrivalLemmas.{marks_of-arrive, stands_after_arrival}
 use Rattle.path_merge.proofs.EpochLemmas.{WithinLength, anchor_is, copies_of-since, copies_since-made, heard_of-made, heard_of-push, last-push, place_within, width_made, since_of, standings_of-made, standings_since-push}
-use Rattle.rtp_stream.proofs.FollowLemmas.{astray_is, early_is, end_is, track_of-push}
-use Rattle.rtp_stream.specs.FollowTrack.{is_often, is_slip_by, width_by, standing_by, track_after, track_at, track_of}
-use Rattle.rtp_stream.specs.Follow.{are_many, empties, end_of_standings, end_since, has_wire_size, is_astray, is_beyond, is_following, is_slip, width_after, width_since, standing_after, standing_of, standings_on, standings_since}
+use Rattle.rtp_stream.proofs.FollowLemmas.{early_is, end_is, since_is, track_of-push}
+use Rattle.rtp_stream.specs.FollowTrack.{is_early, is_slip_by, width_by, standing_by, track_after, track_at, track_of}
+use Rattle.rtp_stream.specs.Follow.{are_many_at, astray_since, empties, end_of_standings, end_since, has_wire_size, is_astray, is_beyond, is_following, is_for_long, is_slip, run_of, width_after, width_since, standing_after, standing_of, standings_on, standings_since}
 use Rattle.rtp_stream.specs.declared.follow.Standing.{Standing}
 use Rattle.rtp_stream.specs.declared.follow.Track.{Track}
 use Rattle.path_merge.proofs.HistoryLemmas.{arrival_count-append, by_last_event, fates_of-push, fates_of-tick, is_closed-append, marks_of-in, or_else}
@@ -188,48 +188,53 @@ module _ (stream : Stream) (open_at : ℤ) (m : MergeState) (media : ℤ) (s : I
     next_then : m.base ≡ next_number stream a (time_of open_at events)
     next_then = next_is ∙ ap (next_number stream a) at.time
 
-    width_here : width_by stream a m.base m.tracks ≡ width_after stream a m.base (standings_since stream open_at place a events)
-    width_here = ap (λ b. if is_following stream.clock && b then 0 else stream.window) (empties_same a m.base (λ on. is_often (track_at m.tracks on).early) (λ on. are_many is_beyond (standings_on on (standings_since stream open_at place a events))) (λ on. (track_at m.tracks on).end) (λ on. end_of_standings (standings_on on (standings_since stream open_at place a events)))
-        (λ on few_on. ap (λ (t : Track). is_often t.early) (was_track on few_on) ∙ early_is (standings_on on (standings_since stream open_at place a events)))
+    width_here : width_by stream a m.base m.time m.tracks ≡ width_after stream a m.base m.time (standings_since stream open_at place a events)
+    width_here = ap (λ b. if is_following stream.clock && b then 0 else stream.window) (empties_same a m.base (λ on. is_early (track_at m.tracks on) m.time) (λ on. are_many_at is_beyond m.time (standings_on on (standings_since stream open_at place a events))) (λ on. (track_at m.tracks on).end) (λ on. end_of_standings (standings_on on (standings_since stream open_at place a events)))
+        (λ on few_on. ap (λ (t : Track). is_early t m.time) (was_track on few_on) ∙ early_is (standings_on on (standings_since stream open_at place a events)) m.time)
         (λ on few_on. ap (λ (t : Track). t.end) (was_track on few_on) ∙ end_is (standings_on on (standings_since stream open_at place a events))))
 
-    pub width_is : width_by stream a m.base m.tracks ≡ width_since stream open_at place a events
-    width_is = width_here ∙ ap (λ b. width_after stream a b (standings_since stream open_at place a events)) next_then
+    pub width_is : width_by stream a m.base m.time m.tracks ≡ width_since stream open_at place a events
+    width_is =
+        width_here
+        ∙ ap (λ b. width_after stream a b m.time (standings_since stream open_at place a events)) next_then
+        ∙ ap (λ t. width_after stream a (next_number stream a (time_of open_at events)) t (standings_since stream open_at place a events)) at.time
 
-    pub stands_is : standing_by stream a m.base m.tracks path packet ≡ standing_after stream a (next_number stream a (time_of open_at events)) (standings_since stream open_at place a events) path packet
+    pub stands_is : standing_by stream a m.base m.time m.tracks path packet ≡ standing_after stream a (next_number stream a (time_of open_at events)) (time_of open_at events) (standings_since stream open_at place a events) path packet
     stands_is =
-        ap (λ r. standing_of stream a m.base r (end_since a (λ on. (track_at m.tracks on).end)) path packet) width_here
-        ∙ ap (λ e. standing_of stream a m.base (width_after stream a m.base (standings_since stream open_at place a events)) e path packet) (end_same a (λ on. (track_at m.tracks on).end) (λ on. end_of_standings (standings_on on (standings_since stream open_at place a events))) (λ on few_on. ap (λ (t : Track). t.end) (was_track on few_on) ∙ end_is (standings_on on (standings_since stream open_at place a events))))
-        ∙ ap (λ b. standing_after stream a b (standings_since stream open_at place a events) path packet) next_then
+        ap (λ r. standing_of stream a m.base m.time r (end_since a (λ on. (track_at m.tracks on).end)) path packet) width_here
+        ∙ ap (λ e. standing_of stream a m.base m.time (width_after stream a m.base m.time (standings_since stream open_at place a events)) e path packet) (end_same a (λ on. (track_at m.tracks on).end) (λ on. end_of_standings (standings_on on (standings_since stream open_at place a events))) (λ on few_on. ap (λ (t : Track). t.end) (was_track on few_on) ∙ end_is (standings_on on (standings_since stream open_at place a events))))
+        ∙ ap (λ b. standing_after stream a b m.time (standings_since stream open_at place a events) path packet) next_then
+        ∙ ap (λ t. standing_after stream a (next_number stream a (time_of open_at events)) t (standings_since stream open_at place a events) path packet) at.time
 
     -- an arrival that is judged
-    pub judged_here : is_following stream.clock ≡ true → is_source_wanted stream.ssrc packet.ssrc ≡ true → standings_on path (standings_since stream open_at place a (events ++ Arrive path packet ∷ [])) ≡ standings_on path (standings_since stream open_at place a events) ++ standing_by stream a m.base m.tracks path packet ∷ []
+    pub judged_here : is_following stream.clock ≡ true → is_source_wanted stream.ssrc packet.ssrc ≡ true → standings_on path (standings_since stream open_at place a (events ++ Arrive path packet ∷ [])) ≡ standings_on path (standings_since stream open_at place a events) ++ standing_by stream a m.base m.time m.tracks path packet ∷ []
     judged_here follows wanted =
         ap (standings_on path) (standings_since-push stream open_at a place events (Arrive path packet) (subst (WithinLength (length events)) last (place_within stream open_at events))
-        ∙ ap (λ l. standings_since stream open_at place a events ++ l) (one (is_following stream.clock) (is_counting events) (is_source_wanted stream.ssrc packet.ssrc) (standing_after stream a (next_number stream a (time_of open_at events)) (standings_since stream open_at place a events) path packet) follows (hears space) wanted
+        ∙ ap (λ l. standings_since stream open_at place a events ++ l) (one (is_following stream.clock) (is_counting events) (is_source_wanted stream.ssrc packet.ssrc) (standing_after stream a (next_number stream a (time_of open_at events)) (time_of open_at events) (standings_since stream open_at place a events) path packet) follows (hears space) wanted
         ∙ ap (λ s. s ∷ []) (sym stands_is)))
-        ∙ standings_on-own path (standings_since stream open_at place a events) (standing_by stream a m.base m.tracks path packet) refl
+        ∙ standings_on-own path (standings_since stream open_at place a events) (standing_by stream a m.base m.time m.tracks path packet) refl
       where
         one : (f c w : Bool) (s : Standing) → f ≡ true → c ≡ true → w ≡ true → (if f && (c && w) then s ∷ [] else []) ≡ s ∷ []
         one f c w s ef ec ew = rw (ef, ec, ew) refl
 
-    often_is : is_following stream.clock ≡ true → is_source_wanted stream.ssrc packet.ssrc ≡ true → is_often (track_after (track_at m.tracks path) (standing_by stream a m.base m.tracks path packet)).astray ≡ are_many is_astray (standings_on path (standings_since stream open_at place a (events ++ Arrive path packet ∷ [])))
-    often_is follows wanted =
-        ap (λ t. is_often (track_after t (standing_by stream a m.base m.tracks path packet)).astray) (was_track path few_paths)
-        ∙ ap (λ (t : Track). is_often t.astray) (sym (track_of-push (standings_on path (standings_since stream open_at place a events)) (standing_by stream a m.base m.tracks path packet)))
-        ∙ astray_is (standings_on path (standings_since stream open_at place a events) ++ standing_by stream a m.base m.tracks path packet ∷ [])
-        ∙ ap (are_many is_astray) (sym (judged_here follows wanted))
+    since_here : is_following stream.clock ≡ true → is_source_wanted stream.ssrc packet.ssrc ≡ true → is_for_long (track_after (track_at m.tracks path) (standing_by stream a m.base m.time m.tracks path packet)).since m.time ≡ is_for_long (astray_since (run_of (reverse (standings_on path (standings_since stream open_at place a (events ++ Arrive path packet ∷ [])))))) (time_of open_at events)
+    since_here follows wanted =
+        ap (λ t. is_for_long (track_after t (standing_by stream a m.base m.time m.tracks path packet)).since m.time) (was_track path few_paths)
+        ∙ ap (λ (t : Track). is_for_long t.since m.time) (sym (track_of-push (standings_on path (standings_since stream open_at place a events)) (standing_by stream a m.base m.time m.tracks path packet)))
+        ∙ ap (λ since. is_for_long since m.time) (since_is (standings_on path (standings_since stream open_at place a events) ++ standing_by stream a m.base m.time m.tracks path packet ∷ []))
+        ∙ ap (λ l. is_for_long (astray_since (run_of (reverse l))) m.time) (sym (judged_here follows wanted))
+        ∙ ap (is_for_long (astray_since (run_of (reverse (standings_on path (standings_since stream open_at place a (events ++ Arrive path packet ∷ []))))))) at.time
 
-    slips_is : is_source_wanted stream.ssrc packet.ssrc ≡ true → is_slip_by stream a m.base m.tracks path packet ≡ is_slip stream open_at place a events path packet
+    slips_is : is_source_wanted stream.ssrc packet.ssrc ≡ true → is_slip_by stream a m.base m.time m.tracks path packet ≡ is_slip stream open_at place a events path packet
     slips_is wanted = by_clock (is_following stream.clock) refl
       where
         by_clock : (f : Bool) → is_following stream.clock ≡ f
-            → (f && (has_wire_size packet && (is_astray (standing_by stream a m.base m.tracks path packet) && is_often (track_after (track_at m.tracks path) (standing_by stream a m.base m.tracks path packet)).astray)))
-            ≡ (f && (has_wire_size packet && (is_astray (standing_after stream a (next_number stream a (time_of open_at events)) (standings_since stream open_at place a events) path packet) && are_many is_astray (standings_on path (standings_since stream open_at place a (events ++ Arrive path packet ∷ []))))))
+            → (f && (has_wire_size packet && (is_astray (standing_by stream a m.base m.time m.tracks path packet) && is_for_long (track_after (track_at m.tracks path) (standing_by stream a m.base m.time m.tracks path packet)).since m.time)))
+            ≡ (f && (has_wire_size packet && (is_astray (standing_after stream a (next_number stream a (time_of open_at events)) (time_of open_at events) (standings_since stream open_at place a events) path packet) && is_for_long (astray_since (run_of (reverse (standings_on path (standings_since stream open_at place a (events ++ Arrive path packet ∷ [])))))) (time_of open_at events))))
         by_clock false follows = refl
         by_clock true follows =
-            ap (λ b. has_wire_size packet && (is_astray (standing_by stream a m.base m.tracks path packet) && b)) (often_is follows wanted)
-            ∙ ap (λ s. has_wire_size packet && (is_astray s && are_many is_astray (standings_on path (standings_since stream open_at place a (events ++ Arrive path packet ∷ []))))) stands_is
+            ap (λ b. has_wire_size packet && (is_astray (standing_by stream a m.base m.time m.tracks path packet) && b)) (since_here follows wanted)
+            ∙ ap (λ s. has_wire_size packet && (is_astray s && is_for_long (astray_since (run_of (reverse (standings_on path (standings_since stream open_at place a (events ++ Arrive path packet ∷ [])))))) (time_of open_at events))) stands_is
 
     copies_are : copies_of stream open_at events ≡ copies_since stream open_at place a events
     copies_are = copies_of-since stream open_at events ∙ ap (λ o. since_of stream open_at o events) last
@@ -248,8 +253,8 @@ module _ (stream : Stream) (open_at : ℤ) (m : MergeState) (media : ℤ) (s : I
 
     pub opens_is : opens_epoch m a path packet ≡ can_restart stream open_at place a events path packet
     opens_is =
-        ap (λ sp. is_some (if is_source_wanted sp.ssrc packet.ssrc && (is_complete (probation_heard sp (probation_at m.probations path) (is_off sp a m.base packet) packet) || is_slip_by sp a m.base m.tracks path packet) then (if holds_nothing m && is_restart_in_reach sp m.time (media_time_of sp a m.base) (restart_media_time sp.clock packet.ts m.time (media_time_of sp a m.base)) then Some (restart_media_time sp.clock packet.ts m.time (media_time_of sp a m.base)) else None) else None)) at.spec
-        ∙ by_tests (is_source_wanted stream.ssrc packet.ssrc) _ _ _ _ _ _ (restart_media_time stream.clock packet.ts m.time (media_time_of stream a m.base)) (λ wanted. ap (λ b. b || is_slip_by stream a m.base m.tracks path packet) (sym (completes_is wanted)) ∙ ap (λ b. completes_probation stream (heard_since stream open_at place a (events ++ Arrive path packet ∷ []) path) || b) (slips_is wanted)) given_is goes_is
+        ap (λ sp. is_some (if is_source_wanted sp.ssrc packet.ssrc && (is_complete (probation_heard sp (probation_at m.probations path) (is_off sp a m.base packet) packet) || is_slip_by sp a m.base m.time m.tracks path packet) then (if holds_nothing m && is_restart_in_reach sp m.time (media_time_of sp a m.base) (restart_media_time sp.clock packet.ts m.time (media_time_of sp a m.base)) then Some (restart_media_time sp.clock packet.ts m.time (media_time_of sp a m.base)) else None) else None)) at.spec
+        ∙ by_tests (is_source_wanted stream.ssrc packet.ssrc) _ _ _ _ _ _ (restart_media_time stream.clock packet.ts m.time (media_time_of stream a m.base)) (λ wanted. ap (λ b. b || is_slip_by stream a m.base m.time m.tracks path packet) (sym (completes_is wanted)) ∙ ap (λ b. completes_probation stream (heard_since stream open_at place a (events ++ Arrive path packet ∷ []) path) || b) (slips_is wanted)) given_is goes_is
       where
         in_order : (c g r : Bool) (z : ℤ) → is_some (if c then (if g && r then Some z else None) else None) ≡ (r && (g && c))
         in_order true true true z = refl

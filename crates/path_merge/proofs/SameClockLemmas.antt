@@ -16,7 +16,7 @@ use Rattle.rtp_stream.specs.History.{arrival_count, at_places, is_closed, is_cou
 use Rattle.rtp_stream.specs.MarkFacts.{MarkView}
 use Rattle.rtp_stream.specs.Marks.{body_of, end_mark, marks_at, marks_of, marks_under, slot_mark, slots_at_close, slots_between, slots_from, slots_or_quiet}
 use Rattle.rtp_stream.specs.Probation.{completes_probation, heard_at, heard_since, is_next_of, is_sequence, last_few}
-use Rattle.rtp_stream.specs.Follow.{are_many, has_wire_size, is_astray, is_beyond, is_following, is_slip, width_after, width_since, standing_after, standings_at, standings_on, standings_since}
+use Rattle.rtp_stream.specs.Follow.{are_many_at, astray_since, has_wire_size, is_astray, is_beyond, is_following, is_for_long, is_silent, is_slip, latest_time, run_at, run_of, width_after, width_since, standing_after, standings_at, standings_on, standings_since}
 use Rattle.rtp_stream.specs.declared.stream_spec.Stream.{Stream}
 use Rattle.rtp_stream.specs.declared.stream_spec.StreamClock.TheVariants.{Arrival, Follow}
 use Rattle.rtp_stream.specs.declared.anchor.Anchor.{Anchor}
@@ -59,16 +59,33 @@ count_none (x ∷ xs) p =
     let no = not_beyond x.behind x.beyond p.0 in
     rw (no, count_none xs p.1) refl
 
-few_early : (path : ℕ) (xs : List Standing) → NoneAstray xs → are_many is_beyond (standings_on path xs) ≡ false
-few_early path xs p = ap (nat_le 8) (count_none (take 64 (reverse (standings_on path xs))) (none-take 64 (reverse (standings_on path xs)) (none-reverse (standings_on path xs) (none-on path xs p))))
+none-run : (xs : List Standing) → NoneAstray xs → NoneAstray (run_of xs)
+none-run [] p = tt
+none-run (x ∷ xs) p = (p.0, by_silence (is_silent (latest_time xs) x.time) (none-run xs p.1))
+  where
+    by_silence : (b : Bool) → NoneAstray (run_of xs) → NoneAstray (if b then [] else run_of xs)
+    by_silence true rest = tt
+    by_silence false rest = rest
+
+none-run_at : (time : ℤ) (xs : List Standing) → NoneAstray xs → NoneAstray (run_at time xs)
+none-run_at time xs p = by_silence (is_silent (latest_time xs) time)
+  where
+    by_silence : (b : Bool) → NoneAstray (if b then [] else run_of xs)
+    by_silence true = tt
+    by_silence false = none-run xs p
+
+few_early : (path : ℕ) (time : ℤ) (xs : List Standing) → NoneAstray xs → are_many_at is_beyond time (standings_on path xs) ≡ false
+few_early path time xs p =
+    let none = none-run_at time (reverse (standings_on path xs)) (none-reverse (standings_on path xs) (none-on path xs p)) in
+    ap (nat_le 8) (count_none (take 256 (run_at time (reverse (standings_on path xs)))) (none-take 256 (run_at time (reverse (standings_on path xs))) none))
 
 -- if none is astray, the window has its width
-width_calm : (stream : Stream) (a : Anchor) (next : ℕ) (xs : List Standing) → NoneAstray xs → width_after stream a next xs ≡ stream.window
-width_calm stream a next xs p =
-    let e0 = few_early 0 xs p in
-    let e1 = few_early 1 xs p in
-    let e2 = few_early 2 xs p in
-    let e3 = few_early 3 xs p in
+width_calm : (stream : Stream) (a : Anchor) (next : ℕ) (time : ℤ) (xs : List Standing) → NoneAstray xs → width_after stream a next time xs ≡ stream.window
+width_calm stream a next time xs p =
+    let e0 = few_early 0 time xs p in
+    let e1 = few_early 1 time xs p in
+    let e2 = few_early 2 time xs p in
+    let e3 = few_early 3 time xs p in
     rw (e0, e1, e2, e3) (by_tests (is_following stream.clock) (nat_lt a.number next))
   where
     by_tests : (f l : Bool) → (if f && (l && false) then 0 else stream.window) ≡ stream.window
@@ -136,14 +153,14 @@ module _ (stream : Stream) (open_at : ℤ) where
     -- an arrival that is not astray shows no slip
     no_slip : (place : ℕ) (a : Anchor) → last_of (anchors_of (by_clock Follow stream) open_at events) ≡ Some (place, a) → is_counting events ≡ true → is_source_wanted stream.ssrc packet.ssrc ≡ true → is_slip (by_clock Follow stream) open_at place a events path packet ≡ false
     no_slip place a last counts wanted =
-        ap (λ b. has_wire_size packet && (b && are_many is_astray (standings_on path (standings_since (by_clock Follow stream) open_at place a (events ++ Arrive path packet ∷ []))))) (own (is_counting events) (is_source_wanted stream.ssrc packet.ssrc) counts wanted (subst (λ o. NoneAstray (standings_under (by_clock Follow stream) open_at o events (Arrive path packet))) last steady))
+        ap (λ b. has_wire_size packet && (b && is_for_long (astray_since (run_of (reverse (standings_on path (standings_since (by_clock Follow stream) open_at place a (events ++ Arrive path packet ∷ [])))))) (time_of open_at events))) (own (is_counting events) (is_source_wanted stream.ssrc packet.ssrc) counts wanted (subst (λ o. NoneAstray (standings_under (by_clock Follow stream) open_at o events (Arrive path packet))) last steady))
         ∙ never (has_wire_size packet)
       where
         never : (b : Bool) → (b && false) ≡ false
         never true = refl
         never false = refl
 
-        own : (c w : Bool) → c ≡ true → w ≡ true → NoneAstray (if c && w then standing_after (by_clock Follow stream) a (next_number (by_clock Follow stream) a (time_of open_at events)) (standings_since (by_clock Follow stream) open_at place a events) path packet ∷ [] else []) → is_astray (standing_after (by_clock Follow stream) a (next_number (by_clock Follow stream) a (time_of open_at events)) (standings_since (by_clock Follow stream) open_at place a events) path packet) ≡ false
+        own : (c w : Bool) → c ≡ true → w ≡ true → NoneAstray (if c && w then standing_after (by_clock Follow stream) a (next_number (by_clock Follow stream) a (time_of open_at events)) (time_of open_at events) (standings_since (by_clock Follow stream) open_at place a events) path packet ∷ [] else []) → is_astray (standing_after (by_clock Follow stream) a (next_number (by_clock Follow stream) a (time_of open_at events)) (time_of open_at events) (standings_since (by_clock Follow stream) open_at place a events) path packet) ≡ false
         own true true ec ew none = none.0
         own false w ec ew none = cc
         own true false ec ew none = cc
@@ -176,7 +193,7 @@ module _ (stream : Stream) (open_at : ℤ) where
       where
         by_made : (made old : Option (ℕ × Anchor)) → MadeAt (length events) made → NoneAstray (standings_of (by_clock Follow stream) open_at old events) → width_in_force (by_clock Follow stream) open_at (or_else made old) events ≡ stream.window
         by_made None None at none = refl
-        by_made None (Some (place, a)) at none = width_calm (by_clock Follow stream) a (next_number stream a (time_of open_at events)) (standings_since (by_clock Follow stream) open_at place a events) none
+        by_made None (Some (place, a)) at none = width_calm (by_clock Follow stream) a (next_number stream a (time_of open_at events)) (time_of open_at events) (standings_since (by_clock Follow stream) open_at place a events) none
         by_made (Some (place, a)) old at none = ap (λ n. width_since (by_clock Follow stream) open_at n a events) at ∙ width_made (by_clock Follow stream) open_at a events
 
     anchors_then : anchors_of (by_clock Follow stream) open_at (events ++ Arrive path packet ∷ []) ≡ anchors_of (by_clock Arrival stream) open_at (events ++ Arrive path packet ∷ [])
@@ -197,7 +214,7 @@ module _ (stream : Stream) (open_at : ℤ) where
 
     width_now : (o : Option (ℕ × Anchor)) → NoneAstray (standings_of (by_clock Follow stream) open_at o events) → width_in_force (by_clock Follow stream) open_at o events ≡ stream.window
     width_now None none = refl
-    width_now (Some (place, a)) none = width_calm (by_clock Follow stream) a (next_number stream a (time_of open_at events)) (standings_since (by_clock Follow stream) open_at place a events) none
+    width_now (Some (place, a)) none = width_calm (by_clock Follow stream) a (next_number stream a (time_of open_at events)) (time_of open_at events) (standings_since (by_clock Follow stream) open_at place a events) none
 
     restart_same : is_counting events ≡ true → is_restart (by_clock Follow stream) open_at (last_of (anchors_of (by_clock Follow stream) open_at events)) events path packet ≡ is_restart (by_clock Arrival stream) open_at (last_of (anchors_of (by_clock Arrival stream) open_at events)) events path packet
     restart_same counts = by_last (last_of (anchors_of (by_clock Follow stream) open_at events)) refl ∙ ap (λ l. is_restart (by_clock Arrival stream) open_at (last_of l) events path packet) same.anchors

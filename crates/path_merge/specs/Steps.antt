@@ -36,7 +36,7 @@ epoch_media m anchor packet =
 -- the media time of the epoch that an arrival opens: it completes its path's probation, or its sender is astray
 abbrev pub opening_of : MergeState → Anchor → ℕ → Packet → Option ℤ
 opening_of m anchor path packet =
-    if is_source_wanted m.spec.ssrc packet.ssrc && (is_complete (probation_heard m.spec (probation_at m.probations path) (is_off m.spec anchor m.base packet) packet) || is_slip_by m.spec anchor m.base m.tracks path packet)
+    if is_source_wanted m.spec.ssrc packet.ssrc && (is_complete (probation_heard m.spec (probation_at m.probations path) (is_off m.spec anchor m.base packet) packet) || is_slip_by m.spec anchor m.base m.time m.tracks path packet)
     then epoch_media m anchor packet else None
 
 abbrev pub opens_epoch : MergeState → Anchor → ℕ → Packet → Bool
@@ -46,7 +46,7 @@ opens_epoch m anchor path packet = is_some (opening_of m anchor path packet)
 pub record IsHeardStep (old new : MergeState) (a : Anchor) (path : ℕ) (packet : Packet) : Type 0 where
   pub probation : probation_at new.probations path ≡ probation_heard old.spec (probation_at old.probations path) (is_off old.spec a old.base packet) packet
   pub other_paths : (other : ℕ) → nat_eq other path ≡ false → probation_at new.probations other ≡ probation_at old.probations other
-  pub track : track_at new.tracks path ≡ track_heard old.spec a old.base old.tracks path packet
+  pub track : track_at new.tracks path ≡ track_heard old.spec a old.base old.time old.tracks path packet
   pub other_tracks : (other : ℕ) → nat_eq other path ≡ false → track_at new.tracks other ≡ track_at old.tracks other
   pub changed : new ≡ record old { probations = new.probations; tracks = new.tracks }
 
@@ -67,7 +67,7 @@ pub record IsNextStep (stream : Stream) (old new : MergeState) (a : Anchor) (pat
   pub heard : List Probation
   pub noted : List Track
   pub hears : IsHeardStep old (record old { probations = heard; tracks = noted }) a path packet
-  pub puts : IsPutStep stream (width_by stream a old.base old.tracks) (record old { probations = heard; tracks = noted }) new a path packet fate
+  pub puts : IsPutStep stream (width_by stream a old.base old.time old.tracks) (record old { probations = heard; tracks = noted }) new a path packet fate
 
 -- an arrival that opens an epoch: nothing is held, the window starts at its number, and all probations and tracks begin
 -- again

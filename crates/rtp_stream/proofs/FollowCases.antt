@@ -32,27 +32,45 @@ packets path k (suc count) = Arrive path (packet k) ∷ packets path (suc k) cou
 abbrev late_for_good : ℕ → List Event
 late_for_good count = Arrive 0 (packet 0) ∷ Tick (pos 100) ∷ packets 0 1 count
 
-seven_late_ones_open_no_epoch : fate_of (stream Follow) (pos 0) (late_for_good 6) 0 (packet 7) ≡ Late
-unfolding anchor_of anchors_of anchors_from copies_of copies_of_all at_places standings_from
-seven_late_ones_open_no_epoch = refl
+-- from the time 100 on eight packets are late: 20 ms later the next late one opens an epoch, and no sooner
+abbrev then_at : List Event → ℤ → List Event
+then_at events time = events ++ Tick time ∷ []
 
-the_eighth_late_one_opens_an_epoch : fate_of (stream Follow) (pos 0) (late_for_good 7) 0 (packet 8) ≡ Restarted
+eight_late_ones_at_once_open_no_epoch : fate_of (stream Follow) (pos 0) (late_for_good 8) 0 (packet 9) ≡ Late
 unfolding anchor_of anchors_of anchors_from copies_of copies_of_all at_places standings_from
-the_eighth_late_one_opens_an_epoch = refl
+eight_late_ones_at_once_open_no_epoch = refl
 
-by_the_arrival_clock_it_is_late : fate_of (stream Arrival) (pos 0) (late_for_good 7) 0 (packet 8) ≡ Late
+nor_do_they_before_20_ms : fate_of (stream Follow) (pos 0) (then_at (late_for_good 8) (pos 1059)) 0 (packet 9) ≡ Late
+unfolding anchor_of anchors_of anchors_from copies_of copies_of_all at_places standings_from
+nor_do_they_before_20_ms = refl
+
+after_20_ms_a_late_one_opens_an_epoch : fate_of (stream Follow) (pos 0) (then_at (late_for_good 8) (pos 1060)) 0 (packet 9) ≡ Restarted
+unfolding anchor_of anchors_of anchors_from copies_of copies_of_all at_places standings_from
+after_20_ms_a_late_one_opens_an_epoch = refl
+
+by_the_arrival_clock_it_is_late : fate_of (stream Arrival) (pos 0) (then_at (late_for_good 8) (pos 1060)) 0 (packet 9) ≡ Late
 unfolding anchor_of anchors_of anchors_from copies_of copies_of_all at_places standings_from
 by_the_arrival_clock_it_is_late = refl
 
+-- seven were late at 100, so that the eighth begins the 20 ms
+seven_late_ones_open_no_epoch : fate_of (stream Follow) (pos 0) (then_at (late_for_good 7) (pos 1060)) 0 (packet 8) ≡ Late
+unfolding anchor_of anchors_of anchors_from copies_of copies_of_all at_places standings_from
+seven_late_ones_open_no_epoch = refl
+
 -- its media time is the time
-the_epoch_of_a_late_sender : anchor_of (stream Follow) (pos 0) (late_for_good 8) ≡ Some (record { epoch = 1; number = 65545; timestamp = 48; media = pos 100; source = 1 })
+the_epoch_of_a_late_sender : anchor_of (stream Follow) (pos 0) (then_at (late_for_good 8) (pos 1060) ++ Arrive 0 (packet 9) ∷ []) ≡ Some (record { epoch = 1; number = 65546; timestamp = 54; media = pos 1060; source = 1 })
 unfolding anchor_of anchors_of anchors_from copies_of copies_of_all at_places standings_from
 the_epoch_of_a_late_sender = refl
 
 -- four on each path are not eight on one
-four_late_ones_on_each_path : fate_of (stream Follow) (pos 0) (late_for_good 4 ++ packets 1 5 3) 1 (packet 8) ≡ Late
+four_late_ones_on_each_path : fate_of (stream Follow) (pos 0) (then_at (late_for_good 4 ++ packets 1 5 4) (pos 1060)) 1 (packet 9) ≡ Late
 unfolding anchor_of anchors_of anchors_from copies_of copies_of_all at_places standings_from
 four_late_ones_on_each_path = refl
+
+-- the backlog of a receiver that was held up: 14 come late at one time, and those that follow are in time
+after_a_backlog_packets_are_in_time : fate_of (stream Follow) (pos 0) (late_for_good 14) 0 (packet 15) ≡ Taken
+unfolding anchor_of anchors_of anchors_from copies_of copies_of_all at_places standings_from
+after_a_backlog_packets_are_in_time = refl
 
 -- numbers that were heard, late on another path or sent again, open no epoch
 abbrev heard_again : ℕ → List Event
@@ -82,9 +100,13 @@ no_epoch_while_one_is_held : fate_of (stream Follow) (pos 0) (early_for_good 0 8
 unfolding anchor_of anchors_of anchors_from copies_of copies_of_all at_places standings_from
 no_epoch_while_one_is_held = refl
 
-an_epoch_once_it_was_handed_on : fate_of (stream Follow) (pos 0) (early_for_good 0 8 ++ Tick (pos 18) ∷ []) 0 (packet 17) ≡ Restarted
+nor_before_20_ms : fate_of (stream Follow) (pos 0) (then_at (early_for_good 0 8) (pos 971)) 0 (packet 162) ≡ Ahead
 unfolding anchor_of anchors_of anchors_from copies_of copies_of_all at_places standings_from
-an_epoch_once_it_was_handed_on = refl
+nor_before_20_ms = refl
+
+an_epoch_after_20_ms : fate_of (stream Follow) (pos 0) (then_at (early_for_good 0 8) (pos 972)) 0 (packet 162) ≡ Restarted
+unfolding anchor_of anchors_of anchors_from copies_of copies_of_all at_places standings_from
+an_epoch_after_20_ms = refl
 
 -- beyond the window on one path, while the other is in time: nothing is emptied, and no epoch opens
 early_ones_on_another_path : fate_of (stream Follow) (pos 0) (early_for_good 1 8) 0 (packet 2) ≡ Taken
@@ -94,6 +116,15 @@ early_ones_on_another_path = refl
 they_open_no_epoch : fate_of (stream Follow) (pos 0) (early_for_good 1 8) 1 (packet 17) ≡ Ahead
 unfolding anchor_of anchors_of anchors_from copies_of copies_of_all at_places standings_from
 they_open_no_epoch = refl
+
+-- a path that brought eight early packets and is silent counts for a second, and no longer
+early_ones_count_for_a_second : fate_of (stream Follow) (pos 0) (then_at (early_for_good 1 8) (pos 48012)) 0 (packet 8001) ≡ Ahead
+unfolding anchor_of anchors_of anchors_from copies_of copies_of_all at_places standings_from
+early_ones_count_for_a_second = refl
+
+and_no_longer : fate_of (stream Follow) (pos 0) (then_at (early_for_good 1 8) (pos 48013)) 0 (packet 8001) ≡ Taken
+unfolding anchor_of anchors_of anchors_from copies_of copies_of_all at_places standings_from
+and_no_longer = refl
 
 -- a restart by probation is as by the arrival clock: eight in sequence, off the grid
 abbrev off_grid : ℕ → Packet

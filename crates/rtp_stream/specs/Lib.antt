@@ -11,6 +11,7 @@ pub mod Grid
 pub mod Probation
 pub mod PathProbation
 pub mod Follow
+pub mod ArrivalBits
 pub mod FollowTrack
 pub mod Epochs
 pub mod Copies

@@ -23,6 +23,7 @@
 
 mod anchor;
 mod arrival;
+mod arrival_bits;
 mod count_field;
 mod counts;
 mod event;
@@ -43,13 +44,14 @@ pub use anchor::{Anchor, media_of_first, media_of_restart};
 pub use arrival::{
     continues_media_time, fate_of_first, fate_of_put, is_off_place, is_taken, place_of,
 };
+pub use arrival_bits::ArrivalBits;
 pub use count_field::{COUNT_FIELDS, COUNTS_AFTER_PATHS, COUNTS_BEFORE_PATHS, CountField};
 pub use counts::Counts;
 pub use event::Event;
 pub use extend::{near16, near32};
 pub use fate::{Fate, Put};
-pub use follow::{Track, update_track, width_of};
-pub use limits::MAX_TIME;
+pub use follow::{Moment, Track, update_track, width_of};
+pub use limits::{MAX_ARRIVALS, MAX_TIME};
 pub use mark::{Body, Mark, MarkKind, PacketFormat};
 pub use mark_ref::{MarkKindRef, MarkRef};
 pub use packet::{Packet, PacketRef};

@@ -1,5 +1,5 @@
 -- Two histories that differ in Quiets alone differ in nothing else, whatever comes.
-use Rattle.std.proofs.Common.{◌≡◌, ℕ, zero, suc, ◌+◌, ◌-◌, ◌^◌, ◌<◌, Bool, true, false, not, ◌&&◌, ◌||◌, List, [], ◌∷◌, ◌++◌, length, Option, Some, None, ℤ, pos, ◌≤ℤ◌, refl, sym, ap, subst, ◌∙◌, arith, append_assoc, append-nil, if◌then◌else◌}
+use Rattle.std.proofs.Common.{◌≡◌, ℕ, zero, suc, ◌+◌, ◌-◌, ◌^◌, ◌<◌, Bool, true, false, not, ◌&&◌, ◌||◌, List, [], ◌∷◌, ◌++◌, length, reverse, Option, Some, None, ℤ, pos, ◌≤ℤ◌, refl, sym, ap, subst, ◌∙◌, arith, append_assoc, append-nil, if◌then◌else◌}
 use Rattle.std.specs.Prelude.{nat_eq, nat_le, nat_lt}
 use Rattle.std.proofs.lemmas.Bool.{false≢true}
 use Rattle.std.proofs.lemmas.Int.{ints}
@@ -12,7 +12,7 @@ use Rattle.rtp_stream.specs.Grid.{end_of_copies, first_with, of_width}
 use Rattle.rtp_stream.specs.History.{arrival_count, is_closed, is_counting, is_well_timed, time_of}
 use Rattle.rtp_stream.specs.Marks.{body_of, end_mark, marks_at, marks_of, slot_mark, slots_at_close, slots_between, slots_from, slots_or_quiet}
 use Rattle.rtp_stream.specs.Probation.{completes_probation, heard_since, is_off}
-use Rattle.rtp_stream.specs.Follow.{are_many, has_wire_size, is_astray, is_following, is_slip, width_after, standing_after, standings_on, standings_since}
+use Rattle.rtp_stream.specs.Follow.{astray_since, has_wire_size, is_astray, is_following, is_for_long, is_slip, run_of, width_after, standing_after, standings_on, standings_since}
 use Rattle.rtp_stream.specs.declared.anchor.Anchor.{Anchor}
 use Rattle.rtp_stream.specs.declared.event.Event.{Event}
 use Rattle.rtp_stream.specs.declared.event.Event.TheVariants.{Arrive, Close, Tick}
@@ -78,14 +78,14 @@ module _ (stream : Stream) (open_at : ℤ) where
     shows time anchor before after =
         is_following stream.clock
         && (has_wire_size packet
-        && (is_astray (standing_after stream anchor (next_number stream anchor time) before path packet)
-        && are_many is_astray (standings_on path after)))
+        && (is_astray (standing_after stream anchor (next_number stream anchor time) time before path packet)
+        && is_for_long (astray_since (run_of (reverse (standings_on path after)))) time))
 
     -- the standing of the arrival, if it is counted
     abbrev stands : Bool → ℤ → Anchor → List Standing → List Standing
     stands counting time anchor before =
         if is_following stream.clock && (counting && is_source_wanted stream.ssrc packet.ssrc)
-        then standing_after stream anchor (next_number stream anchor time) before path packet ∷ [] else []
+        then standing_after stream anchor (next_number stream anchor time) time before path packet ∷ [] else []
 
     heard_by_near : (on : ℕ) (o p : Option (ℕ × Anchor)) → anchor_in o ≡ anchor_in p → heard_by stream open_at o e (Arrive path packet) on ≡ heard_by stream open_at p f (Arrive path packet) on
     heard_by_near on None None same = refl
@@ -147,9 +147,9 @@ module _ (stream : Stream) (open_at : ℤ) where
     width_near (Some p) None same stood = absurd (cc)
     width_near (Some (i, a)) (Some (j, b)) same stood =
         let is : a ≡ b = cc in
-        ap (λ t. width_after stream a (next_number stream a t) (standings_since stream open_at i a e)) near.time
-        ∙ ap (width_after stream a (next_number stream a (time_of open_at f))) stood
-        ∙ ap (λ x. width_after stream x (next_number stream x (time_of open_at f)) (standings_since stream open_at j b f)) is
+        ap (λ t. width_after stream a (next_number stream a t) t (standings_since stream open_at i a e)) near.time
+        ∙ ap (width_after stream a (next_number stream a (time_of open_at f)) (time_of open_at f)) stood
+        ∙ ap (λ x. width_after stream x (next_number stream x (time_of open_at f)) (time_of open_at f) (standings_since stream open_at j b f)) is
 
     -- since these anchors both histories agree in what is heard, and in the standings of arrivals before this one and
     -- with it

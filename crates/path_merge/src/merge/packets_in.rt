@@ -16,14 +16,10 @@ ghost use Rattle.rtp_stream.specs.declared.stream_spec.Stream.{Stream};
 use super::Merge;
 use crate::window::Window;
 use rtp_stream::{
-    Anchor, Fate, Packet, PacketRef, Path, Probation, StreamClock, Track, continues_media_time,
-    fate_of_first, fate_of_put, is_off_place, is_taken, media_of_first, media_of_restart, place_of,
-    update_probation, update_track, width_of,
+    Anchor, Fate, MAX_ARRIVALS, Moment, Packet, PacketRef, Path, Probation, StreamClock, Track,
+    continues_media_time, fate_of_first, fate_of_put, is_off_place, is_taken, media_of_first,
+    media_of_restart, place_of, update_probation, update_track, width_of,
 };
-
-/// The greatest number of arrivals that are counted, 2^62.
-// An arrival after this many changes nothing, so that counts never wrap.
-const MAX_ARRIVALS: u64 = 4_611_686_018_427_387_904;
 
 /// Returns true if the clock follows its sender, so that each arrival is judged by its path's track.
 fn follows_sender(clock: StreamClock) -> bool
@@ -180,7 +176,11 @@ impl<V: Window> Merge<V> {
             → IsRestartStep self.old.spec self.old self.new anchor path (packet_of packet.now) result }
     {
         let next = self.window.base();
-        let width = width_of(&self.spec, &anchor, next, &self.tracks);
+        let moment = Moment {
+            time: self.time,
+            next,
+        };
+        let width = width_of(&self.spec, &anchor, moment, &self.tracks);
         match place_of(&self.spec, &anchor, next, self.next_media, width, packet) {
             Ok(number) => self.offer_at(anchor, Ok(number), path, packet),
             Err(_) => {
@@ -207,7 +207,11 @@ impl<V: Window> Merge<V> {
         match self.anchor {
             Some(anchor) => {
                 let next = self.window.base();
-                let width = width_of(&self.spec, &anchor, next, &self.tracks);
+                let moment = Moment {
+                    time: self.time,
+                    next,
+                };
+                let width = width_of(&self.spec, &anchor, moment, &self.tracks);
                 let place = place_of(&self.spec, &anchor, next, self.next_media, width, packet);
                 self.offer_at(anchor, place, path, packet)
             }
@@ -230,7 +234,8 @@ impl<V: Window> Merge<V> {
         requires space { self.old.counts.arrived < 2 ^ 62 }
         requires fits { Fits self.old.spec (packet_of packet.now) }
         requires place { place
-            ≡ fate.place_of (of_width self.old.spec (width_by self.old.spec anchor self.old.base self.old.tracks))
+            ≡ fate.place_of (of_width self.old.spec
+            (width_by self.old.spec anchor self.old.base self.old.time self.old.tracks))
             anchor self.old.base (packet_of packet.now) }
         ensures next { opens_epoch self.old anchor path (packet_of packet.now) ≡ false
             → IsNextStep self.old.spec self.old self.new anchor path (packet_of packet.now) result }
@@ -261,7 +266,8 @@ impl<V: Window> Merge<V> {
         requires anchored { self.old.anchor ≡ Some anchor }
         requires open_yet { self.old.closed ≡ false }
         requires place { place.now
-            ≡ fate.place_of (of_width self.old.spec (width_by self.old.spec anchor self.old.base self.old.tracks))
+            ≡ fate.place_of (of_width self.old.spec
+            (width_by self.old.spec anchor self.old.base self.old.time self.old.tracks))
             anchor self.old.base (packet_of packet.now) }
         ensures opening { result ≡ opening_of self.old anchor path (packet_of packet.now) }
         ensures step { IsHeardStep self.old self.new anchor path (packet_of packet.now) }
@@ -273,7 +279,10 @@ impl<V: Window> Merge<V> {
             &mut self.tracks,
             &self.spec,
             &anchor,
-            next,
+            Moment {
+                time: self.time,
+                next,
+            },
             place,
             path,
             packet,

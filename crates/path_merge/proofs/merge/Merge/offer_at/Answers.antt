@@ -39,18 +39,18 @@ returns-in-Some-clause-restart g c = λ opens.
 
 pub put_or_refuse-requires-clause-place : goal.put_or_refuse-requires-clause-place
 put_or_refuse-requires-clause-place g c =
-    let placed : IsPlaced c.args.self.now.spec c.args.anchor c.args.self.now.base (packet_of c.args.packet.now) c.args.place = record { width = width_by c.args.self.now.spec c.args.anchor c.args.self.now.base c.args.self.now.tracks; within = width_few c.args.self.now.spec c.args.anchor c.args.self.now.base c.args.self.now.tracks; is = c.requires.place } in
+    let placed : IsPlaced c.args.self.now.spec c.args.anchor c.args.self.now.base (packet_of c.args.packet.now) c.args.place = record { width = width_by c.args.self.now.spec c.args.anchor c.args.self.now.base c.args.self.now.time c.args.self.now.tracks; within = width_few c.args.self.now.spec c.args.anchor c.args.self.now.base c.args.self.now.time c.args.self.now.tracks; is = c.requires.place } in
     subst (λ (m : MergeState). IsPlaced m.spec c.args.anchor m.base (packet_of c.args.packet.now) c.args.place) (sym c.note_arrival.ensures.step.changed) placed
 
 pub returns-in-None-clause-next : goal.returns-in-None-clause-next
 returns-in-None-clause-next g c = λ stays.
     let changed = c.note_arrival.ensures.step.changed in
-    let place : c.args.place ≡ place_of (of_width c.note_arrival.new.self.spec (width_by c.args.self.now.spec c.args.anchor c.args.self.now.base c.args.self.now.tracks)) c.args.anchor c.note_arrival.new.self.base (packet_of c.args.packet.now) = subst (λ (m : MergeState). c.args.place ≡ place_of (of_width m.spec (width_by c.args.self.now.spec c.args.anchor c.args.self.now.base c.args.self.now.tracks)) c.args.anchor m.base (packet_of c.args.packet.now)) (sym changed) c.requires.place in
+    let place : c.args.place ≡ place_of (of_width c.note_arrival.new.self.spec (width_by c.args.self.now.spec c.args.anchor c.args.self.now.base c.args.self.now.time c.args.self.now.tracks)) c.args.anchor c.note_arrival.new.self.base (packet_of c.args.packet.now) = subst (λ (m : MergeState). c.args.place ≡ place_of (of_width m.spec (width_by c.args.self.now.spec c.args.anchor c.args.self.now.base c.args.self.now.time c.args.self.now.tracks)) c.args.anchor m.base (packet_of c.args.packet.now)) (sym changed) c.requires.place in
     record {
       heard = c.note_arrival.new.self.probations;
       noted = c.note_arrival.new.self.tracks;
       hears = subst (λ (m : MergeState). IsHeardStep c.args.self.now m c.args.anchor c.args.path (packet_of c.args.packet.now)) changed c.note_arrival.ensures.step;
-      puts = subst (λ (m : MergeState). IsPutStep m.spec (width_by c.args.self.now.spec c.args.anchor c.args.self.now.base c.args.self.now.tracks) m c.put_or_refuse.new.self c.args.anchor c.args.path (packet_of c.args.packet.now) c.put_or_refuse.result) changed (c.put_or_refuse.ensures (width_by c.args.self.now.spec c.args.anchor c.args.self.now.base c.args.self.now.tracks) place);
+      puts = subst (λ (m : MergeState). IsPutStep m.spec (width_by c.args.self.now.spec c.args.anchor c.args.self.now.base c.args.self.now.time c.args.self.now.tracks) m c.put_or_refuse.new.self c.args.anchor c.args.path (packet_of c.args.packet.now) c.put_or_refuse.result) changed (c.put_or_refuse.ensures (width_by c.args.self.now.spec c.args.anchor c.args.self.now.base c.args.self.now.time c.args.self.now.tracks) place);
     }
 
 pub restart-requires-clause-fits : goal.restart-requires-clause-fits

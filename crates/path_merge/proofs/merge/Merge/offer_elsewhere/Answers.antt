@@ -1,6 +1,6 @@
 use Rattle.std.proofs.lemmas.Grind.{common_steps, elements}
-use Rattle.std.proofs.Common.{◌≡◌, Some, None, false, true, arith, ap, sym, subst, ◌∙◌, rules}
-use Rattle.std.proofs.lemmas.Int.{ints}
+use Rattle.std.proofs.Common.{◌≡◌, FitsSigned, Some, None, to_z, of_z, w64, false, true, arith, ap, sym, subst, ◌∙◌, rules}
+use Rattle.std.proofs.lemmas.Int.{ints, to_z-of_z}
 use Rattle.rtp_stream.specs.declared.anchor.Anchor.{Anchor}
 use Rattle.rtp_stream.specs.PacketRef.{packet_of}
 use Rattle.rtp_stream.specs.Fate.{place_of}
@@ -39,7 +39,10 @@ place_of-place-requires-clause-space g c = omega (arith, c.width_of-width.ensure
 
 pub offer_at-requires-clause-place : goal.offer_at-requires-clause-place
 offer_at-requires-clause-place g c =
-    c.place_of-place.ensures ∙ ap (λ r. place_of (of_width c.self.inside.spec r) c.in-Some.anchor c.base-next.result (packet_of c.args.packet.now)) c.width_of-width.ensures.value ∙ ap (λ b. place_of (of_width c.self.inside.spec (width_by c.self.inside.spec c.in-Some.anchor b c.self.inside.tracks)) c.in-Some.anchor b (packet_of c.args.packet.now)) c.base-next.ensures ∙ ap (λ (m : MergeState). place_of (of_width m.spec (width_by m.spec c.in-Some.anchor m.base m.tracks)) c.in-Some.anchor m.base (packet_of c.args.packet.now)) c.self.view_is
+    let time_fits : FitsSigned w64 c.self.inside.time = search rules in
+    c.place_of-place.ensures ∙ ap (λ r. place_of (of_width c.self.inside.spec r) c.in-Some.anchor c.base-next.result (packet_of c.args.packet.now)) c.width_of-width.ensures.value
+    ∙ ap (λ t. place_of (of_width c.self.inside.spec (width_by c.self.inside.spec c.in-Some.anchor c.base-next.result t c.self.inside.tracks)) c.in-Some.anchor c.base-next.result (packet_of c.args.packet.now)) (to_z-of_z w64 c.self.inside.time time_fits)
+    ∙ ap (λ b. place_of (of_width c.self.inside.spec (width_by c.self.inside.spec c.in-Some.anchor b c.self.inside.time c.self.inside.tracks)) c.in-Some.anchor b (packet_of c.args.packet.now)) c.base-next.ensures ∙ ap (λ (m : MergeState). place_of (of_width m.spec (width_by m.spec c.in-Some.anchor m.base m.time m.tracks)) c.in-Some.anchor m.base (packet_of c.args.packet.now)) c.self.view_is
 
 pub returns-in-Some-clause-next : goal.returns-in-Some-clause-next
 returns-in-Some-clause-next g c = λ a is.

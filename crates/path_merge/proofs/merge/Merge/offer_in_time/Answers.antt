@@ -20,7 +20,7 @@ pub returns : goal.returns
 returns g c =
     let on : is_off c.args.self.now.spec c.args.anchor c.args.self.now.base (packet_of c.args.packet.now) ≡ false = placed_in_step c.args.self.now.spec c.args.self.now.spec.window c.args.anchor c.args.self.now.base (packet_of c.args.packet.now) c.args.number c.requires.place in
     let step : IsHeardStep c.args.self.now c.note_in_step.new.self c.args.anchor c.args.path (packet_of c.args.packet.now) = c.note_in_step.ensures c.args.anchor c.requires.plain on in
-    let whole : width_by c.args.self.now.spec c.args.anchor c.args.self.now.base c.args.self.now.tracks ≡ c.args.self.now.spec.window = width_whole c.args.self.now c.args.anchor c.args.path (packet_of c.args.packet.now) c.requires.plain in
+    let whole : width_by c.args.self.now.spec c.args.anchor c.args.self.now.base c.args.self.now.time c.args.self.now.tracks ≡ c.args.self.now.spec.window = width_whole c.args.self.now c.args.anchor c.args.path (packet_of c.args.packet.now) c.requires.plain in
     let place : Ok c.args.number ≡ place_of (of_width c.note_in_step.new.self.spec c.args.self.now.spec.window) c.args.anchor c.note_in_step.new.self.base (packet_of c.args.packet.now) = subst (λ (m : MergeState). Ok c.args.number ≡ place_of (of_width m.spec c.args.self.now.spec.window) c.args.anchor m.base (packet_of c.args.packet.now)) (sym step.changed) c.requires.place in
     record {
       heard = c.note_in_step.new.self.probations;

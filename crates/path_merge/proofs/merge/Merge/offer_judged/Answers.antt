@@ -1,6 +1,6 @@
 use Rattle.std.proofs.lemmas.Grind.{common_steps}
-use Rattle.std.proofs.Common.{arith, ap, sym, ◌∙◌, rules}
-use Rattle.std.proofs.lemmas.Int.{ints}
+use Rattle.std.proofs.Common.{FitsSigned, to_z, of_z, w64, arith, ap, sym, ◌∙◌, rules}
+use Rattle.std.proofs.lemmas.Int.{ints, to_z-of_z}
 use Rattle.rtp_stream.specs.PacketRef.{packet_of}
 use Rattle.rtp_stream.specs.Fate.{place_of}
 use Rattle.rtp_stream.specs.Grid.{of_width}
@@ -37,7 +37,10 @@ place_of-requires-clause-space g c = omega (arith, c.width_of-width.ensures.few,
 
 pub offer_at-requires-clause-place : goal.offer_at-requires-clause-place
 offer_at-requires-clause-place g c =
-    sym (c.in-Ok.is) ∙ c.place_of.ensures ∙ ap (λ r. place_of (of_width c.self.inside.spec r) c.args.anchor c.base-next.result (packet_of c.args.packet.now)) c.width_of-width.ensures.value ∙ ap (λ b. place_of (of_width c.self.inside.spec (width_by c.self.inside.spec c.args.anchor b c.self.inside.tracks)) c.args.anchor b (packet_of c.args.packet.now)) c.base-next.ensures ∙ ap (λ (m : MergeState). place_of (of_width m.spec (width_by m.spec c.args.anchor m.base m.tracks)) c.args.anchor m.base (packet_of c.args.packet.now)) c.self.view_is
+    let time_fits : FitsSigned w64 c.self.inside.time = search rules in
+    sym (c.in-Ok.is) ∙ c.place_of.ensures ∙ ap (λ r. place_of (of_width c.self.inside.spec r) c.args.anchor c.base-next.result (packet_of c.args.packet.now)) c.width_of-width.ensures.value
+    ∙ ap (λ t. place_of (of_width c.self.inside.spec (width_by c.self.inside.spec c.args.anchor c.base-next.result t c.self.inside.tracks)) c.args.anchor c.base-next.result (packet_of c.args.packet.now)) (to_z-of_z w64 c.self.inside.time time_fits)
+    ∙ ap (λ b. place_of (of_width c.self.inside.spec (width_by c.self.inside.spec c.args.anchor b c.self.inside.time c.self.inside.tracks)) c.args.anchor b (packet_of c.args.packet.now)) c.base-next.ensures ∙ ap (λ (m : MergeState). place_of (of_width m.spec (width_by m.spec c.args.anchor m.base m.time m.tracks)) c.args.anchor m.base (packet_of c.args.packet.now)) c.self.view_is
 
 pub returns-in-Err-clause-next : goal.returns-in-Err-clause-next
 returns-in-Err-clause-next g c = c.offer_elsewhere.ensures.next c.args.anchor c.requires.anchored
