@@ -12,7 +12,12 @@ METRICS = SOURCES / "status_page/src/page/metrics.rt"
 COUNTS = SOURCES / "rtp_stream/src/count_field.rt"
 KINDS = SOURCES / "studio_io/src/output_kind.rt"
 # The files that write the lines of the report, and of --stats.
-REPORT = "studio_run/src/lines/counts.rt", "live_status/src/lines/report.rt", "studio_main/src/live_command.rt"
+REPORT = (
+    "studio_run/src/lines/counts.rt",
+    "live_status/src/lines/report.rt",
+    "studio_main/src/live_command.rt",
+    "studio_main/src/left_out_lines.rt",
+)
 STATS = "live_status/src/lines/running.rt", "live_status/src/lines/drift.rt"
 HEAD = "| In the report | In `--stats` | In `/state` | In `/metrics` | Meaning |\n|---|---|---|---|---|"
 
@@ -28,7 +33,10 @@ IN_REPORT = {
     "path_first": "merge from_a",
     "path_unexpected": "unexpected",
     "path_socket_faults": "feed faults",
+    "path_too_long": "too_long",
+    "path_held_up": "held_up",
     "sends_failed": "sink fault_a",
+    "sends_stale": "stale",
 }
 IN_STATS = {
     "stream_seconds_left": "left seconds",
@@ -40,12 +48,16 @@ IN_STATS = {
     "path_socket_faults": "socket faults",
     "path_socket_ended": "socket ended",
     "path_socket_dropped": "socket dropped",
+    "path_too_long": "socket too_long",
+    "path_held_up": "socket held_up",
     "sends_failed": "run failed_a",
+    "sends_stale": "run stale",
 }
 # The numbers that no list of fields has, with their names in /state and the constant that describes them.
 FURTHER = {
     "stream_state": ("state", "STATE_HELP", True),
     "sends_failed": ("failed_sends", "FAILED_HELP", False),
+    "sends_stale": ("stale", "STALE_HELP", False),
 }
 # Words of the report that are in nothing else.
 REPORT_ALONE = {
@@ -106,14 +118,13 @@ def rows_of_fields():
 
 def rows_of_outputs() -> Iterator[str]:
     """The state and the counts of each output of a run."""
-    kinds, helps = KINDS.read_text(), (FIELDS / "run_output.rt").read_text()
-    unit_of = texts(kinds, "fn unit(")
-    state_help, written_help, left_out_help = (
-        texts(helps, f"fn {name}_help(", "\n}\n") for name in ("state", "written", "left_out")
+    kinds = KINDS.read_text()
+    key_of, unit_of, word_of, state_help, written_help, left_out_help = (
+        texts(kinds, f"fn {name}(")
+        for name in ("key", "unit", "written_word", "state_help", "written_help", "left_out_help")
     )
-    word_of = texts(read(STATS[0]), "fn written_word(", "\n}\n")
-    for name, key in texts(kinds, "fn key(").items():
-        unit, metric, word = unit_of[name], f"darbexum_{key}", word_of[name].strip(" =")
+    for name, key in key_of.items():
+        unit, metric, word = unit_of[name], f"darbexum_{key}", word_of[name]
         yield row(None, f"run {key}", f"{key}.state", f"{metric}_state", state_help[name])
         yield row(key, f"run {word}", f"{key}.{unit}", f"{metric}_{unit}_total", written_help[name])
         if left_out_help[name]:
@@ -138,9 +149,8 @@ def differences() -> Iterator[str]:
     # The second copy of the mix, and the other paths, have names of the same form.
     alike = lambda words: {re.sub("_b$", "_a", word) for word in words}
     last = lambda names: {name.split()[-1] for name in names}
-    report = words_of(REPORT, r'push_count\(text, "(\w+)"') | set(
-        re.findall(r'writeln!\(output, "(\w+) \{', read(REPORT[-1]))
-    ) - {"open_at"}
+    report = words_of(REPORT, r'push_count\(text, "(\w+)"')
+    report |= words_of(REPORT, r'writeln!\(output, "(\w+) \{') - {"open_at"}
     for found, named, kind in (
         (report | {"from_a"}, {*IN_REPORT.values(), *REPORT_ALONE}, "the report"),
         (words_of(STATS, r'push\(" (\w+)="\)') | {"from_a"}, IN_STATS.values(), "--stats"),

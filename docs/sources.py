@@ -286,11 +286,11 @@ CASE_PLACES = {
     "Records and statistics": [
         f"{LIVE}/{name}.rt" for name in ("records/octets", "records/changes", "records/marks", "statistics", "drift")
     ],
-    "Sockets and the clock": [f"{LIVE}/sockets.rt"],
+    "Sockets and the clock": [f"{LIVE}/{name}.rt" for name in ("sockets", "hold_ups")],
     "The page": [f"{PAGE}/tests/{name}.rt" for name in ("texts", "requests", "controls", "sockets")],
     "Captures and live runs": [
-        "tests/captures", "tests/control", "tests/desk", "tests/loopback", "tests/networks", "tests/page",
-        "tests/faders", "tests/senders"
+        "tests/captures", "tests/control", "tests/desk", "tests/ends", "tests/loopback", "tests/networks",
+        "tests/page", "tests/faders", "tests/senders"
     ],
 }
 ROW = re.compile(r'\bshows:\s*"((?:[^"\\]|\\.)*)"', re.DOTALL)

@@ -37,8 +37,9 @@ pub trait CreateOutput: Drop {
 
     /// Creates the output of a run of this studio. `is_controlled` is true if the gains of the run can be changed.
     ///
-    /// A run calls it last before its first thread starts. So a start that fails for another reason leaves no file
-    /// behind. All memory is allocated before a file is created.
+    /// A run calls it last before its first thread starts, so that a start that fails before touches no file. All
+    /// memory is allocated before a file is created. A file that was created is removed when it is dropped before the
+    /// run has begun (`RunStart`): also if another output cannot be created, or a thread cannot be started.
     fn create(
         self,
         alloc: Global,

@@ -11,6 +11,10 @@
 //! `CreateOutput` makes the three. `Option<O>` and pairs of outputs are outputs too, and `NoOutput`
 //! takes nothing. So a run has one type parameter for all of its outputs, and names none of them.
 //!
+//! A file that an output created is removed again if the run does not begin, so that the next start finds nothing at
+//! its path. `RunStart` says whether it has begun: `run_beside` notes it at the end of the run, and `NotedOutput`
+//! already with the first datagram of the mix. A run that cannot begin notes that.
+//!
 //! The first two are called in the threads of the run, and must not wait. `OutputSink` is the run's
 //! `Sink` with a `MixOutput` behind it, and `run_beside` starts the tasks and calls the run.
 #![tactic(auto)]
@@ -20,9 +24,11 @@ mod events;
 mod fault;
 mod mix;
 mod side_task;
+mod start;
 
 pub use create::{CreateOutput, CreatedOutput, TaskOutput};
 pub use events::{ArrivedDatagram, DatagramOrigin, EventOutput, TakenChange};
 pub use fault::OutputFault;
 pub use mix::{MixOutput, NoOutput, OutputSink};
 pub use side_task::{EitherTask, OneTask, SideTask, SideTasks, ThreadFault, run_beside};
+pub use start::{NotedMix, NotedOutput, RunStart};

@@ -1,6 +1,7 @@
 //! Tasks that other threads do next to a run, each for as long as the run lasts.
 ghost use Rattle.std.specs.Prelude.{◌≡◌, IfOk};
 
+use crate::start::RunStart;
 use std::sync::Wait;
 use std::thread;
 use std::thread::Threads;
@@ -13,7 +14,9 @@ pub struct ThreadFault;
 /// A task that is done next to a run, and ends with it.
 pub trait SideTask {
     /// Does the task until the run has ended. It blocks the calling thread.
-    fn complete<R: Wait + Clock>(self, rt: &R);
+    ///
+    /// A task with a file that was created for the run waits for `start` before it drops the file.
+    fn complete<R: Wait + Clock>(self, rt: &R, start: &RunStart);
 }
 
 /// The tasks that are done next to a run.
@@ -69,10 +72,10 @@ pub enum EitherTask<A, B> {
 }
 
 impl<A: SideTask, B: SideTask> SideTask for EitherTask<A, B> {
-    fn complete<R: Wait + Clock>(self, rt: &R) {
+    fn complete<R: Wait + Clock>(self, rt: &R, start: &RunStart) {
         match self {
-            EitherTask::First(task) => task.complete(rt),
-            EitherTask::Second(task) => task.complete(rt),
+            EitherTask::First(task) => task.complete(rt, start),
+            EitherTask::Second(task) => task.complete(rt, start),
         }
     }
 }
@@ -92,7 +95,8 @@ impl<A: SideTasks, B: SideTasks> SideTasks for (A, B) {
 }
 
 /// Calls `run` in this thread, with each of the tasks in a thread of its own, and returns the result of `run` once all
-/// have ended. Returns `ThreadFault` if a thread cannot be started; then `run` is not called.
+/// have ended. Returns `ThreadFault` if a thread cannot be started; then `run` is not called, and `start` has failed.
+/// Otherwise the run has begun, unless `run` notes in `start` that it has not.
 // No method of a trait: there the toolchain does not follow that a type parameter may go to another thread.
 pub fn run_beside<
     'a,
@@ -100,7 +104,7 @@ pub fn run_beside<
     S: SideTasks + 'a,
     G: FnOnce() -> O + Drop,
     O: Drop,
->(rt: &'a R, tasks: S, run: G) -> Result<O, ThreadFault>
+>(rt: &'a R, tasks: S, start: &'a RunStart, run: G) -> Result<O, ThreadFault>
     requires run { G.pre run }
     ensures ran { IfOk result (λ value. G.post run value) }
 {
@@ -115,12 +119,16 @@ pub fn run_beside<
             let mut tasks = tasks;
             for _ in 0..u32::MAX {
                 let Some(task) = tasks.next_task() else {
-                    return Ok(run());
+                    let value = run();
+                    start.set_begun();
+                    return Ok(value);
                 };
-                if scope.spawn(move || task.complete(rt)).is_err() {
-                    return Err(ThreadFault);
+                if scope.spawn(move || task.complete(rt, start)).is_err() {
+                    break;
                 }
             }
+            // The tasks whose threads were started wait for it.
+            start.set_failed();
             Err(ThreadFault)
         },
     )

@@ -11,7 +11,7 @@ ghost use Rattle.studio_ends.specs.CellSizes.{HasCellsFor};
 
 use crate::rings::packets::{PacketProducer, PacketToken};
 use rtp_stats::PathCountsSender;
-use rtp_stream::{PathCounts, ReceptionRef, StreamSpec, receive_ref};
+use rtp_stream::{MAX_ARRIVALS, PathCounts, ReceptionRef, StreamSpec, receive_ref};
 use rtp_wire::WireFault;
 
 /// The end of a path, which takes the path's datagrams.
@@ -92,7 +92,7 @@ impl PathEnd {
         ensures spec { self.new.spec ≡ self.old.spec }
     {
         // From 2^62 on nothing is counted, so no counter ever wraps.
-        if self.counts.offered == 1 << 62 {
+        if self.counts.offered == MAX_ARRIVALS {
             return Offer::CountersFull;
         }
         let reception = receive_ref(&self.spec, datagram);

@@ -1,5 +1,5 @@
--- The outputs of a run by their kinds, and their states.
-use Rattle.std.specs.Prelude.{ℕ, List, Bool, true, false, Option, Some, None, codes, slice_index_or, slice_set}
+-- The outputs of a run by their kinds, with the texts of each kind, and their states.
+use Rattle.std.specs.Prelude.{ℕ, List, ◌++◌, Bool, true, false, Option, Some, None, codes, slice_index_or, slice_set}
 use Rattle.studio_io.specs.declared.output_kind.OutputKind.{OutputKind}
 use Rattle.studio_io.specs.declared.output_kind.OutputKind.TheVariants as Kind
 use Rattle.studio_io.specs.declared.output_state.OutputCounts.{OutputCounts}
@@ -26,6 +26,34 @@ abbrev pub output_unit : OutputKind → List ℕ
 output_unit Kind.Record = codes "datagrams"
 output_unit Kind.Wav = codes "blocks"
 output_unit Kind.Pcm = codes "blocks"
+
+-- the word before the number of units that were written, in the lines of `--stats`
+abbrev pub written_word : OutputKind → List ℕ
+written_word Kind.Record = codes "recorded"
+written_word Kind.Wav = codes "wav_blocks"
+written_word Kind.Pcm = codes "pcm_blocks"
+
+-- the group of an output's metrics: the front of their names in `/metrics`, without the program's name
+unfoldable pub metric_group : OutputKind → List ℕ
+metric_group kind = output_key kind ++ codes "_"
+
+-- the description of the metric of an output's state
+abbrev pub state_help : OutputKind → List ℕ
+state_help Kind.Record = codes "The state of the record: 1 for the state that it is in, and 0 for the others."
+state_help Kind.Wav = codes "The state of the WAV file: 1 for the state that it is in, and 0 for the others."
+state_help Kind.Pcm = codes "The state of the raw PCM: 1 for the state that it is in, and 0 for the others."
+
+-- the description of the metric of the units that were written
+abbrev pub written_help : OutputKind → List ℕ
+written_help Kind.Record = codes "Datagrams that the record holds."
+written_help Kind.Wav = codes "Blocks of the mix that the WAV file holds."
+written_help Kind.Pcm = codes "Blocks of the mix that were written as raw PCM."
+
+-- the description of the metric of the units that were left out, of an output that has a reader
+abbrev pub left_out_help : OutputKind → List ℕ
+left_out_help Kind.Record = codes ""
+left_out_help Kind.Wav = codes ""
+left_out_help Kind.Pcm = codes "Blocks of the mix that were left out of the raw PCM, because its reader was slow or there was none."
 
 -- somebody has to read the output while it is written: before that, and while the reader is slow, units are left out
 abbrev pub has_reader : OutputKind → Bool

@@ -1,6 +1,7 @@
-//! The kinds of a run's outputs: what a run writes next to the datagrams of its mix.
+//! The kinds of a run's outputs, which a run writes next to the datagrams of its mix, and the texts of each kind.
 ghost use Rattle.std.specs.Prelude.{◌≡◌, ◌<◌, ◌≤◌, length};
-ghost use Rattle.studio_io.specs.Outputs.{has_reader, output_index, output_key, output_unit};
+ghost use Rattle.studio_io.specs.Outputs.{has_reader, left_out_help, metric_group, output_index};
+ghost use Rattle.studio_io.specs.Outputs.{output_key, output_unit, state_help, written_help, written_word};
 
 use std::fmt;
 use std::fmt::{Display, Formatter};
@@ -18,6 +19,9 @@ pub enum OutputKind {
 
 /// All kinds, in the order in which outputs are shown.
 pub const OUTPUT_KINDS: [OutputKind; 3] = [OutputKind::Record, OutputKind::Wav, OutputKind::Pcm];
+
+/// The number of kinds.
+pub(crate) const KIND_COUNT: usize = OUTPUT_KINDS.len();
 
 impl OutputKind {
     /// Returns the place of the kind in `OUTPUT_KINDS`.
@@ -52,6 +56,67 @@ impl OutputKind {
         match self {
             OutputKind::Record => "datagrams",
             OutputKind::Wav | OutputKind::Pcm => "blocks",
+        }
+    }
+
+    /// Returns the word before the number of units that were written, in the lines of `--stats`.
+    pub fn written_word(self) -> &'static str
+        ensures word { result.now ≡ written_word self }
+        ensures few { length result.now ≤ 10 }
+    {
+        match self {
+            OutputKind::Record => "recorded",
+            OutputKind::Wav => "wav_blocks",
+            OutputKind::Pcm => "pcm_blocks",
+        }
+    }
+
+    /// Returns the group of the output's metrics: the front of their names in `/metrics`, without the program's name.
+    #[tactic(auto, unfolding(crate::specs::Outputs::metric_group))]
+    pub fn metric_group(self) -> &'static str
+        ensures { result.now ≡ metric_group self }
+    {
+        match self {
+            OutputKind::Record => "record_",
+            OutputKind::Wav => "wav_",
+            OutputKind::Pcm => "pcm_",
+        }
+    }
+
+    /// Returns the description of the metric of the output's state, one line.
+    pub fn state_help(self) -> &'static str
+        ensures { result.now ≡ state_help self }
+    {
+        match self {
+            OutputKind::Record =>
+                "The state of the record: 1 for the state that it is in, and 0 for the others.",
+            OutputKind::Wav =>
+                "The state of the WAV file: 1 for the state that it is in, and 0 for the others.",
+            OutputKind::Pcm =>
+                "The state of the raw PCM: 1 for the state that it is in, and 0 for the others.",
+        }
+    }
+
+    /// Returns the description of the metric of the units that were written, one line.
+    pub fn written_help(self) -> &'static str
+        ensures { result.now ≡ written_help self }
+    {
+        match self {
+            OutputKind::Record => "Datagrams that the record holds.",
+            OutputKind::Wav => "Blocks of the mix that the WAV file holds.",
+            OutputKind::Pcm => "Blocks of the mix that were written as raw PCM.",
+        }
+    }
+
+    /// Returns the description of the metric of the units that were left out, one line. It is empty for an output that
+    /// has no reader: there is no such metric of it.
+    pub fn left_out_help(self) -> &'static str
+        ensures { result.now ≡ left_out_help self }
+    {
+        match self {
+            OutputKind::Record | OutputKind::Wav => "",
+            OutputKind::Pcm =>
+                "Blocks of the mix that were left out of the raw PCM, because its reader was slow or there was none.",
         }
     }
 

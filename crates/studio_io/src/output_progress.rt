@@ -2,9 +2,10 @@
 ghost use Rattle.std.specs.Prelude.{◌≡◌, None, Some};
 ghost use Rattle.studio_io.specs.Outputs.{end_number};
 
-use crate::output_kind::{OUTPUT_KINDS, OutputKind};
+use crate::output_kind::{KIND_COUNT, OUTPUT_KINDS, OutputKind};
 use crate::output_state::{OutputCounts, OutputEnd, OutputState};
 use crate::output_states::OutputStates;
+use std::array;
 use std::sync::atomic::{AtomicU32, AtomicU64, Ordering};
 
 /// The phase of an output that the run does not have, or has not created yet.
@@ -140,18 +141,14 @@ fn end_of(number: u32) -> Option<OutputEnd>
 #[derive(Drop)]
 pub struct RunProgress {
     /// The progress of each output, in the order of `OUTPUT_KINDS`.
-    by_kind: [OutputProgress; 3],
+    by_kind: [OutputProgress; KIND_COUNT],
 }
 
 impl RunProgress {
     /// Returns the progress of a run that has no output yet.
     pub fn new() -> RunProgress {
         RunProgress {
-            by_kind: [
-                OutputProgress::new(),
-                OutputProgress::new(),
-                OutputProgress::new(),
-            ],
+            by_kind: array::from_fn(|_| OutputProgress::new()),
         }
     }
 

@@ -3,14 +3,14 @@ ghost use Rattle.std.specs.Prelude.{◌≡◌};
 ghost use Rattle.studio_io.specs.Outputs.{state_of, with_state};
 ghost use Rattle.studio_io.specs.declared.output_state.OutputState.TheVariants.{Absent};
 
-use crate::output_kind::OutputKind;
+use crate::output_kind::{KIND_COUNT, OutputKind};
 use crate::output_state::OutputState;
 
 /// The state of the output of each kind.
 #[derive(Clone, Copy, PartialEq, Eq)]
 pub struct OutputStates {
     /// The states, in the order of `OUTPUT_KINDS`.
-    by_kind: [OutputState; 3],
+    by_kind: [OutputState; KIND_COUNT],
 }
 
 impl OutputStates {
@@ -19,7 +19,7 @@ impl OutputStates {
         ensures { (kind : OutputKind) → state_of kind result ≡ Absent }
     {
         OutputStates {
-            by_kind: [OutputState::Absent; 3],
+            by_kind: [OutputState::Absent; KIND_COUNT],
         }
     }
 

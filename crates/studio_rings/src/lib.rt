@@ -4,8 +4,8 @@
 //!    counts are to be read during the run.
 //! 2. `run_workers` takes the ends, a `Feed` for each path, stream by stream and path by path, a
 //!    `Clock` for each stream, and a `Sink`. It returns once every feed has ended and every datagram
-//!    was sent, with a `WorkReport` and the sink. `run_workers_with_gains` also asks a `GainSource`
-//!    for changes of gains while it runs.
+//!    was sent, with a `WorkReport` and the sink. To change gains during the run, put
+//!    the feeds, the clocks and the sink with a `GainSource` into `WorkerDevices`, and call its `run`.
 //!
 //! If the report is `settled`, the sink was passed the datagrams of exactly the ready blocks, of the
 //! studio with the changes of gains that were taken.
@@ -31,7 +31,7 @@ mod stream_threads;
 mod tokens;
 mod worker;
 
-pub use run::{run_workers, run_workers_with_gains};
+pub use run::{WorkerDevices, run_workers};
 pub use studio_ends::{
     Ends, MixEnd, MixNote, MonitorEnd, Offer, OpenFault, PathCounts, PathDone, PathEnd, PathsOpen,
     StatsReceivers, StopReason, StreamDone, StreamEnd, TurnNote, open, open_with_stats,

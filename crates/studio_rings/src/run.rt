@@ -125,6 +125,19 @@ fn report<K: Drop>(mixed: MixResult<K>, parts: RunResults) -> (WorkReport, K)
     (WorkReport::new(streams, feed_faults, counts, settled), sink)
 }
 
+/// The devices of a run by workers.
+#[derive(Drop)]
+pub struct WorkerDevices<F, C, K, G> {
+    /// A feed for each path, ordered by stream and then by path.
+    pub feeds: Vec<F>,
+    /// A clock for each stream.
+    pub clocks: Vec<C>,
+    /// The sink that takes the datagrams of the mix.
+    pub sink: K,
+    /// The source of changes of gains. `NoGains` has none.
+    pub gains: G,
+}
+
 /// Runs a worker for each path and each stream, each in a thread of its own, and the mixer's in the calling thread,
 /// until all feeds have ended and all datagrams were sent.
 ///
@@ -150,64 +163,69 @@ pub fn run_workers<R: Threads + Wait + Sync, F: Feed + Send, C: Clock + Send, K:
         → IsSettledRun studio places (map F.told feeds.items) (map C.told clocks.items) r.0 (K.handed sink)
         (K.handed r.1)) }
 {
-    let (report, sink, _) = run_workers_with_gains(rt, alloc, ends, feeds, clocks, sink, NoGains)?;
+    let devices = WorkerDevices {
+        feeds,
+        clocks,
+        sink,
+        gains: NoGains,
+    };
+    let (report, sink, _) = devices.run(rt, alloc, ends)?;
     Ok((report, sink))
 }
 
-/// Runs the workers as `run_workers` does. Before each turn of the mixer `gains` is asked for changes of gains, in the
-/// calling thread, until it has no request or 64 were answered. A settled run is one of the studio with exactly the
-/// changes that it took.
-pub fn run_workers_with_gains<
-    R: Threads + Wait + Sync,
-    F: Feed + Send,
-    C: Clock + Send,
-    K: Sink,
-    G: GainSource,
->(
-    rt: &R,
-    alloc: Global,
-    ends: Ends,
-    feeds: Vec<F>,
-    clocks: Vec<C>,
-    sink: K,
-    gains: G,
-) -> Result<(WorkReport, K, G), WorkFault>
-    requires opened { (studio : Studio) × (places : ℕ) × IsStudio studio × AreOpenedTogether studio places ends }
-    requires feeds { length feeds.items ≡ length ends.paths.items }
-    requires clocks { length clocks.items ≡ length ends.streams.items }
-    ensures balance { IfOk result (λ r. Balances r.0.blocks r.0.sent_a r.0.fault_a r.0.sent_b r.0.fault_b) }
-    ensures faults { IfOk result (λ r. length r.0.feed_faults.items ≡ length feeds.items) }
-    ensures settled { IfOk result (λ r. r.0.settled ≡ true → (studio : Studio) (places : ℕ)
-        → AreOpenedTogether studio places ends
-        → IsSettledRunWith studio places (map F.told feeds.items) (map C.told clocks.items) r.0 (K.handed sink)
-        (K.handed r.1) (G.taken gains) (G.taken r.2)) }
-{
-    let Ends {
-        paths,
-        streams,
-        monitors: _,
-        mix,
-    } = ends;
-    let memory = reserve_memory(alloc, paths, feeds, streams, clocks)?;
-    let RunMemory {
-        jobs,
-        results,
-        ended,
-        parts,
-    } = memory;
-    // Set by the first worker that cannot start a thread. Every worker reads it between its steps.
-    let stop = AtomicBool::new(false);
-    let mixed = MixResult {
-        end: mix,
-        sink,
-        counts: SendCounts::new(),
-    };
-    let task = MixWorker { mixed, gains };
-    let Ok((results, done)) = run_streams(rt, jobs, results, task, &ended, &stop) else {
-        return Err(WorkFault::Start);
-    };
-    let MixWorker { mixed, gains } = done;
-    let parts = collect_results(results, parts);
-    let (work, sink) = report(mixed, parts);
-    Ok((work, sink, gains))
+impl<F: Feed + Send, C: Clock + Send, K: Sink, G: GainSource> WorkerDevices<F, C, K, G> {
+    /// Runs the workers of these ends as `run_workers` does, and returns the report with the sink and the source of
+    /// gains. Before each turn of the mixer the source is asked for changes of gains, in the calling thread, until it
+    /// has no request or 64 were answered. A settled run is one of the studio with exactly the changes that it took.
+    pub fn run<R: Threads + Wait + Sync>(
+        self,
+        rt: &R,
+        alloc: Global,
+        ends: Ends,
+    ) -> Result<(WorkReport, K, G), WorkFault>
+        requires opened { (studio : Studio) × (places : ℕ) × IsStudio studio × AreOpenedTogether studio places ends }
+        requires feeds { length self.feeds.items ≡ length ends.paths.items }
+        requires clocks { length self.clocks.items ≡ length ends.streams.items }
+        ensures balance { IfOk result (λ r. Balances r.0.blocks r.0.sent_a r.0.fault_a r.0.sent_b r.0.fault_b) }
+        ensures faults { IfOk result (λ r. length r.0.feed_faults.items ≡ length self.feeds.items) }
+        ensures settled { IfOk result (λ r. r.0.settled ≡ true → (studio : Studio) (places : ℕ)
+            → AreOpenedTogether studio places ends
+            → IsSettledRunWith studio places (map F.told self.feeds.items) (map C.told self.clocks.items) r.0
+            (K.handed self.sink) (K.handed r.1) (G.taken self.gains) (G.taken r.2)) }
+    {
+        let WorkerDevices {
+            feeds,
+            clocks,
+            sink,
+            gains,
+        } = self;
+        let Ends {
+            paths,
+            streams,
+            monitors: _,
+            mix,
+        } = ends;
+        let memory = reserve_memory(alloc, paths, feeds, streams, clocks)?;
+        let RunMemory {
+            jobs,
+            results,
+            ended,
+            parts,
+        } = memory;
+        // Set by the first worker that cannot start a thread. Every worker reads it between its steps.
+        let stop = AtomicBool::new(false);
+        let mixed = MixResult {
+            end: mix,
+            sink,
+            counts: SendCounts::new(),
+        };
+        let task = MixWorker { mixed, gains };
+        let Ok((results, done)) = run_streams(rt, jobs, results, task, &ended, &stop) else {
+            return Err(WorkFault::Start);
+        };
+        let MixWorker { mixed, gains } = done;
+        let parts = collect_results(results, parts);
+        let (work, sink) = report(mixed, parts);
+        Ok((work, sink, gains))
+    }
 }

@@ -1,5 +1,5 @@
 -- The code that was passed on is the code of the call.
-use Rattle.std.proofs.Common.{ap, ◌∙◌, ◌≡◌, List, ℕ, length, w32}
+use Rattle.std.proofs.Common.{ap, ◌∙◌, List, ℕ, length, w32}
 use Rattle.std.proofs.lemmas.Int.{to_z-of_z}
 use Rattle.darbexum_c.specs.Texts.{fault_text_of, buffer_after}
 use Rattle.darbexum_c.proofs.version.darbexum_fault_text.Goals as goal
