@@ -19,8 +19,10 @@ import time
 from pathlib import Path
 
 sys.dont_write_bytecode = True
-import browser
 from sources import ROOT
+
+sys.path.insert(0, str(ROOT / "tests"))
+from harness.pages import CHROMIUM, Browser
 
 PICTURE, CHECKSUM = ROOT / "docs" / "page.png", ROOT / "docs" / "page.sum"
 TEXTS = ROOT / "crates" / "status_page" / "src" / "page"
@@ -71,11 +73,10 @@ def token_of(demo: subprocess.Popen) -> str | None:
 
 def picture_of(port: int, token: str, width: int, folder: str) -> bytes:
     """A picture of the whole page at this port, after a minute in which it had the token."""
-    shown = browser.Browser(f"http://127.0.0.1:{port}/", folder, width, HEIGHT)
+    shown = Browser(f"http://127.0.0.1:{port}/", folder, width, HEIGHT)
     try:
         time.sleep(WATCHED / 2)
-        shown.evaluate(f'''const field = document.getElementById("token");
-            field.value = "{token}"; field.dispatchEvent(new Event("input"))''')
+        shown.type_token(token)
         time.sleep(WATCHED / 2)
         shown.resize(width, shown.evaluate("document.body.scrollHeight"))
         # Longer than the page waits between two states, so that what depends on the size is drawn again.
@@ -91,7 +92,7 @@ def main() -> int:
     parser.add_argument("--width", type=int, default=WIDTH)
     parser.add_argument("--file", type=Path, default=PICTURE)
     options = parser.parse_args()
-    if not browser.CHROMIUM:
+    if not CHROMIUM:
         print("docs/picture.py: no picture is made, for there is no chromium")
         return 0
     shift = random.choice(SHIFTS)

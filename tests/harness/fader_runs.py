@@ -18,6 +18,8 @@ TOP, ONE = 2**23 - 1, 65_536
 # Seconds in which a request is answered.
 ANSWER_SECONDS = 5
 TOKEN = "c2VjcmV0LXRva2VuLTEyMw"
+# The header field with the token, without which the gains are shown only so many times in a second.
+BEARER = {"Authorization": f"Bearer {TOKEN}"}
 CONFIG = """open_at = 0
 [[stream]]
 encoding = "L24"
@@ -93,7 +95,7 @@ class FaderRun:
 
     def shown(self, at: int | None = None) -> dict[str, Any]:
         """Returns what the page shows of the gains, now or at a time."""
-        status, text = self.page.ask_run("GET", "/gains" + (f"?at={at}" if at is not None else ""))
+        status, text = self.page.ask_run("GET", "/gains" + (f"?at={at}" if at is not None else ""), fields=BEARER)
         expect(f"the status of /gains at {at}, {text}", status, 200)
         return json.loads(text)
 

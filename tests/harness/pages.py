@@ -14,7 +14,13 @@ from .ports import HOST
 
 CHROMIUM = shutil.which("chromium") or shutil.which("chromium-browser")
 # The header fields of every answer of the page.
-GUARD = {"cache-control": "no-store", "x-content-type-options": "nosniff"}
+GUARD = {
+    "cache-control": "no-store",
+    "x-content-type-options": "nosniff",
+    "x-frame-options": "DENY",
+    "content-security-policy": "default-src 'none'; style-src 'unsafe-inline'; script-src 'unsafe-inline';"
+    " connect-src 'self'; img-src data:; frame-ancestors 'none'",
+}
 # Seconds after which a connection is made again, since the page ends an idle one after ten, and for which a request
 # that was withdrawn is made again.
 IDLE_SECONDS, AGAIN_SECONDS = 5, 60
@@ -93,12 +99,13 @@ CODES = {"ArrowLeft": 37, "ArrowUp": 38, "ArrowRight": 39, "ArrowDown": 40}
 
 
 class Browser:
-    """Chromium without a window, of 1,280 by 800, at a page. It is told over a pipe what to do."""
+    """Chromium without a window at a page, which is told over a pipe what to do. It has `folder` for its files."""
 
-    def __init__(self, address: str, folder: str) -> None:
+    def __init__(self, address: str, folder: str, width: int = 1280, height: int = 800) -> None:
         self.count, (told, self.tell), (self.hear, heard) = 0, os.pipe(), os.pipe()
         words = [CHROMIUM, "--headless", "--no-sandbox", "--disable-gpu", "--hide-scrollbars"]
         words += [f"--user-data-dir={folder}/chromium", "--remote-debugging-pipe", "about:blank"]
+        # The browser reads from the descriptor 3 and writes to 4. Copies above them are not overwritten by each other.
         ends = [fcntl.fcntl(end, fcntl.F_DUPFD, 10) for end in (told, heard)]
         at_pipe = lambda: [os.dup2(end, place) for end, place in zip(ends, (3, 4))]
         self.child = subprocess.Popen(words, stderr=subprocess.DEVNULL, preexec_fn=at_pipe, pass_fds=(3, 4))
@@ -107,7 +114,7 @@ class Browser:
         self.answers, self.session = os.fdopen(self.hear, "rb"), {}
         target = self.ask("Target.createTarget", url="about:blank")["targetId"]
         self.session = {"sessionId": self.ask("Target.attachToTarget", targetId=target, flatten=True)["sessionId"]}
-        self.ask("Emulation.setDeviceMetricsOverride", width=1280, height=800, deviceScaleFactor=1, mobile=False)
+        self.resize(width, height)
         self.ask("Page.navigate", url=address)
 
     def ask(self, method: str, **params: object) -> dict[str, Any]:
@@ -133,6 +140,11 @@ class Browser:
 
     def text(self) -> str:
         return self.evaluate("document.body ? document.body.innerText : ''")
+
+    def resize(self, width: int, height: int) -> None:
+        """Gives the page this size, in pixels."""
+        shape = {"width": width, "height": height, "deviceScaleFactor": 1, "mobile": False}
+        self.ask("Emulation.setDeviceMetricsOverride", **shape)
 
     def picture(self) -> bytes:
         """Returns the page as a PNG file."""

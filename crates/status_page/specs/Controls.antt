@@ -12,12 +12,15 @@ use Rattle.studio_io.specs.declared.gain_source.GainRequest.{GainRequest}
 use Rattle.status_page.specs.declared.control.Control.{Control}
 use Rattle.status_page.specs.declared.control.RequestOutcome.{RequestOutcome}
 use Rattle.status_page.specs.declared.control.fault.ControlFault.{ControlFault}
-use Rattle.status_page.specs.declared.control.fault.ControlFault.TheVariants.{Query}
+use Rattle.status_page.specs.declared.control.fault.ControlFault.TheVariants.{Query, Rate}
 use Rattle.status_page.specs.declared.control.reply.ShownTimes.{ShownTimes}
+use Rattle.status_page.specs.declared.control.verdict.IsFree.{IsFree}
 use Rattle.status_page.specs.declared.control.verdict.Verdict.{Verdict}
-use Rattle.status_page.specs.declared.control.verdict.Verdict.TheVariants.{OtherHost, Refused, NoResource, WrongMethod, WrongGainsMethod, WithoutToken, Show, ShowGains, ChangeGains}
+use Rattle.status_page.specs.declared.control.verdict.Verdict.TheVariants.{OtherHost, Refused, NoResource, WrongMethod, WrongGainsMethod, WithoutToken, TooManyReads, Show, ShowGains, ShowGainsCounted, ChangeGains}
 use Rattle.status_page.specs.declared.control_page.ControlPage.{ControlPage}
-use Rattle.status_page.specs.ChangeRate.{allows, counted}
+use Rattle.status_page.specs.declared.control.rate.RequestRate.{RequestRate}
+use Rattle.status_page.specs.declared.server.served.GainsAnswer.TheVariants as Gains
+use Rattle.status_page.specs.RequestRate.{allows, counted}
 use Rattle.status_page.specs.ControlPages.{control_content_of}
 use Rattle.status_page.specs.ControlFaults.{IsFault, IsWithoutToken, IsWrongMethod}
 use Rattle.status_page.specs.GainBodies.{IsBuffer, change_of, value_of}
@@ -104,29 +107,38 @@ Changes asks old value new response =
     ((reply : Result ℤ ControlFault) × ChangesBy asks old value new reply × IsWrittenOrFailed (IsTakenReply reply) response)
     ⊎ ((new.requester ≡ old.requester) × IsFailed response)
 
--- the page at this time
+-- the page before it answers at this time
 abbrev pub at_time : {D : Type 0} → ControlPage D → Duration → ControlPage D
-at_time page time = record page { time = time }
+at_time page time = record page { time = time; answered = Gains.Neither }
+
+-- a further change is one of at most 200 in a second, and a further read without the token one of at most 20
+abbrev pub is_free : {D : Type 0} → ControlPage D → IsFree
+is_free page = record { changes = allows 200 page.change_rate page.time; reads = allows 20 page.read_rate page.time }
 
 -- the verdict on a request
 abbrev pub verdict_on : {D : Type 0} → ControlPage D → Request (List ℕ) → Verdict
-verdict_on page request = verdict_of page.control.token (allows page.rate page.time) (head_of request)
+verdict_on page request = verdict_of page.control.token (is_free page) (head_of request)
 
--- the gains were shown; only the requester and the buffer of gains may have changed
-pub record ShowsGains {D : Type 0} (asks : Asks D) (plans : Plans D) (old : ControlPage D) (request : Request (List ℕ)) (response : Response) (new : ControlPage D) : Type 0 where
+-- the gains were shown, and this is the count of reads after it; apart from that, only the requester and the buffer of
+-- gains may have changed
+pub record ShowsGains {D : Type 0} (asks : Asks D) (plans : Plans D) (old : ControlPage D) (after : RequestRate) (request : Request (List ℕ)) (response : Response) (new : ControlPage D) : Type 0 where
   pub shows : Shows asks plans old.control (uri_query (head_of request).uri) new.control response
   pub lock : HasSameLock old.control new.control
   pub page : new.page ≡ old.page
-  pub rate : new.rate ≡ old.rate
+  pub change_rate : new.change_rate ≡ old.change_rate
+  pub read_rate : new.read_rate ≡ after
   pub time : new.time ≡ old.time
+  pub answered : new.answered ≡ Gains.Read
 
 -- a change was requested and counted; only the requester, the buffer of gains and the count may have changed
 pub record ChangesGains {D : Type 0} (asks : Asks D) (old : ControlPage D) (request : Request (List ℕ)) (response : Response) (new : ControlPage D) : Type 0 where
   pub changes : Changes asks old.control (value_of (body_of request)) new.control response
   pub lock : HasSameLock old.control new.control
   pub page : new.page ≡ old.page
-  pub rate : new.rate ≡ counted old.rate old.time
+  pub change_rate : new.change_rate ≡ counted 200 old.change_rate old.time
+  pub read_rate : new.read_rate ≡ old.read_rate
   pub time : new.time ≡ old.time
+  pub answered : new.answered ≡ Gains.Change
 
 -- the response to a request with this verdict, and what changes
 abbrev pub responds : {D : Type 0} → Asks D → Plans D → Verdict → ControlPage D → Request (List ℕ) → Response → ControlPage D → Type 0
@@ -137,7 +149,9 @@ responds asks plans WrongMethod old request response new = IsResponse 405 refuse
 responds asks plans WrongGainsMethod old request response new = IsWrongMethod response × (new ≡ old)
 responds asks plans WithoutToken old request response new = IsWithoutToken response × (new ≡ old)
 responds asks plans (Show resource) old request response new = IsResponse 200 (shown_fields resource) (control_content_of old.page resource) response × (new ≡ old)
-responds asks plans ShowGains old request response new = ShowsGains asks plans old request response new
+responds asks plans TooManyReads old request response new = IsFault Rate response × (new ≡ record old { answered = Gains.RefusedRead })
+responds asks plans ShowGains old request response new = ShowsGains asks plans old old.read_rate request response new
+responds asks plans ShowGainsCounted old request response new = ShowsGains asks plans old (counted 20 old.read_rate old.time) request response new
 responds asks plans ChangeGains old request response new = ChangesGains asks old request response new
 
 -- the response to a request, by the verdict on it

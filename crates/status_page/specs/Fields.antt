@@ -41,6 +41,8 @@ path_key Path.Unexpected = codes "unexpected"
 path_key Path.SocketFaults = codes "socket_faults"
 path_key Path.SocketEnded = codes "socket_ended"
 path_key Path.SocketDropped = codes "socket_dropped"
+path_key Path.TooLong = codes "too_long"
+path_key Path.HeldUp = codes "held_up"
 
 -- the kind of a path's number: a counter only rises
 abbrev pub path_kind : PathField → MetricKind
@@ -67,6 +69,8 @@ path_kind Path.Unexpected = Counter
 path_kind Path.SocketFaults = Counter
 path_kind Path.SocketEnded = Gauge
 path_kind Path.SocketDropped = Counter
+path_kind Path.TooLong = Counter
+path_kind Path.HeldUp = Counter
 
 -- the description of a path's number
 abbrev pub path_help : PathField → List ℕ
@@ -93,6 +97,8 @@ path_help Path.Unexpected = codes "Datagrams from other addresses than the path'
 path_help Path.SocketFaults = codes "Receives that failed at the path's socket."
 path_help Path.SocketEnded = codes "1 once the path was given up because its socket failed again and again, and 0 before."
 path_help Path.SocketDropped = codes "Datagrams that the system dropped because the buffer of the path's socket was full."
+path_help Path.TooLong = codes "Datagrams that were left out because they were longer than 2048 octets."
+path_help Path.HeldUp = codes "Datagrams that were left out after a hold-up, until the mix had caught up."
 
 -- the name of a stream's number
 abbrev pub stream_key : StreamField → List ℕ
@@ -161,6 +167,8 @@ path_count Path.Unexpected path = option_and_then (λ socket. socket.unexpected)
 path_count Path.SocketFaults path = option_map (λ socket. socket.faults) path.socket
 path_count Path.SocketEnded path = option_map (λ socket. flag socket.has_ended) path.socket
 path_count Path.SocketDropped path = option_and_then (λ socket. socket.dropped) path.socket
+path_count Path.TooLong path = option_map (λ socket. socket.too_long) path.socket
+path_count Path.HeldUp path = option_map (λ socket. socket.held_up) path.socket
 
 -- a count as a number
 abbrev pub counted : Option ℕ → Option Number

@@ -9,12 +9,12 @@ use Rattle.status_page.specs.declared.snapshot.PathState.{PathState}
 use Rattle.status_page.specs.declared.snapshot.StreamState.{StreamState}
 use Rattle.status_page.specs.declared.snapshot.ChannelState.{ChannelState}
 use Rattle.status_page.specs.declared.snapshot.Snapshot.{Snapshot}
-use Rattle.status_page.specs.RunOutputs.{left_out_help, output_group, state_help, written_help}
 use Rattle.studio_io.specs.declared.output_kind.OutputKind.{OutputKind}
 use Rattle.studio_io.specs.declared.output_kind.TheConstants.{OUTPUT_KINDS}
 use Rattle.studio_io.specs.declared.output_state.OutputState.{OutputState}
 use Rattle.studio_io.specs.declared.output_states.OutputStates.{OutputStates}
 use Rattle.studio_io.specs.Outputs.{has_reader, left_out_units, output_unit, state_name, state_of, written_units}
+use Rattle.studio_io.specs.Outputs.{left_out_help, metric_group, state_help, written_help}
 use Rattle.status_page.specs.declared.fields.Number.{Number}
 use Rattle.status_page.specs.declared.fields.Number.TheVariants as Shown
 use Rattle.status_page.specs.declared.fields.MetricKind.{MetricKind}
@@ -249,16 +249,16 @@ count_family group key help count = header_text group key Counter help ++ count_
 -- the metric of an output's state
 unfoldable pub output_state_family : OutputKind → List ℕ → List ℕ
 output_state_family kind state =
-    header_text (output_group kind) (codes "state") Gauge (state_help kind)
-    ++ output_state_samples (has_reader kind) (output_group kind) state
+    header_text (metric_group kind) (codes "state") Gauge (state_help kind)
+    ++ output_state_samples (has_reader kind) (metric_group kind) state
 
 -- the metric of the units that were written
 unfoldable pub written_family : OutputKind → Option ℕ → List ℕ
-written_family kind written = count_family (output_group kind) (output_unit kind) (written_help kind) written
+written_family kind written = count_family (metric_group kind) (output_unit kind) (written_help kind) written
 
 -- the metric of the units that were left out
 unfoldable pub left_out_family : OutputKind → Option ℕ → List ℕ
-left_out_family kind left_out = count_family (output_group kind) (codes "left_out") (left_out_help kind) left_out
+left_out_family kind left_out = count_family (metric_group kind) (codes "left_out") (left_out_help kind) left_out
 
 -- that metric, if the output has a reader
 abbrev pub left_out_family_if : Bool → OutputKind → Option ℕ → List ℕ
@@ -278,6 +278,10 @@ unfoldable pub run_output_families : List OutputKind → OutputStates → List �
 run_output_families [] states = []
 run_output_families (kind ∷ kinds) states = run_output_family kind (state_of kind states) ++ run_output_families kinds states
 
+-- the metric of the datagrams of the mix that were left out because they were stale
+unfoldable pub stale_text : ℕ → List ℕ
+stale_text stale = count_family (codes "sends_") (codes "stale") (codes "Datagrams of the mix that were sent to neither address, because they were useless to every receiver.") (Some stale)
+
 -- all metrics
 unfoldable pub metrics_text : Snapshot → List ℕ
 metrics_text snapshot =
@@ -286,4 +290,5 @@ metrics_text snapshot =
     ++ path_families PATH_FIELDS snapshot.streams.items
     ++ output_families OUTPUT_FIELDS snapshot.outputs.items
     ++ failed_text (slice_index snapshot.failed_sends 0) (slice_index snapshot.failed_sends 1)
+    ++ stale_text snapshot.stale
     ++ run_output_families OUTPUT_KINDS snapshot.run_outputs

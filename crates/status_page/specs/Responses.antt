@@ -41,9 +41,17 @@ content_of snapshot Page = page_text
 content_of snapshot State = print (state_tokens snapshot)
 content_of snapshot Metrics = metrics_text snapshot
 
--- the header fields of every response: no cache keeps it, and no browser takes it for another type than the one it has
+-- what a browser may do with a response (Content Security Policy Level 3): it uses the style, the script and the icon that
+-- are in it, sends requests to its own origin alone, and shows it in no frame
+unfoldable pub policy_text : List ℕ
+policy_text = codes "default-src 'none'; style-src 'unsafe-inline'; script-src 'unsafe-inline'; connect-src 'self'; img-src data:; frame-ancestors 'none'"
+
+-- the header fields of every response: no cache keeps it, no browser takes it for another type than the one it has or shows
+-- it in a frame, and its policy
 abbrev pub guard_fields : List Header
-guard_fields = (codes "cache-control", codes "no-store") ∷ (codes "x-content-type-options", codes "nosniff") ∷ []
+guard_fields =
+    (codes "cache-control", codes "no-store") ∷ (codes "x-content-type-options", codes "nosniff")
+    ∷ (codes "x-frame-options", codes "DENY") ∷ (codes "content-security-policy", policy_text) ∷ []
 
 -- the header fields of a resource
 abbrev pub shown_fields : Resource → List Header

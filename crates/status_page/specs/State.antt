@@ -111,6 +111,10 @@ abbrev pub failed_tokens : List ℕ → List Token
 failed_tokens failed =
     array_tokens (codes "failed_sends") (number_token (slice_index failed 0) ∷ number_token (slice_index failed 1) ∷ [])
 
+-- the number of datagrams of the mix that were left out because they were stale
+abbrev pub stale_tokens : ℕ → List Token
+stale_tokens stale = key (codes "stale") ∷ number_token stale ∷ []
+
 -- a state, by its name
 abbrev pub state_member : List ℕ → List Token
 state_member name = key (codes "state") ∷ string name ∷ []
@@ -149,4 +153,4 @@ unfoldable pub state_tokens : Snapshot → List Token
 state_tokens snapshot =
     begin_object ∷ (array_tokens (codes "streams") (streams_tokens snapshot.streams.items)
     ++ array_tokens (codes "outputs") (outputs_tokens snapshot.outputs.items)
-    ++ failed_tokens snapshot.failed_sends ++ run_outputs_tokens OUTPUT_KINDS snapshot.run_outputs ++ end_object ∷ [])
+    ++ failed_tokens snapshot.failed_sends ++ stale_tokens snapshot.stale ++ run_outputs_tokens OUTPUT_KINDS snapshot.run_outputs ++ end_object ∷ [])

@@ -5,8 +5,8 @@ ghost use Rattle.http_server.specs.Exchange.{Calls};
 ghost use Rattle.http_server.specs.History.{IsServed, Rests};
 ghost use Rattle.http_server.specs.Response.{IsBlank, IsResponse};
 ghost use Rattle.std.specs.declared.time.Duration.{Duration};
-ghost use Rattle.status_page.specs.ChangeRate.{allows};
 ghost use Rattle.status_page.specs.ControlPages.{control_content_of, control_page_text};
+ghost use Rattle.status_page.specs.RequestRate.{allows, counted};
 ghost use Rattle.status_page.specs.Responses.{shown_fields};
 ghost use Rattle.status_page.specs.declared.page.resource.Resource.TheVariants.{Page as ThePage};
 ghost use Rattle.status_page.specs.Controls.{
@@ -17,16 +17,17 @@ ghost use Rattle.status_page.specs.Controls.{
   verdict_on,
 };
 
-use crate::control::rate::ChangeRate;
+use crate::control::fault::ControlFault;
+use crate::control::rate::{MAX_CHANGES, MAX_READS, RequestRate};
 use crate::control::reply::{ask_for_token, refuse, refuse_method};
-use crate::control::verdict::{Verdict, verdict_of};
+use crate::control::verdict::{IsFree, Verdict, verdict_of};
 use crate::control::{Control, GainRequester};
 use crate::page::controls_html::controls_html;
 use crate::page::html::page_html;
 use crate::page::resource::Resource;
 use crate::page::{self, Page};
 use crate::server::client::new_control_connection;
-use crate::server::served::ServedPage;
+use crate::server::served::{GainsAnswer, ServedPage};
 use crate::snapshot::Snapshot;
 use bytes::Bytes;
 use http::{HeaderName, Request};
@@ -40,9 +41,14 @@ use std::time::Duration;
 pub struct ControlPage<D: GainRequester> {
     page: Page,
     control: Control<D>,
-    rate: ChangeRate,
+    /// The changes with the token in a second.
+    change_rate: RequestRate,
+    /// The reads of the gains without the token in a second, by all clients.
+    read_rate: RequestRate,
     /// The time of the requests that are answered next.
     time: Duration,
+    /// The part of the gains in the last answer.
+    answered: GainsAnswer,
 }
 
 impl<D: GainRequester> ControlPage<D> {
@@ -50,13 +56,16 @@ impl<D: GainRequester> ControlPage<D> {
     pub fn new(page: Page, control: Control<D>) -> ControlPage<D>
         ensures page { result.page ≡ page }
         ensures control { result.control ≡ control }
-        ensures free { (now : Duration) → allows result.rate now ≡ true }
+        ensures free { (now : Duration) → allows 200 result.change_rate now ≡ true }
+        ensures reads { (now : Duration) → allows 20 result.read_rate now ≡ true }
     {
         ControlPage {
             page,
             control,
-            rate: ChangeRate::new(),
+            change_rate: RequestRate::new(),
+            read_rate: RequestRate::new(),
             time: Duration::ZERO,
+            answered: GainsAnswer::Neither,
         }
     }
 
@@ -64,7 +73,8 @@ impl<D: GainRequester> ControlPage<D> {
     pub fn update(&mut self, snapshot: Snapshot)
         ensures page { self.new.page ≡ snapshot }
         ensures control { self.new.control ≡ self.old.control }
-        ensures rate { self.new.rate ≡ self.old.rate }
+        ensures change_rate { self.new.change_rate ≡ self.old.change_rate }
+        ensures read_rate { self.new.read_rate ≡ self.old.read_rate }
     {
         self.page.update(snapshot);
     }
@@ -79,6 +89,7 @@ impl<D: GainRequester> ControlPage<D> {
         ensures config { config_of connection.new ≡ config_of connection.old }
     {
         self.time = now;
+        self.answered = GainsAnswer::Neither;
         connection.advance(self);
     }
 
@@ -86,7 +97,11 @@ impl<D: GainRequester> ControlPage<D> {
     fn verdict(&self, request: &Request<Bytes>) -> Verdict
         ensures { result ≡ verdict_on self.now request.now }
     {
-        verdict_of(request, &self.control.token, self.rate.allows(self.time))
+        let is_free = IsFree {
+            changes: self.change_rate.allows(MAX_CHANGES, self.time),
+            reads: self.read_rate.allows(MAX_READS, self.time),
+        };
+        verdict_of(request, &self.control.token, is_free)
     }
 
     /// Writes a resource into a response. Returns `AllocError` if an allocation fails.
@@ -106,12 +121,25 @@ impl<D: GainRequester> ControlPage<D> {
         }
     }
 
-    /// Shows the gains.
+    /// Shows the gains to a client that has the token.
     fn show_gains(&mut self, request: &Request<Bytes>, response: &mut Response)
         requires { IsBlank response.old }
-        ensures { ShowsGains D.asks D.planned self.old request.now response.new self.new }
+        ensures { ShowsGains D.asks D.planned self.old self.old.read_rate request.now response.new self.new }
     {
         let alloc = self.page.alloc();
+        self.answered = GainsAnswer::Read;
+        self.control.show(alloc, request.uri().query(), response);
+    }
+
+    /// Shows the gains to a client without the token, and counts the read.
+    fn show_gains_counted(&mut self, request: &Request<Bytes>, response: &mut Response)
+        requires { IsBlank response.old }
+        ensures { ShowsGains D.asks D.planned self.old (counted 20 self.old.read_rate self.old.time) request.now
+            response.new self.new }
+    {
+        let alloc = self.page.alloc();
+        self.read_rate.count(MAX_READS, self.time);
+        self.answered = GainsAnswer::Read;
         self.control.show(alloc, request.uri().query(), response);
     }
 
@@ -121,7 +149,8 @@ impl<D: GainRequester> ControlPage<D> {
         ensures { ChangesGains D.asks self.old request.now response.new self.new }
     {
         let alloc = self.page.alloc();
-        self.rate.count(self.time);
+        self.change_rate.count(MAX_CHANGES, self.time);
+        self.answered = GainsAnswer::Change;
         self.control.change(alloc, request.body(), response);
     }
 }
@@ -141,9 +170,18 @@ impl<D: GainRequester> Service for ControlPage<D> {
             Verdict::WrongMethod => page::refuse(response),
             Verdict::WrongGainsMethod => refuse_method(response),
             Verdict::WithoutToken => ask_for_token(response),
+            Verdict::TooManyReads => {
+                refuse(ControlFault::Rate, response)?;
+                self.answered = GainsAnswer::RefusedRead;
+                Ok(())
+            }
             Verdict::Show(resource) => self.show_resource(resource, response),
             Verdict::ShowGains => {
                 self.show_gains(request, response);
+                Ok(())
+            }
+            Verdict::ShowGainsCounted => {
+                self.show_gains_counted(request, response);
                 Ok(())
             }
             Verdict::ChangeGains => {
@@ -182,7 +220,8 @@ impl<D: GainRequester> ServedPage for ControlPage<D> {
         self.update(snapshot);
     }
 
-    fn respond(&mut self, connection: &mut Connection, now: Duration) {
+    fn respond(&mut self, connection: &mut Connection, now: Duration) -> GainsAnswer {
         self.answer(connection, now);
+        self.answered
     }
 }

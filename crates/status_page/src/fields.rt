@@ -1,10 +1,8 @@
 //! The numbers of a path (`path`), of a stream (`stream`) and of an output channel (`output`), each with its name, its
-//! kind, its description and its value. `/state` and `/metrics` both use them. `run_output` has the texts of a run's
-//! outputs.
+//! kind, its description and its value. `/state` and `/metrics` both use them.
 
 pub(crate) mod output;
 pub(crate) mod path;
-pub(crate) mod run_output;
 pub(crate) mod stream;
 
 /// A number that is shown.

@@ -42,7 +42,7 @@ pub use page::html::HTML;
 pub use page::metrics::metrics_text;
 pub use page::state::state_json;
 pub use server::client::{new_connection, new_control_connection};
-pub use server::served::ServedPage;
+pub use server::served::{GainsAnswer, ServedPage};
 pub use server::source::{RingSource, serve_page};
 pub use server::{MAX_CLIENTS, PageServer};
 pub use snapshot::{

@@ -12,6 +12,7 @@ ghost use Rattle.status_page.specs.Responses.{
   is_read,
   misdirected_fields,
   misdirected_text,
+  policy_text,
   refused_fields,
   shown_fields,
 };
@@ -217,19 +218,19 @@ pub(crate) fn add_fields(
     ensures body { response.new.body ≡ response.old.body }
 {
     response.add_header(name, value)?;
-    add_no_store(response)?;
-    add_no_sniff(response)
+    add_guard(response)
 }
 
-/// Adds the header fields that every response has, to a response that has none.
+/// Adds the header fields that every response has, behind those that the response has already.
 fn add_guard(response: &mut Response) -> Result<(), AllocError>
-    requires none { fields_of response.old ≡ [] }
-    ensures fields { OnOk result (fields_of response.new ≡ guard_fields) }
+    ensures fields { OnOk result (fields_of response.new ≡ fields_of response.old ++ guard_fields) }
     ensures status { response.new.status ≡ response.old.status }
     ensures body { response.new.body ≡ response.old.body }
 {
     add_no_store(response)?;
-    add_no_sniff(response)
+    add_no_sniff(response)?;
+    add_no_frame(response)?;
+    add_policy(response)
 }
 
 /// Adds the header field that keeps caches from keeping a response.
@@ -256,6 +257,45 @@ fn add_no_sniff(response: &mut Response) -> Result<(), AllocError>
     response.add_header(
         HeaderName::from_static("x-content-type-options"),
         HeaderValue::from_static("nosniff"),
+    )
+}
+
+/// Adds the header field that keeps a browser from showing a response in a frame of another page.
+// Else a page of another site could lay the faders under something that an operator clicks. The policy says the same to
+// browsers that know it.
+fn add_no_frame(response: &mut Response) -> Result<(), AllocError>
+    ensures fields { OnOk result (fields_of response.new
+        ≡ fields_of response.old ++ (codes "x-frame-options", codes "DENY") ∷ []) }
+    ensures status { response.new.status ≡ response.old.status }
+    ensures body { response.new.body ≡ response.old.body }
+{
+    response.add_header(
+        HeaderName::from_static("x-frame-options"),
+        HeaderValue::from_static("DENY"),
+    )
+}
+
+/// Adds the header field with the policy of a response.
+fn add_policy(response: &mut Response) -> Result<(), AllocError>
+    ensures fields { OnOk result (fields_of response.new
+        ≡ fields_of response.old ++ (codes "content-security-policy", policy_text) ∷ []) }
+    ensures status { response.new.status ≡ response.old.status }
+    ensures body { response.new.body ≡ response.old.body }
+{
+    response.add_header(HeaderName::from_static("content-security-policy"), policy())
+}
+
+/// Returns what a browser may do with a response: it uses the style, the script and the icon that are in it, sends
+/// requests to its own origin alone, and shows it in no frame.
+// In a header, since a policy in the page itself cannot forbid frames. A function, so that a contract can name the text
+// by `policy_text`, which is unfolded here alone.
+#[tactic(auto, unfolding(crate::specs::Responses::policy_text))]
+fn policy() -> HeaderValue
+    ensures { result.bytes ≡ policy_text }
+{
+    HeaderValue::from_static(
+        "default-src 'none'; style-src 'unsafe-inline'; script-src 'unsafe-inline'; \
+        connect-src 'self'; img-src data:; frame-ancestors 'none'",
     )
 }
 

@@ -1,7 +1,9 @@
 //! The server of the page: its listener and its clients. `served` has the pages that it can serve, `client` a client's
-//! turn, `times` the limits on its requests, and `source` the snapshots and the loop of the page's thread.
+//! turn, `times` the limits on its requests, `unanswered` the reads of the gains among them, `descriptors` the limit on
+//! its socket, and `source` the snapshots and the loop of the page's thread.
 use crate::server::client::{Client, Progress};
-use crate::server::served::ServedPage;
+use crate::server::descriptors::DescriptorLimit;
+use crate::server::served::{GainsAnswer, ServedPage};
 use mio::net::{TcpListener, TcpStream};
 use mio::{Events, Interest, Poll, Token};
 use slab::Slab;
@@ -9,12 +11,15 @@ use std::alloc::Global;
 use std::hash::RandomState;
 use std::io;
 use std::net::{Ipv4Addr, Net, SocketAddr};
+use std::os::fd::AsRawFd;
 use std::time::Duration;
 
 pub(crate) mod client;
+mod descriptors;
 pub(crate) mod served;
 pub(crate) mod source;
 mod times;
+mod unanswered;
 
 /// The greatest number of clients at the same time. A further one takes the place of the client that has been longest
 /// without a complete request.
@@ -42,6 +47,9 @@ pub struct PageServer {
     events: Events,
     listener: TcpListener,
     clients: Slab<Client>,
+    /// The place of the client that has the first turn.
+    first: usize,
+    descriptors: DescriptorLimit,
 }
 
 impl PageServer {
@@ -65,6 +73,8 @@ impl PageServer {
             events: Events::with_capacity(alloc, MAX_EVENTS)?,
             listener,
             clients: Slab::with_capacity(alloc, MAX_CLIENTS)?,
+            first: 0,
+            descriptors: DescriptorLimit::read(),
         })
     }
 
@@ -100,19 +110,41 @@ impl PageServer {
     /// or whose request is not complete 10 s after its first octet, and accepts new ones. `now` is the reading of a
     /// monotonic clock. Call it after each `wait`.
     pub fn turn<P: ServedPage>(&mut self, page: &mut P, now: Duration) {
-        // New clients come last: they may get the places of clients that were just disconnected.
         self.note_ready();
-        for place in 0..MAX_CLIENTS {
-            self.turn_at(place, page, now);
-        }
+        self.run_turns(page, now);
+        // New clients come last: they may get the places of clients that were just disconnected.
         self.take_clients(page, now);
     }
 
-    /// Reads, answers and writes for the client at a place, and disconnects it if it is done.
-    fn turn_at<P: ServedPage>(&mut self, place: usize, page: &mut P, now: Duration) {
-        if is_done_at(&mut self.clients, place, page, now) {
+    /// Gives each client its turn, but those that may read the gains only until one of them has.
+    // A read of the gains waits for the run. So all other requests wait for at most one of them. The next turn begins
+    // behind the client that had it, so that each has its turn.
+    fn run_turns<P: ServedPage>(&mut self, page: &mut P, now: Duration) {
+        let first = self.first;
+        let mut may_read = true;
+        for number in 0..MAX_CLIENTS {
+            let place = first.wrapping_add(number) % MAX_CLIENTS;
+            if self.turn_at(place, page, now, may_read) == GainsAnswer::Read {
+                may_read = false;
+                self.first = place + 1;
+            }
+        }
+    }
+
+    /// Reads, answers and writes for the client at a place, and disconnects it if it is done. Returns the part of the
+    /// gains in the answer that ended its turn.
+    fn turn_at<P: ServedPage>(
+        &mut self,
+        place: usize,
+        page: &mut P,
+        now: Duration,
+        may_read: bool,
+    ) -> GainsAnswer {
+        let answered = run_turn_at(&mut self.clients, place, page, now, may_read);
+        if is_done_at(&self.clients, place, now) {
             remove_client(&mut self.clients, place);
         }
+        answered
     }
 
     /// Notes which clients are ready.
@@ -137,23 +169,34 @@ impl PageServer {
         true
     }
 
-    /// Accepts the clients that wait. If there is no place for one, the client that has been longest without a complete
-    /// request is disconnected.
-    // So no number of clients that hold their connections keeps others from the page.
+    /// Accepts the clients that wait, and disconnects those at once whose descriptor is one of the last below the
+    /// limit.
     fn take_clients<P: ServedPage>(&mut self, page: &P, now: Duration) {
         for _ in 0..MAX_AT_ONCE {
             let Ok((stream, _)) = self.listener.accept() else {
                 return;
             };
-            if self.clients.len() >= MAX_CLIENTS {
-                remove_longest_waiting(&mut self.clients);
+            if self.has_space(&stream) {
+                self.take(page, stream, now);
             }
-            self.take(page, stream, now);
         }
     }
 
-    /// Adds a client. It is disconnected if the system refuses to poll it or an allocation fails.
+    /// Returns true if a client's socket leaves enough descriptors to the run. Otherwise it is dropped, and so closed.
+    fn has_space(&self, stream: &TcpStream) -> bool {
+        match u64::try_from(stream.as_raw_fd()) {
+            Ok(descriptor) => self.descriptors.allows(descriptor),
+            Err(_) => false,
+        }
+    }
+
+    /// Adds a client. If there is no place for it, the one that has been longest without a complete request is
+    /// disconnected. The new one is disconnected if the system refuses to poll it or an allocation fails.
+    // So no number of clients that hold their connections keeps others from the page.
     fn take<P: ServedPage>(&mut self, page: &P, mut stream: TcpStream, now: Duration) {
+        if self.clients.len() >= MAX_CLIENTS {
+            remove_longest_waiting(&mut self.clients);
+        }
         if self.register_client(&mut stream) {
             let client = Client::new(stream, page.connection(self.alloc, self.keys), now);
             keep(&mut self.clients, client);
@@ -168,16 +211,26 @@ impl PageServer {
     }
 }
 
-/// Reads, answers and writes for the client at a place, and returns true if there is one that is done then.
+/// Reads, answers and writes for the client at a place, if there is one. Returns the part of the gains in the answer
+/// that ended its turn.
 // This function and those below only borrow the clients, so that few functions hold sockets.
-fn is_done_at<P: ServedPage>(
+fn run_turn_at<P: ServedPage>(
     clients: &mut Slab<Client>,
     place: usize,
     page: &mut P,
     now: Duration,
-) -> bool {
+    may_read: bool,
+) -> GainsAnswer {
     match clients.get_mut(place) {
-        Some(client) => client.run_turn(page, now),
+        Some(client) => client.run_turn(page, now, may_read),
+        None => GainsAnswer::Neither,
+    }
+}
+
+/// Returns true if there is a client at a place that is to be disconnected.
+fn is_done_at(clients: &Slab<Client>, place: usize, now: Duration) -> bool {
+    match clients.get(place) {
+        Some(client) => client.is_done(now),
         None => false,
     }
 }

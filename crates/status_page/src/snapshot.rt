@@ -55,6 +55,10 @@ pub struct SocketState {
     pub dropped: Option<u64>,
     /// The number of datagrams from other addresses than the path's source. `None` if the path takes any source.
     pub unexpected: Option<u64>,
+    /// The number of datagrams that were left out because they were too long.
+    pub too_long: u64,
+    /// The number of datagrams that were left out after a hold-up.
+    pub held_up: u64,
 }
 
 /// The state of a path. A number that the run does not know is `None`.
@@ -152,6 +156,8 @@ pub struct Snapshot {
     pub outputs: ArrayVec<ChannelState, 8>,
     /// For each of the two copies of the mix, the number of datagrams that were not sent.
     pub failed_sends: [u64; 2],
+    /// The number of datagrams of the mix that were left out of both copies because they were stale.
+    pub stale: u64,
     /// The state of what the run writes next to its mix: its record, its WAV file and its raw PCM.
     pub run_outputs: OutputStates,
 }
@@ -162,12 +168,14 @@ impl Snapshot {
         ensures streams { result.streams.items ≡ [] }
         ensures outputs { result.outputs.items ≡ [] }
         ensures sends { result.failed_sends ≡ 0 ∷ 0 ∷ [] }
+        ensures stale { result.stale ≡ 0 }
         ensures run_outputs { (kind : OutputKind) → state_of kind result.run_outputs ≡ Absent }
     {
         Snapshot {
             streams: ArrayVec::new(),
             outputs: ArrayVec::new(),
             failed_sends: [0; 2],
+            stale: 0,
             run_outputs: OutputStates::new(),
         }
     }

@@ -393,10 +393,14 @@ fn is_answered(
     assert!(rt; !sent.contains(TOKEN), "{shows}: {sent}");
 }
 
-/// Tests the answers of a new page to these cases, one after another.
+/// Tests the answers of a page to these cases, one after another.
 // The cases are an argument: a constant would be followed octet by octet through each step.
-fn are_answered(rt: &(impl Abort + RandomSource), alloc: Global, cases: &[Case]) {
-    let page = &mut page(rt, alloc);
+fn are_answered(
+    rt: &(impl Abort + RandomSource),
+    alloc: Global,
+    page: &mut ControlPage<MemoryRequester>,
+    cases: &[Case],
+) {
     for case in cases {
         is_answered(rt, alloc, page, case);
     }
@@ -405,7 +409,7 @@ fn are_answered(rt: &(impl Abort + RandomSource), alloc: Global, cases: &[Case])
 /// Reads, changes, hostile bodies, wrong tokens and wrong origins.
 #[test]
 fn gains_are_shown_and_changed(rt: HostRuntime) {
-    are_answered(&rt, rt.alloc(), &CASES);
+    are_answered(&rt, rt.alloc(), &mut page(&rt, rt.alloc()), &CASES);
 }
 
 /// A change, and the responses to it while it is taken, once 200 changes were requested in a second, and after the
@@ -454,19 +458,87 @@ fn changes_are_limited(rt: HostRuntime) {
         is_answered(&rt, rt.alloc(), page, &CHANGE);
     }
     is_answered(&rt, rt.alloc(), page, &CHANGE_TOO_MANY);
-    is_taken_at(&rt, rt.alloc(), page, Duration::from_secs(1));
+    is_taken_at(&rt, rt.alloc(), page, &CHANGE, Duration::from_secs(1));
     is_answered(&rt, rt.alloc(), page, &CHANGE);
 }
 
-/// Tests that a change is taken at a time.
+/// A read without the token.
+const READ: Case = Case {
+    shows: "a read without the token is answered",
+    line: "GET /gains",
+    fields: "",
+    body: "",
+    status: "200 OK",
+    answer: "\"gains\":[[1,2],[3,4]]}",
+};
+
+/// Reads after 20 others without the token in a second.
+const READS_TOO_MANY: [Case; 5] = [
+    Case {
+        shows: "the 21st read of a second without the token is refused",
+        line: "GET /gains",
+        fields: "",
+        body: "",
+        status: "429 Too Many Requests",
+        answer: "{\"fault\":\"rate\"}",
+    },
+    Case {
+        shows: "one at another time is too",
+        line: "HEAD /gains?at=960",
+        fields: "",
+        body: "",
+        status: "429 Too Many Requests",
+        answer: "\r\n\r\n",
+    },
+    Case {
+        shows: "one with another token is too",
+        line: "GET /gains",
+        fields: "Authorization: Bearer 0123456789abcdeg\r\n",
+        body: "",
+        status: "429 Too Many Requests",
+        answer: "{\"fault\":\"rate\"}",
+    },
+    Case {
+        shows: "one with the token is not",
+        line: "GET /gains",
+        fields: BEARER,
+        body: "",
+        status: "200 OK",
+        answer: "\"gains\":[[1,2],[3,4]]}",
+    },
+    Case {
+        shows: "a change is not",
+        line: "PUT /gains",
+        fields: BEARER,
+        body: "{\"at\":null,\"cell\":[0,0],\"gain\":1}",
+        status: "200 OK",
+        answer: "{\"at\":480}",
+    },
+];
+
+/// The 21st read of a second without the token is refused, and the next second takes reads again. Reads with the token
+/// count for nothing.
+#[test]
+fn reads_without_the_token_are_limited(rt: HostRuntime) {
+    let page = &mut page(&rt, rt.alloc());
+    for _ in 0..20 {
+        is_answered(&rt, rt.alloc(), page, &READS_TOO_MANY[3]);
+        is_answered(&rt, rt.alloc(), page, &READ);
+    }
+    are_answered(&rt, rt.alloc(), page, &READS_TOO_MANY);
+    is_taken_at(&rt, rt.alloc(), page, &READ, Duration::from_secs(1));
+}
+
+/// Tests that the response to a case at a time says that it succeeded.
 fn is_taken_at(
     rt: &(impl Abort + RandomSource),
     alloc: Global,
     page: &mut ControlPage<MemoryRequester>,
+    case: &Case,
     now: Duration,
 ) {
     let keys = RandomState::new(rt).expect(rt, "random octets");
-    let octets = request(rt, alloc, &CHANGE);
+    let octets = request(rt, alloc, case);
     let is_taken = is_taken(new_control_connection(alloc, keys), page, &octets, now);
     assert!(rt; is_taken);
 }

@@ -19,64 +19,89 @@ fn answers(
     sent_by(rt, alloc, new_connection(alloc, keys), page, octets)
 }
 
-/// Requests with short responses.
-const SHORT: [(&str, &str); 12] = [
+/// The header fields of every response.
+const GUARD: &str =
+    "cache-control: no-store\r\nx-content-type-options: nosniff\r\nx-frame-options: DENY\r\n\
+    content-security-policy: default-src 'none'; style-src 'unsafe-inline'; script-src 'unsafe-inline'; \
+    connect-src 'self'; img-src data:; frame-ancestors 'none'\r\n";
+
+/// Requests with short responses, each in parts.
+const SHORT: [(&str, &[&str]); 12] = [
     (
         "GET /nothing HTTP/1.1\r\nHost: localhost\r\n\r\n",
-        "HTTP/1.1 404 Not Found\r\ncache-control: no-store\r\nx-content-type-options: nosniff\r\n\
-        content-length: 0\r\n\r\n",
+        &[
+            "HTTP/1.1 404 Not Found\r\n",
+            GUARD,
+            "content-length: 0\r\n\r\n",
+        ],
     ),
     (
         "POST / HTTP/1.1\r\nHost: localhost\r\nContent-Length: 2\r\n\r\nhi",
-        "HTTP/1.1 405 Method Not Allowed\r\nallow: GET, HEAD\r\ncache-control: no-store\r\n\
-        x-content-type-options: nosniff\r\ncontent-length: 0\r\n\r\n",
+        &[
+            "HTTP/1.1 405 Method Not Allowed\r\nallow: GET, HEAD\r\n",
+            GUARD,
+            "content-length: 0\r\n\r\n",
+        ],
     ),
     (
         "DELETE /metrics?x HTTP/1.1\r\nHost: localhost\r\n\r\nGET /favicon.ico HTTP/1.1\r\nHost: localhost\r\n\r\n",
-        "HTTP/1.1 405 Method Not Allowed\r\nallow: GET, HEAD\r\ncache-control: no-store\r\n\
-        x-content-type-options: nosniff\r\ncontent-length: 0\r\n\r\n\
-        HTTP/1.1 404 Not Found\r\ncache-control: no-store\r\nx-content-type-options: nosniff\r\n\
-        content-length: 0\r\n\r\n",
+        &[
+            "HTTP/1.1 405 Method Not Allowed\r\nallow: GET, HEAD\r\n",
+            GUARD,
+            "content-length: 0\r\n\r\nHTTP/1.1 404 Not Found\r\n",
+            GUARD,
+            "content-length: 0\r\n\r\n",
+        ],
     ),
     (
         "HEAD /state HTTP/1.0\r\nHost: 127.0.0.1:8080\r\n\r\n",
-        "HTTP/1.0 200 OK\r\ncontent-type: application/json\r\ncache-control: no-store\r\n\
-        x-content-type-options: nosniff\r\ncontent-length: 1134\r\nconnection: close\r\n\r\n",
+        &[
+            "HTTP/1.0 200 OK\r\ncontent-type: application/json\r\n",
+            GUARD,
+            "content-length: 1203\r\nconnection: close\r\n\r\n",
+        ],
     ),
     (
         "PUT /state HTTP/1.1\r\nHost: localhost\r\nContent-Length: 8193\r\n\r\n",
-        "HTTP/1.1 413 Payload Too Large\r\nconnection: close\r\ncontent-length: 0\r\n\r\n",
+        &["HTTP/1.1 413 Payload Too Large\r\nconnection: close\r\ncontent-length: 0\r\n\r\n"],
     ),
     (
         "GET / HTTP/1.1\r\n\r\n",
-        "HTTP/1.1 400 Bad Request\r\nconnection: close\r\ncontent-length: 0\r\n\r\n",
+        &["HTTP/1.1 400 Bad Request\r\nconnection: close\r\ncontent-length: 0\r\n\r\n"],
     ),
     (
         "\u{16}\u{3}\u{1}",
-        "HTTP/1.1 400 Bad Request\r\nconnection: close\r\ncontent-length: 0\r\n\r\n",
+        &["HTTP/1.1 400 Bad Request\r\nconnection: close\r\ncontent-length: 0\r\n\r\n"],
     ),
     (
         "GET / HTTP/1.1\r\nHost: localhost\r\nContent-Length: 5\r\n\r\n",
-        "HTTP/1.1 400 Bad Request\r\nconnection: close\r\ncontent-length: 0\r\n\r\n",
+        &["HTTP/1.1 400 Bad Request\r\nconnection: close\r\ncontent-length: 0\r\n\r\n"],
     ),
     (
         "GET /state HTTP/1.1\r\nHost: evil.example:8080\r\n\r\n",
-        "HTTP/1.1 421 Misdirected Request\r\ncontent-type: text/plain; charset=utf-8\r\n\
-        cache-control: no-store\r\nx-content-type-options: nosniff\r\ncontent-length: 67\r\n\r\n\
-        The page answers only to the hosts 127.0.0.1, localhost and [::1].\n",
+        &[
+            "HTTP/1.1 421 Misdirected Request\r\ncontent-type: text/plain; charset=utf-8\r\n",
+            GUARD,
+            "content-length: 67\r\n\r\nThe page answers only to the hosts 127.0.0.1, localhost and [::1].\n",
+        ],
     ),
     (
         "GET http://evil.example/state HTTP/1.1\r\nHost: localhost\r\n\r\n",
-        "HTTP/1.1 421 Misdirected Request\r\ncontent-type: text/plain; charset=utf-8\r\n\
-        cache-control: no-store\r\nx-content-type-options: nosniff\r\ncontent-length: 67\r\n\r\n\
-        The page answers only to the hosts 127.0.0.1, localhost and [::1].\n",
+        &[
+            "HTTP/1.1 421 Misdirected Request\r\ncontent-type: text/plain; charset=utf-8\r\n",
+            GUARD,
+            "content-length: 67\r\n\r\nThe page answers only to the hosts 127.0.0.1, localhost and [::1].\n",
+        ],
     ),
     (
         "GET http://[::1]:9000/nothing HTTP/1.1\r\nHost: evil.example\r\n\r\n",
-        "HTTP/1.1 404 Not Found\r\ncache-control: no-store\r\nx-content-type-options: nosniff\r\n\
-        content-length: 0\r\n\r\n",
+        &[
+            "HTTP/1.1 404 Not Found\r\n",
+            GUARD,
+            "content-length: 0\r\n\r\n",
+        ],
     ),
-    ("", ""),
+    ("", &[]),
 ];
 
 /// Unknown paths, other hosts, methods that don't read, heads alone, bodies that are too long or cut, and text that is
@@ -95,19 +120,31 @@ fn is_answered(
     alloc: Global,
     page: &mut Page,
     request: &str,
-    answer: &str,
+    answer: &[&str],
 ) {
     let sent = answers(rt, alloc, page, request.as_bytes());
-    assert!(rt; sent.as_slice() == answer.as_bytes(), "{request}");
+    let rest = behind(&sent, answer);
+    assert!(rt; rest == Some(b"".as_slice()), "{request}");
+}
+
+/// Returns what follows these parts in octets that begin with them. Returns `None` if the octets do not.
+fn behind<'a>(octets: &'a [u8], parts: &[&str]) -> Option<&'a [u8]> {
+    let mut rest = octets;
+    for part in parts {
+        rest = rest.strip_prefix(part.as_bytes())?;
+    }
+    Some(rest)
 }
 
 /// The octets that are sent to a client that requests the state and then the page, up to the page's length.
-const KEPT: [&str; 3] = [
-    "HTTP/1.1 200 OK\r\ncontent-type: application/json\r\ncache-control: no-store\r\n\
-    x-content-type-options: nosniff\r\ncontent-length: 1134\r\n\r\n",
+const KEPT: [&str; 7] = [
+    "HTTP/1.1 200 OK\r\ncontent-type: application/json\r\n",
+    GUARD,
+    "content-length: 1203\r\n\r\n",
     STATE,
-    "HTTP/1.1 200 OK\r\ncontent-type: text/html; charset=utf-8\r\ncache-control: no-store\r\n\
-    x-content-type-options: nosniff\r\ncontent-length: ",
+    "HTTP/1.1 200 OK\r\ncontent-type: text/html; charset=utf-8\r\n",
+    GUARD,
+    "content-length: ",
 ];
 
 /// One request after another on one connection: each has its response whole, with the length of its body.
@@ -121,10 +158,7 @@ fn a_connection_is_kept(rt: HostRuntime) {
 
 /// Tests that these octets are those of `KEPT`, then the page's length, and the page.
 fn has_kept_parts(rt: &impl Abort, sent: &[u8], html: &str) {
-    let mut rest = sent;
-    for part in &KEPT {
-        rest = rest.strip_prefix(part.as_bytes()).expect(rt, "a part");
-    }
+    let rest = behind(sent, &KEPT).expect(rt, "the parts");
     assert!(rt; rest.ends_with(html.as_bytes()));
 }
 

@@ -47,6 +47,8 @@ fn heard_path() -> PathState {
             has_ended: true,
             dropped: Some(9),
             unexpected: None,
+            too_long: 26,
+            held_up: 27,
         }),
     }
 }
@@ -96,13 +98,14 @@ fn run_outputs() -> OutputStates {
     states
 }
 
-/// Returns a snapshot of that stream, of two output channels, of failed sends, and of the outputs of a run.
+/// Returns a snapshot of that stream, of two output channels, of failed and stale sends, and of the outputs of a run.
 pub(super) fn snapshot() -> Snapshot {
     let mut snapshot = Snapshot::new();
     let _ = snapshot.streams.try_push(stream());
     add_output(&mut snapshot, 8_388_608);
     add_output(&mut snapshot, 0);
     snapshot.failed_sends = [11, 13];
+    snapshot.stale = 10;
     snapshot.run_outputs = run_outputs();
     snapshot
 }

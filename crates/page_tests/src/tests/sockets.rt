@@ -12,7 +12,9 @@ use std::time::Duration;
 const REQUEST: &[u8] = b"GET /nothing HTTP/1.1\r\nHost: localhost\r\n\r\n";
 
 const ANSWER: &[u8] = b"HTTP/1.1 404 Not Found\r\ncache-control: no-store\r\n\
-    x-content-type-options: nosniff\r\ncontent-length: 0\r\n\r\n";
+    x-content-type-options: nosniff\r\nx-frame-options: DENY\r\n\
+    content-security-policy: default-src 'none'; style-src 'unsafe-inline'; script-src 'unsafe-inline'; \
+    connect-src 'self'; img-src data:; frame-ancestors 'none'\r\ncontent-length: 0\r\n\r\n";
 
 /// The outcome of a client: it was answered, it was disconnected, or it waits.
 enum Fate {
@@ -23,7 +25,7 @@ enum Fate {
 
 /// Returns the outcome of a client.
 fn fate_of(client: &mut TcpStream) -> Fate {
-    let mut buffer = [0; 200];
+    let mut buffer = [0; 400];
     match client.read(&mut buffer) {
         Ok(0) => Fate::LetGo,
         Ok(count) if &buffer[..count] == ANSWER => Fate::Answered,

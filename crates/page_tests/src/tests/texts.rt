@@ -10,20 +10,20 @@ pub(super) const STATE: &str =
     \"arrived\":0,\"taken\":0,\"double\":0,\"unlike\":0,\"off_grid\":0,\"late\":0,\"ahead\":0,\"wrong_source\":0,\
     \"restarts\":0,\"latency\":240,\"seconds_left\":19,\"paths\":[{\"datagrams\":2,\"first\":3,\"packets\":0,\"lost\":4,\
     \"double\":5,\"unlike\":6,\"late\":7,\"ahead\":15,\"repeated\":16,\"bad\":0,\"wrong_type\":0,\"wrong_length\":0,\"full\":2,\"spare_least\":12,\
-    \"spare_median\":30,\"spare_greatest\":36,\"drift_ppm\":-18,\"astray\":1,\"repeating\":0,\"unexpected\":null,\"socket_faults\":8,\"socket_ended\":1,\"socket_dropped\":9},{\"datagrams\":0,\"first\":0,\"packets\":null,\"lost\":null,\"double\":null,\"unlike\":null,\
+    \"spare_median\":30,\"spare_greatest\":36,\"drift_ppm\":-18,\"astray\":1,\"repeating\":0,\"unexpected\":null,\"socket_faults\":8,\"socket_ended\":1,\"socket_dropped\":9,\"too_long\":26,\"held_up\":27},{\"datagrams\":0,\"first\":0,\"packets\":null,\"lost\":null,\"double\":null,\"unlike\":null,\
     \"late\":null,\"ahead\":null,\"repeated\":null,\"bad\":null,\"wrong_type\":null,\"wrong_length\":null,\"full\":null,\"spare_least\":null,\
-    \"spare_median\":null,\"spare_greatest\":null,\"drift_ppm\":null,\"astray\":null,\"repeating\":null,\"unexpected\":null,\"socket_faults\":null,\"socket_ended\":null,\"socket_dropped\":null}]}],\
+    \"spare_median\":null,\"spare_greatest\":null,\"drift_ppm\":null,\"astray\":null,\"repeating\":null,\"unexpected\":null,\"socket_faults\":null,\"socket_ended\":null,\"socket_dropped\":null,\"too_long\":null,\"held_up\":null}]}],\
     \"outputs\":[{\"peak\":8388608,\"saturated\":2},{\"peak\":0,\"saturated\":2}],\
-    \"failed_sends\":[11,13],\"record\":{\"state\":\"ended\",\"datagrams\":14},\
+    \"failed_sends\":[11,13],\"stale\":10,\"record\":{\"state\":\"ended\",\"datagrams\":14},\
     \"wav\":{\"state\":\"writing\",\"blocks\":20},\"pcm\":{\"state\":\"waiting\",\"blocks\":21,\"left_out\":22}}";
 
-/// The JSON of a snapshot without streams, outputs, failed sends, a record, a WAV file and raw PCM.
-const EMPTY: &str = "{\"streams\":[],\"outputs\":[],\"failed_sends\":[0,0],\
+/// The JSON of a snapshot without streams, outputs, failed or stale sends, a record, a WAV file and raw PCM.
+const EMPTY: &str = "{\"streams\":[],\"outputs\":[],\"failed_sends\":[0,0],\"stale\":0,\
     \"record\":{\"state\":\"none\",\"datagrams\":null},\"wav\":{\"state\":\"none\",\"blocks\":null},\
     \"pcm\":{\"state\":\"none\",\"blocks\":null,\"left_out\":null}}";
 
 /// Parts of its metrics.
-const METRICS: [&str; 16] = [
+const METRICS: [&str; 18] = [
     "# HELP darbexum_stream_state Where the stream stands: 1 for the state that it is in, and 0 for the others.\n\
     # TYPE darbexum_stream_state gauge\n\
     darbexum_stream_state{stream=\"0\",name=\"L\\\"\\\\\\n<b>\",state=\"no_packet\"} 0\n\
@@ -46,8 +46,15 @@ const METRICS: [&str; 16] = [
     darbexum_path_socket_ended{stream=\"0\",name=\"L\\\"\\\\\\n<b>\",path=\"a\"} 1\n# HELP ",
     "# TYPE darbexum_path_socket_dropped_total counter\n\
     darbexum_path_socket_dropped_total{stream=\"0\",name=\"L\\\"\\\\\\n<b>\",path=\"a\"} 9\n# HELP ",
+    "# TYPE darbexum_path_too_long_total counter\n\
+    darbexum_path_too_long_total{stream=\"0\",name=\"L\\\"\\\\\\n<b>\",path=\"a\"} 26\n# HELP ",
+    "# TYPE darbexum_path_held_up_total counter\n\
+    darbexum_path_held_up_total{stream=\"0\",name=\"L\\\"\\\\\\n<b>\",path=\"a\"} 27\n# HELP ",
     "# TYPE darbexum_sends_failed_total counter\n\
     darbexum_sends_failed_total{copy=\"a\"} 11\ndarbexum_sends_failed_total{copy=\"b\"} 13\n\
+    # HELP darbexum_sends_stale_total Datagrams of the mix that were sent to neither address, \
+    because they were useless to every receiver.\n\
+    # TYPE darbexum_sends_stale_total counter\ndarbexum_sends_stale_total 10\n\
     # HELP darbexum_record_state The state of the record: 1 for the state that it is in, and 0 for the others.\n\
     # TYPE darbexum_record_state gauge\n\
     darbexum_record_state{state=\"none\"} 0\ndarbexum_record_state{state=\"writing\"} 0\n\

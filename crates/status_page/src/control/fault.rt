@@ -10,7 +10,7 @@ use http::StatusCode;
 pub(crate) enum ControlFault {
     /// The request comes from a page of another origin.
     Origin,
-    /// 200 changes were requested in this second already.
+    /// 200 changes were requested in this second already, or 20 reads without the token.
     Rate,
     /// The query is not `at=T` with an integer T.
     Query,

@@ -10,9 +10,11 @@ ghost use Rattle.status_page.specs.Verdicts.{
   is_origin_of,
   is_own_origin,
   verdict_of,
+  verdict_on_change,
   verdict_on_gains,
   verdict_on_page,
   verdict_on_path,
+  verdict_on_read,
 };
 ghost use Rattle.status_page.specs.Responses.{resource_of};
 
@@ -40,17 +42,29 @@ pub(crate) enum Verdict {
     WrongGainsMethod,
     /// It is a change without the token, or with another one.
     WithoutToken,
+    /// It is a read of the gains without the token, of which there were as many in this second as are allowed.
+    TooManyReads,
     /// The resource is shown.
     Show(Resource),
-    /// The gains are shown.
+    /// The gains are shown to a client that has the token.
     ShowGains,
+    /// The gains are shown to a client without the token, or with another one, and the read is counted.
+    ShowGainsCounted,
     /// It is a change of the gains.
     ChangeGains,
 }
 
-/// Returns the verdict on a request to the page of a run whose changes need a token. `is_free` is true if a further
-/// change is allowed at this time.
-pub(crate) fn verdict_of(request: &Request<Bytes>, token: &Token, is_free: bool) -> Verdict
+/// Whether further requests are allowed at a time, by their rates.
+#[derive(Clone, Copy, PartialEq, Eq)]
+pub(crate) struct IsFree {
+    /// Whether a further change is allowed.
+    pub(crate) changes: bool,
+    /// Whether a further read without the token is allowed.
+    pub(crate) reads: bool,
+}
+
+/// Returns the verdict on a request to the page of a run whose changes need a token.
+pub(crate) fn verdict_of(request: &Request<Bytes>, token: &Token, is_free: IsFree) -> Verdict
     ensures { result ≡ verdict_of token.now is_free (head_of request.now) }
 {
     if !is_addressed_here(request) {
@@ -63,7 +77,7 @@ pub(crate) fn verdict_of(request: &Request<Bytes>, token: &Token, is_free: bool)
 }
 
 /// Returns the verdict on a request from an allowed origin.
-fn verdict_on_path(request: &Request<Bytes>, token: &Token, is_free: bool) -> Verdict
+fn verdict_on_path(request: &Request<Bytes>, token: &Token, is_free: IsFree) -> Verdict
     ensures { result ≡ verdict_on_path token.now is_free (head_of request.now) }
 {
     if request.uri().path() == "/gains" {
@@ -77,15 +91,35 @@ fn verdict_on_path(request: &Request<Bytes>, token: &Token, is_free: bool) -> Ve
 }
 
 /// Returns the verdict on a request to the gains.
-fn verdict_on_gains(method: &Method, is_allowed: bool, is_free: bool) -> Verdict
+fn verdict_on_gains(method: &Method, is_allowed: bool, is_free: IsFree) -> Verdict
     ensures { result ≡ verdict_on_gains method.now is_allowed is_free }
 {
     if is_read(method) {
-        return Verdict::ShowGains;
+        return verdict_on_read(is_allowed, is_free.reads);
     }
     if method.as_str() != "PUT" {
         return Verdict::WrongGainsMethod;
     }
+    verdict_on_change(is_allowed, is_free.changes)
+}
+
+/// Returns the verdict on a read of the gains.
+fn verdict_on_read(is_allowed: bool, is_free: bool) -> Verdict
+    ensures { result ≡ verdict_on_read is_allowed is_free }
+{
+    if is_allowed {
+        return Verdict::ShowGains;
+    }
+    if !is_free {
+        return Verdict::TooManyReads;
+    }
+    Verdict::ShowGainsCounted
+}
+
+/// Returns the verdict on a change of the gains.
+fn verdict_on_change(is_allowed: bool, is_free: bool) -> Verdict
+    ensures { result ≡ verdict_on_change is_allowed is_free }
+{
     if !is_allowed {
         return Verdict::WithoutToken;
     }

@@ -40,10 +40,12 @@ pub(crate) enum PathField {
     SocketFaults,
     SocketEnded,
     SocketDropped,
+    TooLong,
+    HeldUp,
 }
 
 /// The numbers of a path, in the order in which they are shown.
-pub(crate) const PATH_FIELDS: [PathField; 23] = [
+pub(crate) const PATH_FIELDS: [PathField; 25] = [
     PathField::Datagrams,
     PathField::First,
     PathField::Sent,
@@ -67,6 +69,8 @@ pub(crate) const PATH_FIELDS: [PathField; 23] = [
     PathField::SocketFaults,
     PathField::SocketEnded,
     PathField::SocketDropped,
+    PathField::TooLong,
+    PathField::HeldUp,
 ];
 
 impl PathField {
@@ -98,6 +102,8 @@ impl PathField {
             PathField::SocketFaults => "socket_faults",
             PathField::SocketEnded => "socket_ended",
             PathField::SocketDropped => "socket_dropped",
+            PathField::TooLong => "too_long",
+            PathField::HeldUp => "held_up",
         }
     }
 
@@ -157,6 +163,10 @@ impl PathField {
                 "1 once the path was given up because its socket failed again and again, and 0 before.",
             PathField::SocketDropped =>
                 "Datagrams that the system dropped because the buffer of the path's socket was full.",
+            PathField::TooLong =>
+                "Datagrams that were left out because they were longer than 2048 octets.",
+            PathField::HeldUp =>
+                "Datagrams that were left out after a hold-up, until the mix had caught up.",
         }
     }
 
@@ -201,6 +211,8 @@ impl PathField {
             PathField::SocketFaults => path.socket.map(|socket| socket.faults),
             PathField::SocketEnded => path.socket.map(|socket| flag(socket.has_ended)),
             PathField::SocketDropped => path.socket.and_then(|socket| socket.dropped),
+            PathField::TooLong => path.socket.map(|socket| socket.too_long),
+            PathField::HeldUp => path.socket.map(|socket| socket.held_up),
         }
     }
 }

@@ -28,7 +28,8 @@ pub const CONTROLS: &str = r##"<style>
 <script>
 "use strict";
 (() => {
-const UNITY = 65536, SILENT = -601, MOST = 240, POLL_EVERY = 200, OWN_FOR = 400, OPEN_UP_TO = 64, SECOND = 48000;
+const UNITY = 65536, SILENT = -601, MOST = 240, OWN_FOR = 400, OPEN_UP_TO = 64, SECOND = 48000;
+const POLL_EVERY = 200, POLL_WITHOUT_TOKEN = 1000;
 const FAULTS = {
   token: "\u2715 this is not the run's token",
   origin: "\u2715 this page is not the run's own",
@@ -37,7 +38,7 @@ const FAULTS = {
   "too many": "\u25b2 64 changes are planned already",
 };
 const [field, told, planned, banks] = ["token", "told", "planned", "banks"].map(name => document.getElementById(name));
-let faders = [], built = "";
+let faders = [], built = "", refused = "";
 
 document.getElementById("streams").before(document.getElementById("control"));
 
@@ -53,6 +54,10 @@ function tell(text, name) {
   show(told, text);
   style(told, name);
 }
+
+// the header field with the token, if one is typed that a header field can carry
+const hasToken = () => /^[!-~]+$/.test(field.value);
+const bearer = () => hasToken() ? { Authorization: "Bearer " + field.value } : {};
 
 field.value = sessionStorage.getItem("token") || "";
 field.addEventListener("input", keep);
@@ -152,16 +157,17 @@ async function send(fader) {
 }
 
 async function put(fader) {
-  const { output, input, gain } = fader;
+  const { output, input, gain } = fader, token = field.value;
   try {
     const answer = await fetch("/gains", {
       method: "PUT",
       cache: "no-store",
-      headers: { Authorization: "Bearer " + field.value, "Content-Type": "application/json" },
+      headers: { ...bearer(), "Content-Type": "application/json" },
       body: JSON.stringify({ at: null, cell: [output, input], gain }),
     });
+    const { fault } = answer.ok ? {} : await answer.json();
+    refused = fault === "token" ? token : "";
     if (answer.ok) return tell("", "soft");
-    const { fault } = await answer.json();
     tell(FAULTS[fault] || "\u2715 refused: " + fault, "bad word");
   } catch (fault) {
     console.error(fault);
@@ -195,15 +201,16 @@ function take(reply) {
   plan(reply);
 }
 
+// an answer that has no gains, as after too many reads without the token, leaves those that are shown
 async function poll() {
   for (;;) {
     try {
-      const answer = document.hidden ? null : await fetch("/gains", { cache: "no-store" });
+      const answer = document.hidden ? null : await fetch("/gains", { cache: "no-store", headers: bearer() });
       if (answer && answer.ok) take(await answer.json());
     } catch (fault) {
       console.error(fault);
     }
-    await rest(POLL_EVERY);
+    await rest(hasToken() && field.value !== refused ? POLL_EVERY : POLL_WITHOUT_TOKEN);
   }
 }
 

@@ -8,8 +8,6 @@ pub const HTML: &str = r##"<!doctype html>
 <head>
 <meta charset="utf-8">
 <meta name="viewport" content="width=device-width, initial-scale=1">
-<meta http-equiv="Content-Security-Policy"
- content="default-src 'none'; style-src 'unsafe-inline'; script-src 'unsafe-inline'; connect-src 'self'; img-src data:">
 <link rel="icon" href="data:,">
 <title>Darbexum</title>
 <style>
@@ -32,7 +30,7 @@ body {
   font-variant-numeric: tabular-nums;
 }
 h1, h2 { font-size: 1em; margin: 0; display: inline; }
-header { display: flex; gap: 6px; align-items: stretch; margin-bottom: 6px; }
+header { display: flex; flex-wrap: wrap; gap: 6px; align-items: stretch; margin-bottom: 6px; }
 #about { padding: 3px 6px 3px 0; min-width: 11em; }
 #about h1 { font-size: 1.25em; }
 #link { display: block; color: var(--soft); }
@@ -51,8 +49,8 @@ header { display: flex; gap: 6px; align-items: stretch; margin-bottom: 6px; }
 .meter { position: relative; height: 7px; background: var(--track); border-radius: 2px; overflow: hidden; }
 .meter i { position: absolute; inset: 0 auto 0 0; width: 0; background: var(--bar); }
 .meter b { position: absolute; top: 0; bottom: 0; width: 2px; background: var(--text); }
-#streams { display: grid; grid-template-columns: repeat(auto-fit, minmax(27.5em, 1fr)); gap: 6px; }
-.stream { background: var(--card); border: 1px solid var(--line); border-radius: 4px; padding: 3px 6px; min-width: 0; }
+#streams { display: grid; grid-template-columns: repeat(auto-fit, minmax(min(27.5em, 100%), 1fr)); gap: 6px; }
+.stream { container-type: inline-size; background: var(--card); border: 1px solid var(--line); border-radius: 4px; padding: 3px 6px; min-width: 0; }
 .stream.lost { border-color: var(--bad); }
 .top { display: flex; gap: .7em; align-items: baseline; white-space: nowrap; }
 .top h2 { overflow: hidden; text-overflow: ellipsis; flex: 0 1 auto; min-width: 3em; }
@@ -64,12 +62,14 @@ th:first-child { width: 8%; } th:nth-child(4) { width: 10%; } th:nth-child(6) { 
 th { color: var(--soft); font-weight: 400; text-align: right; padding: 0 2px; vertical-align: bottom; line-height: 1.15; }
 td { text-align: right; padding: 0 2px; white-space: nowrap; }
 th:first-child, td:first-child { text-align: left; padding-left: 0; }
-th:last-child, td:last-child { padding-right: 0; text-align: left; padding-left: 5px; }
+th:last-child, td:last-child { padding-right: 0; text-align: left; padding-left: 5px; white-space: normal; }
 tr.silent td { background: var(--bad-ground); }
 tr.silent td:first-child { font-weight: 700; }
 .spare { display: inline-block; position: relative; width: 2.5em; height: .75em; background: var(--track); border-radius: 2px; margin-right: 4px; overflow: hidden; }
 .spare i { position: absolute; inset: 0 auto 0 0; background: var(--bar); opacity: .55; }
 .spare b { position: absolute; inset: 0 auto 0 0; background: var(--bar); }
+@container (max-width: 33em) { .spare { display: none !important; } }
+@media (max-width: 480px) { :root { --size: 12px !important; } }
 .note { margin: 1px 0 0; color: var(--soft); overflow: hidden; text-overflow: ellipsis; white-space: nowrap; min-height: 1.3em; }
 .note.warn { color: var(--warn); } .note.bad { color: var(--bad); }
 </style>
@@ -276,7 +276,8 @@ function drawRun(state, old) {
   show(record, kind === "none" ? "no record" : (closed ? "\u2715 record ended at " : "\u25cf record ") + exact(datagrams));
   style(record, closed ? "bad word" : kind === "none" ? "soft" : "good");
   const failed = state.failed_sends, all = failed[0] + failed[1];
-  show(sends, all > 0 ? "\u25b2 sends failed: a " + exact(failed[0]) + ", b " + exact(failed[1]) : "no send failed");
+  const stale = state.stale > 0 ? ", stale " + exact(state.stale) : "";
+  show(sends, all > 0 ? "\u25b2 sends failed: a " + exact(failed[0]) + ", b " + exact(failed[1]) + stale : "no send failed");
   style(sends, all > old.failed_sends[0] + old.failed_sends[1] ? "bad word" : all > 0 ? "warn" : "soft");
 }
 
@@ -361,13 +362,15 @@ function drawAstray(line, stream, old) {
   set(line, "display", words.length > 0 ? "block" : "none");
 }
 
-// the faults of a stream's sockets, and what the system dropped there; no line without any
+// the faults of a stream's sockets, and what was dropped or left out there; no line without any
 function drawSockets(line, stream) {
   const words = [], unknown = [];
   stream.paths.forEach((path, n) => {
     if (path.socket_ended > 0) words.push(LETTERS[n] + " given up");
     if (path.socket_faults > 0) words.push(LETTERS[n] + " faults " + count(path.socket_faults));
     if (path.socket_dropped > 0) words.push(LETTERS[n] + " dropped " + count(path.socket_dropped));
+    if (path.too_long > 0) words.push(LETTERS[n] + " too long " + count(path.too_long));
+    if (path.held_up > 0) words.push(LETTERS[n] + " held up " + count(path.held_up));
     if (path.socket_dropped === null) unknown.push(LETTERS[n]);
   });
   const bad = words.length > 0;

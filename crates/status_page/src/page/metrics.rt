@@ -24,6 +24,7 @@ ghost use Rattle.status_page.specs.Metrics.{
   reader_states,
   run_output_families,
   run_output_family,
+  stale_text,
   written_family,
   metrics_text,
   state_header,
@@ -33,7 +34,6 @@ use crate::condition::CONDITIONS;
 use crate::fields::MetricKind;
 use crate::fields::output::{OUTPUT_FIELDS, OutputField};
 use crate::fields::path::{PATH_FIELDS, PathField};
-use crate::fields::run_output::{left_out_help, output_group, state_help, written_help};
 use crate::fields::stream::StreamField;
 use crate::page::samples::{
     push_condition_sample, push_count_sample, push_failed_sample, push_output_sample,
@@ -61,6 +61,7 @@ pub fn metrics_text(alloc: Global, snapshot: &Snapshot) -> Result<Vec<u8>, Alloc
         snapshot.failed_sends[0],
         snapshot.failed_sends[1],
     )?;
+    push_stale(&mut text, snapshot.stale)?;
     push_run_output_families(&mut text, &OUTPUT_KINDS, &snapshot.run_outputs)?;
     Ok(text)
 }
@@ -266,6 +267,18 @@ fn push_failed_samples(text: &mut Vec<u8>, failed_a: u64, failed_b: u64) -> Resu
     push_failed_sample(text, "b", failed_b)
 }
 
+/// The description of the metric of the datagrams that were stale.
+const STALE_HELP: &str =
+    "Datagrams of the mix that were sent to neither address, because they were useless to every receiver.";
+
+/// Appends the metric of the datagrams of the mix that were left out because they were stale.
+#[tactic(auto, unfolding(crate::specs::Metrics::stale_text))]
+fn push_stale(text: &mut Vec<u8>, stale: u64) -> Result<(), AllocError>
+    ensures { OnOk result (text.new.items ≡ text.old.items ++ stale_text stale) }
+{
+    push_count_family(text, "sends_", "stale", STALE_HELP, Some(stale))
+}
+
 /// Appends the metrics of the outputs of these kinds.
 #[tactic(auto, unfolding(crate::specs::Metrics::run_output_families))]
 fn push_run_output_families(
@@ -299,8 +312,8 @@ fn push_run_output_family(
 fn push_output_state(text: &mut Vec<u8>, kind: OutputKind, state: &str) -> Result<(), AllocError>
     ensures { OnOk result (text.new.items ≡ text.old.items ++ output_state_family kind state.now) }
 {
-    let group = output_group(kind);
-    push_header(text, group, "state", MetricKind::Gauge, state_help(kind))?;
+    let group = kind.metric_group();
+    push_header(text, group, "state", MetricKind::Gauge, kind.state_help())?;
     push_state_samples(text, kind.has_reader(), group, state)
 }
 
@@ -329,9 +342,9 @@ fn push_written(
 {
     push_count_family(
         text,
-        output_group(kind),
+        kind.metric_group(),
         kind.unit(),
-        written_help(kind),
+        kind.written_help(),
         written,
     )
 }
@@ -363,9 +376,9 @@ fn push_left_out(
 {
     push_count_family(
         text,
-        output_group(kind),
+        kind.metric_group(),
         "left_out",
-        left_out_help(kind),
+        kind.left_out_help(),
         left_out,
     )
 }

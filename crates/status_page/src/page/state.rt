@@ -20,6 +20,7 @@ ghost use Rattle.status_page.specs.State.{
   output_tokens,
   outputs_tokens,
   failed_tokens,
+  stale_tokens,
   count_member,
   left_out_members,
   output_count_members,
@@ -51,6 +52,7 @@ pub fn state_json(alloc: Global, snapshot: &Snapshot) -> Result<Vec<u8>, AllocEr
     write_streams(&mut writer, snapshot.streams.as_slice())?;
     write_outputs(&mut writer, snapshot.outputs.as_slice())?;
     write_failed_sends(&mut writer, snapshot.failed_sends)?;
+    write_stale(&mut writer, snapshot.stale)?;
     write_run_outputs(&mut writer, &OUTPUT_KINDS, &snapshot.run_outputs)?;
     writer.end_object()?;
     Ok(writer.into_inner())
@@ -288,6 +290,15 @@ fn write_failed_sends(writer: &mut Writer, failed: [u64; 2]) -> Result<(), Alloc
     writer.u64(failed[0])?;
     writer.u64(failed[1])?;
     writer.end_array()
+}
+
+/// Writes the member with the number of datagrams of the mix that were left out because they were stale.
+fn write_stale(writer: &mut Writer, stale: u64) -> Result<(), AllocError>
+    ensures tokens { OnOk result (writer.new.tokens ≡ writer.old.tokens ++ stale_tokens stale) }
+    ensures before { OnOk result (writer.new.before ≡ writer.old.before) }
+{
+    writer.key("stale")?;
+    writer.u64(stale)
 }
 
 /// Writes the members with the outputs of these kinds.

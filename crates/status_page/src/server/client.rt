@@ -4,14 +4,15 @@ ghost use Rattle.http_server.specs.Connection.{config_of, history};
 ghost use Rattle.http_server.specs.History.{new_history};
 ghost use Rattle.status_page.specs.Responses.{IsGuarded, IsGuardedUpTo};
 
-use crate::server::served::ServedPage;
+use crate::server::served::{GainsAnswer, ServedPage};
 use crate::server::times::RequestTimes;
+use crate::server::unanswered::UnansweredReads;
 use http_server::{Config, Connection};
 use http1::Limits;
 use mio::net::TcpStream;
 use std::alloc::Global;
 use std::hash::RandomState;
-use std::io::ErrorKind;
+use std::io::{ErrorKind, Read};
 use std::time::Duration;
 
 /// The greatest number of octets of a request's head, of its trailers and of its body, and of one read.
@@ -25,8 +26,9 @@ const MAX_OCTETS: usize = 8192;
 const MAX_CONTROL_OCTETS: usize = 131_072;
 
 /// The greatest number of reads and writes in one turn.
-// A limit, so that a busy client does not keep the others from their turns.
-const MAX_STEPS: u32 = 16;
+// A read of a request and the write of its response. With more of them, 64 clients that pipeline requests would keep
+// another one waiting for all of these.
+const MAX_STEPS: u32 = 2;
 
 /// Returns the connection of a new client, from which nothing was read yet. It refuses a head, trailers or a body of
 /// more than 8,192 octets. While a response waits to be sent it reads no request.
@@ -80,6 +82,7 @@ pub(crate) struct Client {
     stream: TcpStream,
     connection: Connection,
     times: RequestTimes,
+    reads: UnansweredReads,
     pub(crate) progress: Progress,
 }
 
@@ -91,15 +94,27 @@ impl Client {
             stream,
             connection,
             times: RequestTimes::new(now),
+            reads: UnansweredReads::new(),
             progress: Progress::Ready,
         }
     }
 
-    /// Takes the client's turn if it is ready, and returns true if the client is to be disconnected.
-    pub(crate) fn run_turn<P: ServedPage>(&mut self, page: &mut P, now: Duration) -> bool {
+    /// Takes the client's turn if it is ready, and returns the part of the gains in the answer that ended it. A client
+    /// that may read the gains has its turn only if `may_read` is true.
+    pub(crate) fn run_turn<P: ServedPage>(
+        &mut self,
+        page: &mut P,
+        now: Duration,
+        may_read: bool,
+    ) -> GainsAnswer {
         if self.progress == Progress::Ready {
-            self.turn(page, now);
+            return self.turn(page, now, may_read);
         }
+        GainsAnswer::Neither
+    }
+
+    /// Returns true if the client is to be disconnected.
+    pub(crate) fn is_done(&self, now: Duration) -> bool {
         self.progress == Progress::Closed || self.times.is_overdue(now)
     }
 
@@ -114,29 +129,43 @@ impl Client {
         self.times.complete_at() >= since && !self.connection.wants_write()
     }
 
-    /// Reads requests and writes responses until the socket would block, or the turn's steps are used up.
-    fn turn<P: ServedPage>(&mut self, page: &mut P, now: Duration) {
+    /// Reads requests and writes responses until the socket would block, the page has asked the run, or the steps of
+    /// the turn are used up.
+    fn turn<P: ServedPage>(&mut self, page: &mut P, now: Duration, may_read: bool) -> GainsAnswer {
         // A client stays ready until its socket would block: only then does the system send an event again.
         self.progress = Progress::Ready;
         for _ in 0..MAX_STEPS {
-            self.answer(page, now);
+            // What is written already is not held up.
+            if !may_read && self.reads.may_read() && !self.connection.wants_write() {
+                return GainsAnswer::Neither;
+            }
+            let answered = self.answer(page, now);
             self.progress = self.step(now);
+            // The page may have waited for the run, so the others come first.
+            if matches!(answered, GainsAnswer::Read | GainsAnswer::Change) {
+                return answered;
+            }
             if self.progress != Progress::Ready {
-                return;
+                break;
             }
         }
+        GainsAnswer::Neither
     }
 
-    /// Responds to the request that was read, if it is complete.
-    fn answer<P: ServedPage>(&mut self, page: &mut P, now: Duration) {
+    /// Responds to the request that was read, if it is complete, and returns the part of the gains in the answer.
+    fn answer<P: ServedPage>(&mut self, page: &mut P, now: Duration) -> GainsAnswer {
         if self.connection.wants_write() {
-            return;
+            return GainsAnswer::Neither;
         }
-        page.respond(&mut self.connection, now);
+        let answered = page.respond(&mut self.connection, now);
+        if matches!(answered, GainsAnswer::Read | GainsAnswer::RefusedRead) {
+            self.reads.note_answer();
+        }
         // A response follows a complete request. A body that waits for `100 Continue` has another ten seconds.
         if self.connection.wants_write() {
             self.times.note_complete(now);
         }
+        answered
     }
 
     /// Writes once if there is something to write, or else reads once, and returns the client's state.
@@ -147,13 +176,28 @@ impl Client {
         if self.connection.is_done() || !self.connection.wants_read() {
             return Progress::Closed;
         }
-        match self.connection.read_from(&mut self.stream) {
-            Ok(_) => {
-                self.times.note_read(now);
-                Progress::Ready
-            }
+        self.read(now)
+    }
+
+    /// Reads once, and returns the client's state.
+    fn read(&mut self, now: Duration) -> Progress {
+        let mut octets = [0; MAX_OCTETS];
+        match self.stream.read(&mut octets) {
+            Ok(count) => self.take(&octets[..count], now),
             Err(fault) => after(fault.kind()),
         }
+    }
+
+    /// Passes octets that were read to the connection, and returns the client's state.
+    fn take(&mut self, octets: &[u8], now: Duration) -> Progress {
+        self.reads.note(octets);
+        let mut unread = octets;
+        // A connection has space for as many octets as are read at once, unless an allocation fails.
+        if self.connection.read_from(&mut unread).is_err() || !unread.is_empty() {
+            return Progress::Closed;
+        }
+        self.times.note_read(now);
+        Progress::Ready
     }
 
     /// Writes once, and returns the client's state.

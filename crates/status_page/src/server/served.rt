@@ -7,6 +7,19 @@ use std::alloc::Global;
 use std::hash::RandomState;
 use std::time::Duration;
 
+/// The part of a run's gains in the last answer of its page.
+#[derive(Clone, Copy, PartialEq, Eq)]
+pub enum GainsAnswer {
+    /// It neither showed nor changed them, or there was no answer.
+    Neither,
+    /// It refused to show them, because they were read too often.
+    RefusedRead,
+    /// It answered a read, and may have waited for the run.
+    Read,
+    /// It answered a change, and may have waited for the run.
+    Change,
+}
+
 /// A page that a `PageServer` serves: a `Page`, or the `ControlPage` of a run whose gains can be changed.
 pub trait ServedPage: Drop {
     /// Returns the connection of a new client, from which nothing was read yet, with the limits of this page.
@@ -15,8 +28,9 @@ pub trait ServedPage: Drop {
     /// Responds from a newer snapshot from now on.
     fn show(&mut self, snapshot: Snapshot);
 
-    /// Responds to the requests that were read from a client. `now` is the reading of a monotonic clock.
-    fn respond(&mut self, connection: &mut Connection, now: Duration);
+    /// Responds to the requests that were read from a client, and returns the part of the gains in the last answer.
+    /// `now` is the reading of a monotonic clock.
+    fn respond(&mut self, connection: &mut Connection, now: Duration) -> GainsAnswer;
 }
 
 impl ServedPage for Page {
@@ -28,7 +42,8 @@ impl ServedPage for Page {
         self.update(snapshot);
     }
 
-    fn respond(&mut self, connection: &mut Connection, _now: Duration) {
+    fn respond(&mut self, connection: &mut Connection, _now: Duration) -> GainsAnswer {
         self.answer(connection);
+        GainsAnswer::Neither
     }
 }
