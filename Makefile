@@ -83,7 +83,7 @@ test:
 	gate/tries tests/networks $(program)
 	gate/tries tests/senders $(program)
 	@cat bin/gate-time
-	@echo "gate: pages, proofs, edits, tests, examples, faults, statuses, blocks, WAV files, charts, captures, SDP files, package, library, engine, memory, live runs, pages, faders, control, a desk, the demo, networks and senders passed in $$(( ($$(date +%s) - $$(cat bin/gate-begun)) / 60 )) minutes"
+	@echo "gate: pages, proofs, edits, tests, examples, faults, statuses, blocks, WAV files, charts, captures, SDP files, package, library, engine, memory, live runs, their files, pages, faders, control, a desk, the demo, networks, senders and hold-ups passed in $$(( ($$(date +%s) - $$(cat bin/gate-begun)) / 60 )) minutes"
 
 %.ran:
 	$* $(program)

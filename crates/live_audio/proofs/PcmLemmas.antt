@@ -11,9 +11,9 @@ use Rattle.rtp_wire.specs.Sample.{octets_per_sample}
 use Rattle.mix_packets.specs.declared.out_spec.Output.{Output}
 use Rattle.wav_file.specs.Samples.{little_samples}
 use Rattle.wav_file.proofs.LiveLemmas.{samples_append, samples_none}
-use Rattle.live_audio.specs.PcmTap.{HasTapped, LeavesOut, chosen_octets, left_out_of}
+use Rattle.live_audio.specs.PcmProducer.{HasProduced, LeavesOut, chosen_octets, left_out_of}
 use Rattle.live_audio.specs.PcmWriter.{HasPiped, HasPipedAll, IsFreshPcm, IsPiped, IsSamePcm, LacksPcmBlock, WritesPart}
-use Rattle.live_audio.specs.declared.pcm_tap.PcmTap.{PcmTap}
+use Rattle.live_audio.specs.declared.pcm_producer.PcmProducer.{PcmProducer}
 use Rattle.live_audio.specs.declared.pcm_writer.PcmWriter.{PcmWriter}
 use Rattle.live_audio.specs.declared.pcm_writer.PcmWritten.{PcmWritten}
 
@@ -36,8 +36,8 @@ each_more : (blocks : List (List ℕ)) (choices : List Bool) (block : List ℕ) 
 each_more blocks choices block choice same = length-append choices (choice ∷ []) ∙ ap (λ n. n + 1) same ∙ sym (length-append blocks (block ∷ []))
 
 -- one more block was sent
-pub tapped_in : (blocks : List (List ℕ)) (block : List ℕ) (old new : PcmTap) → sent new.ring ≡ sent old.ring ++ block → new.left_out ≡ old.left_out → HasTapped blocks old → HasTapped (blocks ++ block ∷ []) new
-tapped_in blocks block old new sends left t = record {
+pub produced_in : (blocks : List (List ℕ)) (block : List ℕ) (old new : PcmProducer) → sent new.ring ≡ sent old.ring ++ block → new.left_out ≡ old.left_out → HasProduced blocks old → HasProduced (blocks ++ block ∷ []) new
+produced_in blocks block old new sends left t = record {
   choices = t.choices ++ true ∷ [];
   each = each_more blocks t.choices block true t.each;
   sent = sends ∙ ap (λ l. l ++ block) t.sent ∙ ap (λ l. chosen_octets blocks t.choices ++ l) (sym (append-nil block)) ∙ sym (chosen_more blocks t.choices block true t.each);
@@ -45,16 +45,16 @@ tapped_in blocks block old new sends left t = record {
 }
 
 -- one more block was left out
-pub tapped_out : (blocks : List (List ℕ)) (block : List ℕ) (old new : PcmTap) → LeavesOut old new → HasTapped blocks old → HasTapped (blocks ++ block ∷ []) new
-tapped_out blocks block old new out t = record {
+pub produced_out : (blocks : List (List ℕ)) (block : List ℕ) (old new : PcmProducer) → LeavesOut old new → HasProduced blocks old → HasProduced (blocks ++ block ∷ []) new
+produced_out blocks block old new out t = record {
   choices = t.choices ++ false ∷ [];
   each = each_more blocks t.choices block false t.each;
   sent = out.sent ∙ t.sent ∙ sym (append-nil (chosen_octets blocks t.choices)) ∙ sym (chosen_more blocks t.choices block false t.each);
   left_out = (let more = left_out_more t.choices false in let was = t.left_out in let now = out.left_out in omega (arith, now, more, was));
 }
 
--- a block was left out of a tap that only looked at the space of its ring before
-pub leaves_out : (old between new : PcmTap) → sent between.ring ≡ sent old.ring → between.left_out ≡ old.left_out → LeavesOut between new → LeavesOut old new
+-- a block was left out of a producer that only looked at the space of its ring before
+pub leaves_out : (old between new : PcmProducer) → sent between.ring ≡ sent old.ring → between.left_out ≡ old.left_out → LeavesOut between new → LeavesOut old new
 leaves_out old between new ring left out = record {
   sent = out.sent ∙ ring;
   left_out = out.left_out ∙ ap (λ n. min (n + 1) (2 ^ 64 - 1)) left;

@@ -1,6 +1,6 @@
 pub mod AudioWriter
 pub mod Parts
-pub mod PcmTap
+pub mod PcmProducer
 pub mod PcmWriter
+pub mod Producer
 pub mod RingOctets
-pub mod Tap

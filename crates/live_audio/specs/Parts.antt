@@ -1,6 +1,7 @@
 -- A run's audio in files, one after another: each file but the last has the same number of whole blocks.
-use Rattle.std.specs.Prelude.{◌≡◌, ◌≤◌, ℕ, zero, suc, ◌+◌, ◌-◌, ◌*◌, ◌/◌, ◌^◌, min, max, Bool, true, false, List, [], ◌∷◌, ◌++◌, length, take, drop, ⊤, Option, Some, None}
+use Rattle.std.specs.Prelude.{◌≡◌, ◌≤◌, ℕ, zero, suc, ◌+◌, ◌-◌, ◌*◌, ◌/◌, ◌^◌, min, max, Bool, true, false, List, [], ◌∷◌, ◌++◌, length, take, drop, ⊤, Option, Some, None, ℤ, ◌+ℤ◌, ◌-ℤ◌}
 use Rattle.mix_packets.specs.declared.out_spec.Output.{Output}
+use Rattle.studio_config.specs.Studio.{Studio}
 use Rattle.wav_file.specs.declared.header.WavFormat.{WavFormat}
 use Rattle.wav_file.specs.Bext.{IsBext}
 use Rattle.wav_file.specs.LiveFile.{HasData, live_octets}
@@ -8,6 +9,11 @@ use Rattle.wav_file.specs.Samples.{little_samples}
 use Rattle.live_audio.specs.declared.parts.AudioParts.{AudioParts}
 use Rattle.live_audio.specs.declared.parts.PartPlan.{PartPlan}
 use Rattle.live_audio.specs.declared.parts.WavParts.{WavParts}
+
+-- the time of the first sample of a run that opened at this time, both counted from 1970 in UTC: the mix begins at the
+-- output's start
+abbrev pub first_sample : ℤ → Studio → ℤ
+first_sample opened studio = opened +ℤ (studio.output.start -ℤ studio.open_at)
 
 -- the number of whole blocks in a file of this many sampling instants, at least one
 abbrev pub blocks_for : Output → ℕ → ℕ

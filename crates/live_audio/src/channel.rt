@@ -5,11 +5,11 @@ ghost use Rattle.rtp_stream.specs.declared.stream_spec.Stream.{Stream};
 ghost use Rattle.wav_file.specs.MixSamples.{output_format};
 ghost use Rattle.live_audio.specs.AudioWriter.{IsFresh};
 ghost use Rattle.live_audio.specs.Parts.{plan_of};
-ghost use Rattle.live_audio.specs.RingOctets.{ring_octets_for};
+ghost use Rattle.live_audio.specs.RingOctets.{wav_octets_for};
 
 use crate::parts::AudioParts;
-use crate::ring_size::ring_octets;
-use crate::tap::AudioTap;
+use crate::producer::AudioProducer;
+use crate::ring_size::{WAV_SPARE, ring_octets};
 use crate::writer::{AudioWriter, format_of};
 use rtrb::RingBuffer;
 use std::alloc::{AllocError, Global};
@@ -20,7 +20,7 @@ use studio_io::OutputProgress;
 #[derive(Drop)]
 pub struct AudioChannel<'a> {
     /// The end that takes the samples of the mix.
-    pub tap: AudioTap<'a>,
+    pub producer: AudioProducer<'a>,
     /// The end that writes them to the files.
     pub writer: AudioWriter<'a>,
 }
@@ -34,20 +34,20 @@ impl<'a> AudioChannel<'a> {
         parts: Option<AudioParts>,
         audio: &'a OutputProgress,
     ) -> Result<AudioChannel<'a>, AllocError>
-        ensures pair { IfOk result (λ channel. IsPair channel.tap.ring channel.writer.ring) }
-        ensures open { IfOk result (λ channel. channel.tap.ended ≡ false) }
-        ensures none { IfOk result (λ channel. sent channel.tap.ring ≡ []) }
+        ensures pair { IfOk result (λ channel. IsPair channel.producer.ring channel.writer.ring) }
+        ensures open { IfOk result (λ channel. channel.producer.ended ≡ false) }
+        ensures none { IfOk result (λ channel. sent channel.producer.ring ≡ []) }
         ensures space { IfOk result (λ channel. (place : ℕ) (stream : Stream)
             → slice_get studio.now.streams place ≡ Some stream
-            → ring_octets_for (output_format studio.now.output) stream.latency ≤ known_free channel.tap.ring) }
+            → wav_octets_for (output_format studio.now.output) stream.latency ≤ known_free channel.producer.ring) }
         ensures fresh { IfOk result (λ channel. IsFresh studio.now.output channel.writer) }
         ensures plan { IfOk result (λ channel. channel.writer.plan ≡ plan_of studio.now.output parts) }
     {
         let output = studio.output();
-        let space = ring_octets(format_of(output), studio.streams());
+        let space = ring_octets(format_of(output), studio.streams(), WAV_SPARE);
         let (producer, consumer) = RingBuffer::new(alloc, space)?;
         Ok(AudioChannel {
-            tap: AudioTap::new(producer, audio),
+            producer: AudioProducer::new(producer, audio),
             writer: AudioWriter::new(consumer, output, parts, audio),
         })
     }

@@ -1,8 +1,9 @@
 //! The files of a run's audio: how it is divided, and the file that is written.
-ghost use Rattle.std.specs.Prelude.{◌≡◌, ◌<◌};
-ghost use Rattle.live_audio.specs.Parts.{blocks_for, IsChunk, plan_of};
+ghost use Rattle.std.specs.Prelude.{◌≡◌, ◌<◌, ◌^◌, pos, ◌+ℤ◌, ◌≤ℤ◌, ◌<ℤ◌};
+ghost use Rattle.live_audio.specs.Parts.{blocks_for, first_sample, IsChunk, plan_of};
 
 use mix_packets::OutSpec;
+use studio_config::StudioSpec;
 use wav_file::{BextChunk, LiveWav, bext_chunk};
 
 /// The division of a run's audio into files.
@@ -12,6 +13,36 @@ pub struct AudioParts {
     pub at: u64,
     /// The number of sampling instants in a file. It is rounded down to whole blocks. A file has at least one.
     pub instants: u64,
+}
+
+impl AudioParts {
+    /// Returns the division of the audio of a run of this studio into files of this many sampling instants. `opened` is
+    /// the time at which the run opens, in sampling instants since 1970 in UTC.
+    // The run may open long before the first sample of the mix. A sample before 1970 gets the time 0.
+    pub fn new(studio: &StudioSpec, opened: i64, instants: u64) -> AudioParts
+        ensures at { pos 0 ≤ℤ first_sample opened studio.now → first_sample opened studio.now ≤ℤ pos (2 ^ 62)
+            → pos result.at ≡ first_sample opened studio.now }
+        ensures early { first_sample opened studio.now <ℤ pos 0 → result.at ≡ 0 }
+        ensures instants { result.instants ≡ instants }
+    {
+        let delay = studio.output().start() - studio.open_at();
+        AudioParts {
+            at: time_after(opened, delay),
+            instants,
+        }
+    }
+}
+
+/// Returns the time that is `delay` later than another, in sampling instants since 1970. Returns 0 for a time before
+/// 1970, and for one that is too late for 64 bits.
+fn time_after(time: i64, delay: i64) -> u64
+    ensures at { pos 0 ≤ℤ (time +ℤ delay) → (time +ℤ delay) ≤ℤ pos (2 ^ 62) → pos result ≡ time +ℤ delay }
+    ensures early { (time +ℤ delay) <ℤ pos 0 → result ≡ 0 }
+{
+    match time.checked_add(delay) {
+        Some(later) => { if later < 0 { 0 } else { later.unsigned_abs() } }
+        None => 0,
+    }
 }
 
 /// The division of a run's audio as its writer follows it.

@@ -1,10 +1,12 @@
 //! The raw PCM of the mix as an output of a run.
-ghost use Rattle.live_audio.specs.PcmTap.{BeginsPcm};
+ghost use Rattle.live_audio.specs.PcmProducer.{BeginsPcm};
 
 use crate::pcm_channel::PcmChannel;
-use crate::pcm_tap::PcmTap;
+use crate::pcm_producer::PcmProducer;
 use crate::pcm_writer::{PcmWriter, write_pcm};
-use run_outputs::{CreateOutput, CreatedOutput, NoOutput, OneTask, OutputFault, SideTask};
+use run_outputs::{
+    CreateOutput, CreatedOutput, NoOutput, OneTask, OutputFault, RunStart, SideTask,
+};
 use std::alloc::Global;
 use std::sync::Wait;
 use std::time::Clock;
@@ -29,18 +31,19 @@ pub struct PcmTask<'a, D> {
 }
 
 impl<D: PcmOutput + Drop> SideTask for PcmTask<'_, D> {
-    fn complete<R: Wait + Clock>(self, rt: &R) {
+    fn complete<R: Wait + Clock>(self, rt: &R, start: &RunStart) {
         let PcmTask { writer, output } = self;
         let (mut writer, mut output) = (writer, output);
         // The writer itself sets the progress. It ends once the run's end of the ring was dropped.
         let _written = write_pcm(rt, &mut writer, &mut output);
+        start.wait(rt);
     }
 }
 
 impl<'a, P: CreatePcm + Drop> CreateOutput for RawPcmOutput<'a, P> {
     type Events = NoOutput;
 
-    type Mix = PcmTap<'a>;
+    type Mix = PcmProducer<'a>;
 
     type Tasks = OneTask<PcmTask<'a, P::Pcm>>;
 
@@ -51,10 +54,13 @@ impl<'a, P: CreatePcm + Drop> CreateOutput for RawPcmOutput<'a, P> {
         alloc: Global,
         studio: &StudioSpec,
         _is_controlled: bool,
-    ) -> Result<CreatedOutput<NoOutput, PcmTap<'a>, OneTask<PcmTask<'a, P::Pcm>>>, OutputFault> {
+    ) -> Result<
+        CreatedOutput<NoOutput, PcmProducer<'a>, OneTask<PcmTask<'a, P::Pcm>>>,
+        OutputFault,
+    > {
         let RawPcmOutput { creator, progress } = self;
-        let PcmChannel { tap, writer } = PcmChannel::new(alloc, studio, progress)?;
-        match creator.create_pcm() {
+        let PcmChannel { producer, writer } = PcmChannel::new(alloc, studio, progress)?;
+        match creator.create_pcm(writer.block_len()) {
             Ok(output) => {
                 let (mut writer, mut output) = (writer, output);
                 progress.set_waiting();
@@ -63,7 +69,7 @@ impl<'a, P: CreatePcm + Drop> CreateOutput for RawPcmOutput<'a, P> {
                 let _ = writer.open(&mut output);
                 Ok(CreatedOutput {
                     events: NoOutput,
-                    mix: tap,
+                    mix: producer,
                     tasks: OneTask::new(PcmTask { writer, output }),
                 })
             }
@@ -75,6 +81,7 @@ impl<'a, P: CreatePcm + Drop> CreateOutput for RawPcmOutput<'a, P> {
 /// Returns the error of raw PCM that could not be opened.
 fn fault_of(fault: PcmFault) -> OutputFault {
     match fault {
+        PcmFault::Memory => OutputFault::Memory,
         PcmFault::Exists => OutputFault::Exists(OutputKind::Pcm),
         PcmFault::NotCreated => OutputFault::NotCreated(OutputKind::Pcm),
     }

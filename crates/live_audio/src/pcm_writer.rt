@@ -96,6 +96,13 @@ impl<'a> PcmWriter<'a> {
         }
     }
 
+    /// Returns the number of octets of a block's samples.
+    pub(crate) fn block_len(&self) -> usize
+        ensures { result ≡ self.now.block_len }
+    {
+        self.block_len
+    }
+
     /// Opens the way to an output that somebody reads, or that needs no reader, if it is not open yet. Does not wait.
     /// Returns `Closed` if nobody reads it any more.
     pub fn open<D: PcmOutput>(&mut self, output: &mut D) -> Option<PcmStop>

@@ -1,4 +1,4 @@
-//! The capacity of the ring between a run and the writer of its audio.
+//! The capacity of the rings between a run and the writers of its audio.
 ghost use Rattle.std.specs.Prelude.{◌≡◌, ◌^◌, ◌≤◌, ℕ, Some, slice_get};
 ghost use Rattle.rtp_stream.specs.declared.stream_spec.Stream.{Stream};
 ghost use Rattle.live_audio.specs.RingOctets.{ring_octets_for};
@@ -10,19 +10,24 @@ use wav_file::WavFormat;
 // Of mono in L16 this is eleven seconds: if the octets are few, there is more time for a slow device.
 const LEAST_OCTETS: u64 = 1 << 20;
 
-/// The sampling instants that the ring holds in addition to the streams' latency: two seconds.
-// A device that is slow for a while does not end the file. Two seconds are what a disk takes to start or to flush.
-const SPARE_INSTANTS: u64 = 96_000;
+/// The sampling instants that the ring of a WAV file holds in addition to the streams' latency: thirty seconds.
+// After a machine was held up, as by a suspension, a run mixes in one burst what came due meanwhile, faster than a disk
+// takes it. Thirty seconds are also enough for a disk that takes time to start or to flush.
+pub(crate) const WAV_SPARE: u32 = 1_440_000;
 
-/// Returns the number of octets that the ring of a studio's audio holds: of the greatest latency of its streams and two
-/// seconds more, but 1 MiB at least.
+/// The sampling instants that the ring of raw PCM holds in addition to the streams' latency: two seconds.
+// Its reader hears what is in the ring as a delay. After a hold-up it would stay late by all that the ring can hold.
+pub(crate) const PCM_SPARE: u32 = 96_000;
+
+/// Returns the number of octets that the ring of a studio's audio holds: of the greatest latency of its streams and
+/// `spare` sampling instants more, but 1 MiB at least.
 // At its end a run mixes in one burst what its streams still hold: their latency.
-pub fn ring_octets(format: WavFormat, streams: &[StreamSpec]) -> usize
+pub fn ring_octets(format: WavFormat, streams: &[StreamSpec], spare: u32) -> usize
     ensures all { (place : ℕ) (stream : Stream) → slice_get streams.now place ≡ Some stream
-        → ring_octets_for format stream.latency ≤ result }
+        → ring_octets_for spare format stream.latency ≤ result }
     ensures least { 2 ^ 20 ≤ result }
 {
-    let instants = u64::from(greatest_latency(streams)) + SPARE_INSTANTS;
+    let instants = u64::from(greatest_latency(streams)) + u64::from(spare);
     let octets = instants * u64::from(format.frame_len());
     octets.max(LEAST_OCTETS) as usize
 }

@@ -1,11 +1,13 @@
 //! The WAV file of the mix as an output of a run.
-ghost use Rattle.live_audio.specs.Tap.{BeginsTap};
+ghost use Rattle.live_audio.specs.Producer.{BeginsProducing};
 
 use crate::channel::AudioChannel;
 use crate::parts::AudioParts;
-use crate::tap::AudioTap;
+use crate::producer::AudioProducer;
 use crate::writer::{AudioWriter, write_audio};
-use run_outputs::{CreateOutput, CreatedOutput, NoOutput, OneTask, OutputFault, SideTask};
+use run_outputs::{
+    CreateOutput, CreatedOutput, NoOutput, OneTask, OutputFault, RunStart, SideTask,
+};
 use std::alloc::Global;
 use std::sync::Wait;
 use std::time::Clock;
@@ -33,7 +35,7 @@ pub struct WavTask<'a, A: WavFiles> {
 }
 
 impl<A: WavFiles + Drop> SideTask for WavTask<'_, A> {
-    fn complete<R: Wait + Clock>(self, rt: &R) {
+    fn complete<R: Wait + Clock>(self, rt: &R, start: &RunStart) {
         let WavTask {
             writer,
             files,
@@ -42,17 +44,18 @@ impl<A: WavFiles + Drop> SideTask for WavTask<'_, A> {
         let (mut writer, mut files, mut file) = (writer, files, file);
         // The writer itself sets the progress. It ends once the run's end of the ring was dropped.
         let _written = write_audio(rt, &mut writer, &mut files, &mut file);
+        start.wait(rt);
     }
 }
 
 impl<'a, P: CreateLiveWav + Drop> CreateOutput for WavOutput<'a, P> {
     type Events = NoOutput;
 
-    type Mix = AudioTap<'a>;
+    type Mix = AudioProducer<'a>;
 
     type Tasks = OneTask<WavTask<'a, P::Audio>>;
 
-    ghost begins = { λ is_controlled studio events mix. BeginsTap studio mix };
+    ghost begins = { λ is_controlled studio events mix. BeginsProducing studio mix };
 
     fn create(
         self,
@@ -60,7 +63,7 @@ impl<'a, P: CreateLiveWav + Drop> CreateOutput for WavOutput<'a, P> {
         studio: &StudioSpec,
         _is_controlled: bool,
     ) -> Result<
-        CreatedOutput<NoOutput, AudioTap<'a>, OneTask<WavTask<'a, P::Audio>>>,
+        CreatedOutput<NoOutput, AudioProducer<'a>, OneTask<WavTask<'a, P::Audio>>>,
         OutputFault,
     > {
         let WavOutput {
@@ -68,7 +71,7 @@ impl<'a, P: CreateLiveWav + Drop> CreateOutput for WavOutput<'a, P> {
             parts,
             progress,
         } = self;
-        let AudioChannel { tap, writer } = AudioChannel::new(alloc, studio, parts, progress)?;
+        let AudioChannel { producer, writer } = AudioChannel::new(alloc, studio, parts, progress)?;
         let mut files = creator.wav_files(alloc)?;
         match files.first() {
             Ok(file) => {
@@ -80,7 +83,7 @@ impl<'a, P: CreateLiveWav + Drop> CreateOutput for WavOutput<'a, P> {
                 };
                 Ok(CreatedOutput {
                     events: NoOutput,
-                    mix: tap,
+                    mix: producer,
                     tasks: OneTask::new(task),
                 })
             }
@@ -92,6 +95,7 @@ impl<'a, P: CreateLiveWav + Drop> CreateOutput for WavOutput<'a, P> {
 /// Returns the error of a WAV file that could not be created.
 fn fault_of(fault: LiveWavFault) -> OutputFault {
     match fault {
+        LiveWavFault::Memory => OutputFault::Memory,
         LiveWavFault::Exists => OutputFault::Exists(OutputKind::Wav),
         LiveWavFault::NotCreated => OutputFault::NotCreated(OutputKind::Wav),
     }

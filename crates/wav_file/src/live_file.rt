@@ -11,6 +11,8 @@ use studio_io::OutputEnd;
 /// The error of a live run's WAV file that cannot be created.
 #[derive(Clone, Copy, PartialEq, Eq)]
 pub enum LiveWavFault {
+    /// An allocation failed.
+    Memory,
     /// There is a file at its path, or something else.
     Exists,
     /// The file cannot be created.
@@ -53,8 +55,8 @@ pub trait WavFiles {
     /// The octets of the files that were closed, in order, if they are known.
     ghost closed: { Self → Option (List (List ℕ)) };
 
-    /// Creates the first file, where nothing is. Returns `Exists` if something is there, which stays as it is, and
-    /// `NotCreated` if the file cannot be created for another reason.
+    /// Creates the first file, where nothing is. Returns `Memory` if an allocation fails, `Exists` if something is
+    /// there, which stays as it is, and `NotCreated` if the file cannot be created for another reason.
     fn first(&mut self) -> Result<Self::File, LiveWavFault>
         ensures empty { IfOk result (λ file. Holds (Self.File.Write.contents file) []) };
 

@@ -7,6 +7,8 @@ use studio_io::OutputEnd;
 /// The error of a live run's raw PCM whose output cannot be opened.
 #[derive(Clone, Copy, PartialEq, Eq)]
 pub enum PcmFault {
+    /// An allocation failed.
+    Memory,
     /// There is something at its path that is no FIFO.
     Exists,
     /// The FIFO cannot be opened, or the file cannot be created.
@@ -43,7 +45,8 @@ pub trait CreatePcm {
     /// The type of the output.
     type Pcm: PcmOutput + Send + Drop;
 
-    /// Opens a FIFO or standard output, or creates a file where nothing is. It does not wait for a reader. Returns
+    /// Opens a FIFO or standard output, or creates a file where nothing is. It does not wait for a reader. A file ends
+    /// with a whole block of `block_len` octets below the limit of its size. Returns `Memory` if an allocation fails,
     /// `Exists` if something else is there, which stays as it is, and `NotCreated` if the output cannot be opened.
-    fn create_pcm(&self) -> Result<Self::Pcm, PcmFault>;
+    fn create_pcm(&self, block_len: usize) -> Result<Self::Pcm, PcmFault>;
 }

@@ -9,7 +9,7 @@ ghost use Rattle.wav_file.specs.File.{Becomes, IsBegun, pad_octets, silent_octet
 use crate::files::Overwrite;
 use crate::header::{WavFormat, header_octets};
 use crate::samples::to_little_endian;
-use std::io::Write;
+use std::io::{ErrorKind, Write};
 use std::marker::Model;
 use thiserror::Error;
 
@@ -150,18 +150,25 @@ impl WavWriter {
     }
 }
 
-/// Writes all octets. After an error a prefix of them was written.
+/// Writes all octets. A write that a signal interrupts is tried again. After an error a prefix of them was written.
 pub(crate) fn write_octets<W: Write>(writer: &mut W, octets: &[u8]) -> Result<(), WavFault>
     ensures ok { OnOk result (Appends (W.contents writer.old) (W.contents writer.new) octets.now) }
     ensures fault { OnErr result ((n : ℕ)
         × Appends (W.contents writer.old) (W.contents writer.new) (take n octets.now)) }
 {
     let mut done = 0;
-    while done < octets.len() {
+    // The label names the loop in its proof.
+    'writes: for _ in 0..u64::MAX {
+        if done == octets.len() {
+            return Ok(());
+        }
         match writer.write(&octets[done..]) {
-            Ok(0) | Err(_) => return Err(WavFault),
+            Ok(0) => return Err(WavFault),
             Ok(count) => done += count,
+            // A signal came before anything was written.
+            Err(fault) if fault.kind() == ErrorKind::Interrupted => {}
+            Err(_) => return Err(WavFault),
         }
     }
-    Ok(())
+    Err(WavFault)
 }

@@ -16,7 +16,7 @@ use studio_io::{
     Clock, Feed, GainAction, GainAnswer, GainRequest, GainSource, MemoryClock, MemoryFeed,
     MemorySink, WorkReport,
 };
-use studio_rings::{run_mixer, run_workers_with_gains};
+use studio_rings::{WorkerDevices, run_mixer};
 
 /// A request, the round in which it is made, and its outcome. A gain of 65,536 leaves samples unchanged.
 struct Move {
@@ -376,8 +376,13 @@ fn run_in_workers<R: Threads + Wait + Abort + Sync, G: GainSource>(
         clocks.len() == ends.streams.len(),
         "a clock for each stream"
     );
-    let sink = MemorySink::new(alloc);
-    let Ok(done) = run_workers_with_gains(rt, alloc, ends, feeds, clocks, sink, gains) else {
+    let devices = WorkerDevices {
+        feeds,
+        clocks,
+        sink: MemorySink::new(alloc),
+        gains,
+    };
+    let Ok(done) = devices.run(rt, alloc, ends) else {
         panic!(rt; "there is memory")
     };
     done

@@ -3,7 +3,7 @@
 ghost use Rattle.std.specs.Prelude.{◌≤◌, length, None};
 
 use super::workers::one_stream;
-use live_audio::{AudioChannel, AudioFile, AudioParts, AudioTap, write_audio};
+use live_audio::{AudioChannel, AudioFile, AudioParts, AudioProducer, write_audio};
 use std::alloc::Global;
 use std::io;
 use std::io::{ErrorKind, Write};
@@ -18,14 +18,20 @@ const AT: u64 = 20_785 * 4_147_200_000 + 3_661 * 48_000;
 /// The number of octets before the data of a file with a `bext` chunk.
 const HEAD: usize = 690;
 
-/// A file in memory.
+/// A file in memory. A signal interrupts every other write, from the first one on.
 #[derive(Drop)]
 struct MemoryFile {
     octets: Vec<u8>,
+    /// True if the last write was interrupted.
+    was_interrupted: bool,
 }
 
 impl Write for MemoryFile {
     fn write(&mut self, buf: &[u8]) -> io::Result<usize> {
+        self.was_interrupted = !self.was_interrupted;
+        if self.was_interrupted {
+            return Err(io::Error::from(ErrorKind::Interrupted));
+        }
         match self.octets.extend_from_slice(buf) {
             Ok(()) => Ok(buf.len()),
             Err(_) => Err(io::Error::from(ErrorKind::OutOfMemory)),
@@ -79,6 +85,7 @@ impl WavFiles for MemoryFiles {
     fn first(&mut self) -> Result<MemoryFile, LiveWavFault> {
         Ok(MemoryFile {
             octets: Vec::new(self.alloc),
+            was_interrupted: false,
         })
     }
 
@@ -89,7 +96,11 @@ impl WavFiles for MemoryFiles {
         let Ok(octets) = Vec::from_slice(self.alloc, file.octets.as_slice()) else {
             return Err(LiveWavFault::NotCreated);
         };
-        if self.closed.push(MemoryFile { octets }).is_err() {
+        let closed = MemoryFile {
+            octets,
+            was_interrupted: false,
+        };
+        if self.closed.push(closed).is_err() {
             return Err(LiveWavFault::NotCreated);
         }
         file.octets.clear();
@@ -132,7 +143,8 @@ fn has_blocks(rt: &impl Abort, file: &MemoryFile, firsts: &[u8], instant: u64)
     }
 }
 
-/// A mix of seven blocks goes to files of three blocks each. The last file has one.
+/// A mix of seven blocks goes to files of three blocks each. The last file has one. A write that is interrupted is
+/// tried again.
 #[test]
 fn each_file_has_the_blocks_of_its_place(rt: HostRuntime) {
     let (result, files, file) = written(&rt, rt.alloc(), 3);
@@ -171,8 +183,8 @@ fn written<R: Abort + Wait>(
         instants: 20,
     };
     let channel = AudioChannel::new(alloc, &studio, Some(parts), &audio);
-    let AudioChannel { tap, writer } = channel.expect(rt, "memory");
-    put_all(tap);
+    let AudioChannel { producer, writer } = channel.expect(rt, "memory");
+    put_all(producer);
     let mut writer = writer;
     let mut files = MemoryFiles {
         alloc,
@@ -181,15 +193,16 @@ fn written<R: Abort + Wait>(
     };
     let mut file = MemoryFile {
         octets: Vec::new(alloc),
+        was_interrupted: false,
     };
     let result = write_audio(rt, &mut writer, &mut files, &mut file);
     (result, files, file)
 }
 
-/// Puts seven blocks, and drops the tap, so that they are all.
-fn put_all(tap: AudioTap<'_>) {
-    let mut tap = tap;
+/// Puts seven blocks, and drops the producer, so that they are all.
+fn put_all(producer: AudioProducer<'_>) {
+    let mut producer = producer;
     for number in 0..7 {
-        tap.put(&datagram(20 * number));
+        producer.put(&datagram(20 * number));
     }
 }

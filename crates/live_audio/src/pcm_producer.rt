@@ -1,16 +1,16 @@
 //! The end of a ring into which the samples of the mix are put for raw PCM: a block as a whole, or it is left out.
 ghost use Rattle.std.specs.Prelude.{◌≡◌, ◌∷◌, ◌++◌, [], ℕ, List, drop, false, true};
 ghost use Rattle.rtrb.specs.Ring.{sent};
-ghost use Rattle.live_audio.specs.PcmTap.{HasTapped, LeavesOut, Takes};
+ghost use Rattle.live_audio.specs.PcmProducer.{HasProduced, LeavesOut, Takes};
 
-use crate::tap::samples_of;
+use crate::producer::samples_of;
 use rtrb::Producer;
 use run_outputs::MixOutput;
 use studio_io::OutputProgress;
 
 /// The end of a ring in the run's thread, into which the samples of each datagram are put. It never waits.
 #[derive(Drop)]
-pub struct PcmTap<'a> {
+pub struct PcmProducer<'a> {
     ring: Producer<u8>,
     /// True once somebody reads the output. Before that each block is left out.
     is_open: bool,
@@ -22,13 +22,13 @@ pub struct PcmTap<'a> {
     pcm: &'a OutputProgress,
 }
 
-impl<'r> PcmTap<'r> {
+impl<'r> PcmProducer<'r> {
     /// Returns the end of a ring, into which it has put nothing yet.
-    pub(crate) fn new(ring: Producer<u8>, pcm: &'r OutputProgress) -> PcmTap<'r>
+    pub(crate) fn new(ring: Producer<u8>, pcm: &'r OutputProgress) -> PcmProducer<'r>
         ensures ring { result.ring ≡ ring }
-        ensures none { sent ring ≡ [] → HasTapped [] result }
+        ensures none { sent ring ≡ [] → HasProduced [] result }
     {
-        PcmTap {
+        PcmProducer {
             ring,
             is_open: false,
             left_out: 0,
@@ -42,8 +42,8 @@ impl<'r> PcmTap<'r> {
     // Blocks before the first reader are left out, so that a reader that opens late hears the audio of that time.
     pub fn put(&mut self, datagram: &[u8])
         ensures takes { Takes self.old (drop 12 datagram.now) self.new }
-        ensures tapped { (blocks : List (List ℕ)) → HasTapped blocks self.old
-            → HasTapped (blocks ++ drop 12 datagram.now ∷ []) self.new }
+        ensures produced { (blocks : List (List ℕ)) → HasProduced blocks self.old
+            → HasProduced (blocks ++ drop 12 datagram.now ∷ []) self.new }
         ensures open { self.old.is_open ≡ true → self.new.is_open ≡ true }
     {
         self.given = self.given.saturating_add(1);
@@ -82,7 +82,7 @@ impl<'r> PcmTap<'r> {
     }
 }
 
-impl MixOutput for PcmTap<'_> {
+impl MixOutput for PcmProducer<'_> {
     ghost mixes = { λ old datagram new. Takes old (drop 12 datagram) new };
 
     fn mixed(&mut self, datagram: &[u8]) {

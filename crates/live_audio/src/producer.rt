@@ -1,6 +1,6 @@
 //! The end of a ring into which the samples of the mix are put, a block as a whole or not at all.
 ghost use Rattle.std.specs.Prelude.{◌≡◌, ◌≤◌, drop, length, false};
-ghost use Rattle.live_audio.specs.Tap.{Puts, StaysEnded};
+ghost use Rattle.live_audio.specs.Producer.{Puts, StaysEnded};
 
 use rtrb::Producer;
 use run_outputs::MixOutput;
@@ -8,7 +8,7 @@ use studio_io::{OutputEnd, OutputProgress};
 
 /// The end of a ring in the run's thread, into which the samples of each datagram are put. It never waits.
 #[derive(Drop)]
-pub struct AudioTap<'a> {
+pub struct AudioProducer<'a> {
     ring: Producer<u8>,
     /// True once a block was not put. Nothing is put any more.
     ended: bool,
@@ -18,13 +18,13 @@ pub struct AudioTap<'a> {
     audio: &'a OutputProgress,
 }
 
-impl<'r> AudioTap<'r> {
+impl<'r> AudioProducer<'r> {
     /// Returns the end of a ring, into which it has put nothing yet.
-    pub(crate) fn new(ring: Producer<u8>, audio: &'r OutputProgress) -> AudioTap<'r>
+    pub(crate) fn new(ring: Producer<u8>, audio: &'r OutputProgress) -> AudioProducer<'r>
         ensures ring { result.ring ≡ ring }
         ensures open { result.ended ≡ false }
     {
-        AudioTap {
+        AudioProducer {
             ring,
             ended: false,
             given: 0,
@@ -51,7 +51,7 @@ impl<'r> AudioTap<'r> {
     }
 }
 
-impl MixOutput for AudioTap<'_> {
+impl MixOutput for AudioProducer<'_> {
     ghost mixes = { λ old datagram new. Puts old (drop 12 datagram) new × StaysEnded old new };
 
     fn mixed(&mut self, datagram: &[u8]) {
