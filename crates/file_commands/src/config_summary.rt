@@ -17,8 +17,7 @@ use studio_run::millis;
 pub(crate) fn write_summary<W: Write>(studio: &StudioSpec, output: &mut W) -> io::Result<()> {
     for (number, stream) in studio.streams().iter().enumerate() {
         write_stream(number, stream, output)?;
-        let paths = stream.paths();
-        write_paths(number, paths, studio.ports(), studio.networks(), output)?;
+        write_paths(number, stream, studio.ports(), studio.networks(), output)?;
     }
     write_output(studio.output(), output)?;
     write_copies(studio.ports(), &studio.networks().output, output)?;
@@ -114,35 +113,56 @@ fn write_wait<W: Write>(stream: &StreamSpec, output: &mut W) -> io::Result<()> {
     writeln!(output)
 }
 
-/// Writes a line for each path of a stream: its port, and its addresses if the configuration has them.
+/// Writes a line for each path of a stream: its port, and its addresses if the configuration has them. Below it is
+/// advice, if the path takes packets of any sender.
 fn write_paths<W: Write>(
     number: usize,
-    paths: u8,
+    stream: &StreamSpec,
     ports: &Ports,
     networks: &Networks,
     output: &mut W,
 ) -> io::Result<()> {
-    for place in 0..paths {
-        write_path_at(number, place, ports, networks, output)?;
+    for place in 0..stream.paths() {
+        // Never none: a stream has at most four paths.
+        let Some(path) = Path::new(place) else {
+            return Ok(());
+        };
+        write_path_of(number, path, ports, networks, output)?;
+        if takes_any_sender(stream, networks, number, path) {
+            write_advice(path.letter(), output)?;
+        }
     }
     Ok(())
 }
 
-/// Writes the line of the path at a place.
-fn write_path_at<W: Write>(
+/// Writes the line of a path of a stream.
+fn write_path_of<W: Write>(
     number: usize,
-    place: u8,
+    path: Path,
     ports: &Ports,
     networks: &Networks,
     output: &mut W,
 ) -> io::Result<()> {
-    // Never none: a stream has at most four paths.
-    let Some(path) = Path::new(place) else {
-        return Ok(());
-    };
     let at = networks.address(number, path);
     let from = networks.source(number, path);
     write_path(path.letter(), ports.port(number, path), at, from, output)
+}
+
+/// Returns true if a path takes packets of any sender: neither the source (SSRC) of its stream nor its own source
+/// address is set.
+fn takes_any_sender(stream: &StreamSpec, networks: &Networks, number: usize, path: Path) -> bool
+    ensures { result ≡ spec.takes_any_sender stream.now networks.now number path }
+{
+    stream.ssrc().is_none() && networks.source(number, path).is_none()
+}
+
+/// Writes the advice on a path that takes packets of any sender.
+fn write_advice<W: Write>(name: &str, output: &mut W) -> io::Result<()> {
+    write!(
+        output,
+        "  advice: path {name} takes packets of any sender: whoever can send to it can be heard; "
+    )?;
+    writeln!(output, "set source_{name} or ssrc")
 }
 
 /// Writes a path's port, and, if the configuration has them, the address to which its packets come and the source

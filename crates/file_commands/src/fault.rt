@@ -114,6 +114,10 @@ pub enum CaptureInputFault {
     /// A capture on standard input is not the record of a live run.
     #[error("capture: no record")]
     NoRecord,
+    /// A record on standard input seems to be of another configuration, but the octets of it that are read before the
+    /// studio is known have no packet, so that descriptions of its paths may be behind them.
+    #[error("capture: no packet in its first 1048576 octets")]
+    LongFront,
     /// The record is not one of a run by this configuration.
     #[error("capture: recorded by another configuration: {0}")]
     Recording(RecordingFault),
@@ -262,6 +266,6 @@ fn replay_status(fault: &ReplayFault) -> u8 {
         ReplayFault::Capture(ReaderFault::ReadFailed) | ReplayFault::Write => 5,
         ReplayFault::Run(StudioFault::Memory(_)) => 4,
         ReplayFault::Capture(_) | ReplayFault::Run(_) => 1,
-        ReplayFault::Change(..) | ReplayFault::TooManyEvents => 1,
+        ReplayFault::Change(..) | ReplayFault::Jump(..) | ReplayFault::TooManyEvents => 1,
     }
 }

@@ -51,13 +51,13 @@ fn import_to<H: Host>(
 }
 
 /// Returns the flows in the octets of the capture at a path. Returns the fault of a time that jumps by more than `gap`
-/// seconds.
+/// allows.
 fn timed_table<H: Host>(
     host: &H,
     alloc: Global,
     path: &str,
     octets: &[u8],
-    gap: u64,
+    gap: Option<u64>,
 ) -> Result<FlowTable, CommandFault> {
     let table = FlowTable::of(alloc, octets)?;
     check_times(host, alloc, path, &table, gap)?;

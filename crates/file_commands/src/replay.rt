@@ -7,7 +7,7 @@ use crate::chart_observer::ChartObserver;
 use crate::config::{read_gains, studio_of};
 use crate::fault::{CaptureInputFault, CommandFault};
 use crate::host::{Host, open_capture};
-use crate::replay_input::{PeekedInput, read_front};
+use crate::replay_input::{PeekedInput, fault_behind, read_front};
 use crate::replay_outputs::{Played, ReplayOutputs, create_wav, write_chart};
 use crate::replay_source::{ReplaySource, front_source, source_of};
 use crate::stream_output::{NumberedFile, check_stream, create_stream_wav};
@@ -73,9 +73,14 @@ impl<H: Host> Replay<'_, H> {
         faults: &mut H::Stderr,
     ) -> Result<(), CommandFault> {
         let front = read_front(self.alloc, input)?;
-        let front = front.as_slice();
-        let source = front_source(self.alloc, studio, front, gains, self.args)?;
-        self.replay_peeked(&source, &mut PeekedInput::new(front, input), output, faults)
+        let octets = front.octets.as_slice();
+        match front_source(self.alloc, studio, octets, gains, self.args) {
+            Ok(source) => {
+                let mut input = PeekedInput::new(octets, input);
+                self.replay_peeked(&source, &mut input, output, faults)
+            }
+            Err(fault) => Err(fault_behind(&front, fault)),
+        }
     }
 
     /// Writes the report of the record on standard input, whose first octets were already read, and the WAV files that

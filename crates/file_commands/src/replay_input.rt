@@ -7,18 +7,24 @@ ghost use Rattle.file_commands.specs.ReplayedStudio.{HasGains, IsRecorded};
 
 use crate::config::changed_studio;
 use crate::fault::{CaptureInputFault, CommandFault};
-use pcap_replay::{RecordedPath, record_opening, recorded_paths, recording_fault};
+use pcap_file::ReaderFault;
+use pcap_replay::{
+    RecordedPath, has_first_packet, record_opening, recorded_paths, recording_fault,
+};
 use std::alloc::{AllocError, Global};
 use std::io;
 use std::io::Read;
 use studio_config::StudioSpec;
 
-/// The number of octets that are read of standard input before the studio is known.
-// A record begins with its section header and at most 65 interfaces, each of at most 124 octets: 8.1 KiB at most.
-const FRONT_OCTETS: usize = 16_384;
+/// The numbers of octets that are read of standard input before the studio is known: each more if those before it have
+/// no packet.
+// A record begins with its section header and at most 65 interfaces, each of at most 124 octets: 8.1 KiB at most. Tools
+// that edit captures add comments and tables of names there. The last number is more than the longest block that is
+// read, and a bound for the memory that an input without a packet takes.
+const FRONT_OCTETS: [usize; 4] = [16_384, 65_536, 262_144, 1_048_576];
 
-/// More reads than `FRONT_OCTETS` take, each of which brings an octet or the input's end.
-const MAX_READS: u32 = 1_000_000;
+/// As many reads as the last of `FRONT_OCTETS` can take, each of which brings an octet or the input's end.
+const MAX_READS: u32 = 1_048_576;
 
 /// A reader whose first octets were already read.
 #[derive(Drop)]
@@ -47,22 +53,70 @@ impl<R: Read> Read for PeekedInput<'_, R> {
     }
 }
 
-/// Reads the first octets of an input: all of them, if it ends before.
-pub(crate) fn read_front<R: Read>(alloc: Global, input: &mut R) -> Result<Vec<u8>, CommandFault> {
-    let mut front = Vec::with_capacity(alloc, FRONT_OCTETS)?;
+/// The first octets of an input.
+#[derive(Drop)]
+pub(crate) struct InputFront {
+    pub(crate) octets: Vec<u8>,
+    /// True if the first packet or fault of the capture is among them, or if they are all.
+    pub(crate) is_enough: bool,
+}
+
+/// Reads the first octets of an input, up to its first packet or fault, but at most 1,048,576.
+pub(crate) fn read_front<R: Read>(
+    alloc: Global,
+    input: &mut R,
+) -> Result<InputFront, CommandFault> {
+    let mut octets = Vec::new(alloc);
+    let mut is_enough = false;
+    for size in FRONT_OCTETS {
+        if !is_enough {
+            let ended = fill_front(&mut octets, size, input)?;
+            is_enough = ended || has_packet(alloc, octets.as_slice())?;
+        }
+    }
+    Ok(InputFront { octets, is_enough })
+}
+
+/// Returns the fault of an input with these first octets as the command's. If they don't reach to the first packet, the
+/// paths that the record seems to lack may be behind them.
+pub(crate) fn fault_behind(front: &InputFront, fault: CommandFault) -> CommandFault {
+    match fault {
+        CommandFault::Capture(CaptureInputFault::Recording(_)) if !front.is_enough => {
+            CommandFault::Capture(CaptureInputFault::LongFront)
+        }
+        other => other,
+    }
+}
+
+/// Reads an input until this many octets of it are there. Returns true if it ended before.
+fn fill_front<R: Read>(
+    front: &mut Vec<u8>,
+    size: usize,
+    input: &mut R,
+) -> Result<bool, CommandFault> {
     let mut chunk = [0u8; 4096];
     for _ in 0..MAX_READS {
-        let left = FRONT_OCTETS.saturating_sub(front.len()).min(chunk.len());
+        let left = size.saturating_sub(front.len()).min(chunk.len());
         if left == 0 {
-            return Ok(front);
+            return Ok(false);
         }
         match input.read(&mut chunk[..left]) {
-            Ok(0) => return Ok(front),
-            Ok(count) => push_all(&mut front, &chunk[..count])?,
+            Ok(0) => return Ok(true),
+            Ok(count) => push_all(front, &chunk[..count])?,
             Err(_) => return Err(CommandFault::Capture(CaptureInputFault::Unread)),
         }
     }
-    Ok(front)
+    Ok(false)
+}
+
+/// Returns true if no more octets are needed to know what a capture begins with. A fault of the capture is left to what
+/// reads these octets next.
+fn has_packet(alloc: Global, front: &[u8]) -> Result<bool, AllocError> {
+    match has_first_packet(alloc, front) {
+        Ok(reached) => Ok(reached),
+        Err(ReaderFault::Memory) => Err(AllocError),
+        Err(_) => Ok(true),
+    }
 }
 
 /// Appends octets.

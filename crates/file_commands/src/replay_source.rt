@@ -3,7 +3,7 @@ ghost use Rattle.std.specs.Prelude.{◌≡◌, ◌≢◌, ℕ, pos, [], None, If
 ghost use Rattle.studio_config.specs.Shift.{shifted};
 ghost use Rattle.file_commands.specs.ReplayedStudio.{HasGains, IsRecorded};
 
-use crate::capture_flows::routes_at;
+use crate::capture_flows::{RECORD_GAP, routes_at};
 use crate::config::changed_studio;
 use crate::fault::CommandFault;
 use crate::host::{Host, open_capture};
@@ -15,6 +15,9 @@ use pcap_replay::{RecordedChanges, RecordedPath, ReplayObserver, replay, replay_
 use std::alloc::Global;
 use std::io::{Read, Write};
 use studio_config::StudioSpec;
+
+/// The number of sampling instants in a second.
+const INSTANTS_A_SECOND: u64 = 48_000;
 
 /// The kind of a capture, which is known before it is replayed.
 #[derive(Drop)]
@@ -32,6 +35,8 @@ pub(crate) struct ReplaySource {
     kind: CaptureKind,
     /// The rule for the changes of gains of a record.
     changes: RecordedChanges,
+    /// The longest step of a record's clock that is no fault, in sampling instants.
+    longest: u64,
 }
 
 impl ReplaySource {
@@ -49,7 +54,8 @@ impl ReplaySource {
         let studio = &self.studio;
         match &self.kind {
             CaptureKind::Record => {
-                Ok(replay_record(alloc, studio, self.changes, input, output, observer)?)
+                let (changes, longest) = (self.changes, self.longest);
+                Ok(replay_record(alloc, studio, changes, longest, input, output, observer)?)
             }
             CaptureKind::Flows(routes) => {
                 replay(alloc, studio, routes.list(), input, output, observer)?;
@@ -130,6 +136,7 @@ fn flow_source<H: Host>(
         studio,
         kind: flows_at(host, alloc, args)?,
         changes: RecordedChanges::Skipped,
+        longest: longest_step(args),
     })
 }
 
@@ -174,7 +181,15 @@ fn record_by(studio: StudioSpec, args: &ReplayArgs<'_>) -> ReplaySource
         studio,
         kind: CaptureKind::Record,
         changes: recorded_changes(args),
+        longest: longest_step(args),
     }
+}
+
+/// Returns the longest step of a record's clock that is no fault, in sampling instants.
+fn longest_step(args: &ReplayArgs<'_>) -> u64 {
+    args.gap
+        .unwrap_or(RECORD_GAP)
+        .saturating_mul(INSTANTS_A_SECOND)
 }
 
 /// Returns the rule for the changes of gains of a record: a file of gains takes their place.

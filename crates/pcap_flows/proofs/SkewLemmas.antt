@@ -1,11 +1,11 @@
 -- The skew that the elements of a sorted list are.
-use Rattle.std.proofs.Common.{ℕ, ◌≡◌, ◌-◌, ◌/◌, List, [], ◌∷◌, length, slice_get, slice_index_or, ℤ, Option, Some, unwrap_or, sym, ap, subst, ◌∙◌, arith}
+use Rattle.std.proofs.Common.{false, ℕ, ◌≡◌, ◌-◌, ◌/◌, List, [], ◌∷◌, length, slice_get, slice_index_or, ℤ, Option, Some, unwrap_or, sym, ap, subst, ◌∙◌, arith}
 use Rattle.std.proofs.lemmas.Option.{get_or_from_slice_get}
 use Rattle.pcap_flows.specs.declared.skew.Skew.{Skew}
 use Rattle.pcap_flows.specs.Skew.{skew_in}
 
 abbrev some_skew : ℤ → ℤ → ℤ → Option Skew
-some_skew least median greatest = Some (record { least = least; median = median; greatest = greatest })
+some_skew least median greatest = Some (record { least = least; median = median; greatest = greatest; is_part = false })
 
 -- the first element is the least delay, the last one the greatest, and the median is in the middle
 pub skew_is : (sorted : List ℤ) (least median greatest : ℤ) → slice_get sorted 0 ≡ Some least → slice_get sorted ((length sorted - 1) / 2) ≡ Some median → slice_get sorted (length sorted - 1) ≡ Some greatest → some_skew least median greatest ≡ skew_in sorted

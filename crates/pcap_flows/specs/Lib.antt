@@ -13,3 +13,4 @@ pub mod Routes
 pub mod PacketFormat
 pub mod Skew
 pub mod PairTimes
+pub mod CaptureSkews

@@ -1,19 +1,22 @@
 -- The times of the packets of two flows, and the delays of one flow behind the other.
-use Rattle.std.specs.Prelude.{ℕ, ◌||◌, Bool, ℤ, List, [], ◌++◌, set, slice_index_or, Option, Some, None, unwrap_or, option_to_list, max, if◌then◌else◌}
+use Rattle.std.specs.Prelude.{ℕ, ◌||◌, Bool, ℤ, List, [], ◌∷◌, ◌++◌, length, nat_lt, set, slice_index_or, Option, Some, None, unwrap_or, max, if◌then◌else◌}
 use Rattle.pcap_flows.specs.declared.packet.FlowPacket.{FlowPacket}
 use Rattle.pcap_flows.specs.declared.pair_times.FlowPair.{FlowPair}
 use Rattle.pcap_flows.specs.declared.pair_times.PairTimes.{PairTimes}
 use Rattle.pcap_flows.specs.declared.skew.Times.{Times}
+use Rattle.pcap_flows.specs.declared.skew.DelayBounds.{DelayBounds}
 use Rattle.pcap_flows.specs.FlowPacket.{same_flow}
 use Rattle.pcap_flows.specs.ReceivedNumbers.{first_number, number_near}
-use Rattle.pcap_flows.specs.Skew.{no_times, no_numbers, times_for, times_with, delay_added}
+use Rattle.pcap_flows.specs.Skew.{bounds_with, no_times, no_numbers, times_for, times_with, delay_added}
 
--- what was seen of a pair: the greatest number so far, for each 16 bits the times of their last number, and the delays
+-- what was seen of a pair: the greatest number so far, for each 16 bits the times of their last number, the first 262,144
+-- delays, and the bounds of the others
 pub record PairView : Type 0 where
   pub pair : FlowPair
   pub greatest : Option ℕ
   pub times : List Times
   pub delays : List ℤ
+  pub others : Option DelayBounds
 
 -- the extended number of a packet
 abbrev pub number_after : Option ℕ → ℕ → ℕ
@@ -22,15 +25,24 @@ number_after (Some greatest) seq = number_near greatest seq
 
 -- nothing was seen
 abbrev pub pair_begun : FlowPair → PairView
-pair_begun pair = record { pair = pair; greatest = None; times = no_numbers; delays = [] }
+pair_begun pair = record { pair = pair; greatest = None; times = no_numbers; delays = []; others = None }
 
 -- a number was seen
 abbrev pub pair_numbered : PairView → ℕ → PairView
-pair_numbered p number = record { pair = p.pair; greatest = Some (max (unwrap_or p.greatest number) number); times = p.times; delays = p.delays }
+pair_numbered p number = record { pair = p.pair; greatest = Some (max (unwrap_or p.greatest number) number); times = p.times; delays = p.delays; others = p.others }
+
+-- a delay is added to those that are kept, or to the bounds of the others
+abbrev pub pair_delayed : PairView → Option ℤ → PairView
+pair_delayed p None = p
+pair_delayed p (Some delay) =
+    if nat_lt (length p.delays) 262_144
+    then record { pair = p.pair; greatest = p.greatest; times = p.times; delays = p.delays ++ delay ∷ []; others = p.others }
+    else record { pair = p.pair; greatest = p.greatest; times = p.times; delays = p.delays; others = Some (bounds_with p.others delay) }
 
 -- a packet's time takes the place of `before`, the times of its number so far
 abbrev pub pair_set : PairView → ℕ → Times → Times → PairView
-pair_set p seq before after = record { pair = p.pair; greatest = p.greatest; times = set p.times seq after; delays = p.delays ++ option_to_list (delay_added before after) }
+pair_set p seq before after =
+    pair_delayed (record { pair = p.pair; greatest = p.greatest; times = set p.times seq after; delays = p.delays; others = p.others }) (delay_added before after)
 
 abbrev pub pair_before : PairView → ℕ → Bool → ℕ → Times → PairView
 pair_before p seq on_first time before = pair_set p seq before (times_with before on_first time)
@@ -52,4 +64,4 @@ pair_with p packet =
 
 -- the view of the value in the code
 abbrev pub pair_view : PairTimes → PairView
-pair_view p = record { pair = p.pair; greatest = p.greatest; times = p.times.items; delays = p.delays.items }
+pair_view p = record { pair = p.pair; greatest = p.greatest; times = p.times.items; delays = p.delays.items; others = p.others }

@@ -1,10 +1,11 @@
 -- The skew of two paths: the delays of the packets of one behind the same ones on the other (SMPTE ST 2022-7).
-use Rattle.std.specs.Prelude.{◌≡◌, ℕ, ◌/◌, Bool, true, false, ℤ, pos, ◌-ℤ◌, List, [], ◌∷◌, length, replicate, slice_index_or, Option, Some, None, unwrap_or, is_some, ◌==◌, if◌then◌else◌}
+use Rattle.std.specs.Prelude.{◌≡◌, ℕ, ◌/◌, Bool, true, false, ℤ, pos, ◌-ℤ◌, int_lt, List, [], ◌∷◌, length, replicate, slice_index_or, Option, Some, None, unwrap_or, is_some, ◌==◌, if◌then◌else◌}
 use Rattle.std.specs.Int.{w64, saturate_signed}
 use Rattle.std.specs.List.Sorted.{IsPermutation, IsSorted}
 use Rattle.std.specs.Ordering.{int_cmp}
 use Rattle.pcap_flows.specs.declared.skew.Skew.{Skew}
 use Rattle.pcap_flows.specs.declared.skew.Times.{Times}
+use Rattle.pcap_flows.specs.declared.skew.DelayBounds.{DelayBounds}
 
 -- the delay of the second path's packet behind the first path's, in nanoseconds; negative if the second is earlier, and
 -- at most what 64 bits with a sign can say
@@ -19,14 +20,38 @@ skew_in (delay ∷ more) = Some (record {
   least = delay;
   median = slice_index_or (delay ∷ more) (length more / 2) delay;
   greatest = slice_index_or (delay ∷ more) (length more) delay;
+  is_part = false;
 })
 
--- the skew is that of these delays, in whichever order they came
-pub record IsSkewOf (delays : List ℤ) (skew : Option Skew) : Type 0 where
+-- the lesser and the greater of two delays
+abbrev pub lesser : ℤ → ℤ → ℤ
+lesser one other = if int_lt other one then other else one
+
+abbrev pub greater : ℤ → ℤ → ℤ
+greater one other = if int_lt one other then other else one
+
+-- the bounds of delays with one more
+abbrev pub bounds_with : Option DelayBounds → ℤ → DelayBounds
+bounds_with None delay = record { least = delay; greatest = delay }
+bounds_with (Some bounds) delay = record { least = lesser bounds.least delay; greatest = greater bounds.greatest delay }
+
+-- the skew of some delays, and of others of which only the bounds are known: the median is that of the first alone
+abbrev pub skew_within : Option DelayBounds → Option Skew → Option Skew
+skew_within None skew = skew
+skew_within (Some bounds) None = None
+skew_within (Some bounds) (Some skew) = Some (record {
+  least = lesser skew.least bounds.least;
+  median = skew.median;
+  greatest = greater skew.greatest bounds.greatest;
+  is_part = true;
+})
+
+-- the skew is that of these delays, in whichever order they came, and of others with these bounds
+pub record IsSkewOf (delays : List ℤ) (others : Option DelayBounds) (skew : Option Skew) : Type 0 where
   pub in_order : List ℤ
   pub same : IsPermutation delays in_order
   pub ascending : IsSorted int_cmp in_order
-  pub is : skew ≡ skew_in in_order
+  pub is : skew ≡ skew_within others (skew_in in_order)
 
 -- no packet with a number yet
 abbrev pub no_times : ℕ → Times

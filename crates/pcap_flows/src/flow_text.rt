@@ -2,6 +2,7 @@
 use crate::flow::{Flow, Lengths, Steps};
 use crate::packet::FlowKey;
 use crate::packet_format::channels_that_fit;
+use crate::pair_times::MAX_DELAYS;
 use crate::skew::Skew;
 use crate::stream_list::StreamList;
 use crate::streams::{FlowPath, StreamFlows};
@@ -239,11 +240,14 @@ fn push_behind(
     push_skew(text, skew)
 }
 
-/// Appends a path's skew.
+/// Appends a path's skew. Of a capture with more packets than delays are kept it says so.
 fn push_skew(text: &mut String, skew: &Skew) -> Result<(), AllocError> {
     push_time(text, "least", skew.least)?;
     push_time(text, ", median", skew.median)?;
     push_time(text, ", greatest", skew.greatest)?;
+    if skew.is_part {
+        write!(text, "; median of the first {MAX_DELAYS}")?;
+    }
     text.push_str("\n")
 }
 

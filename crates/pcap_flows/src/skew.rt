@@ -14,6 +14,17 @@ pub(crate) struct Skew {
     pub median: i64,
     /// The greatest delay.
     pub greatest: i64,
+    /// True if there are more delays than are kept, so that the median is that of the first ones.
+    pub is_part: bool,
+}
+
+/// The bounds of delays that are not kept.
+#[derive(Clone, Copy)]
+pub(crate) struct DelayBounds {
+    /// The least delay.
+    pub least: i64,
+    /// The greatest delay.
+    pub greatest: i64,
 }
 
 /// The times of the first packet with a number on each of the two paths.
@@ -118,5 +129,52 @@ pub(crate) fn skew_in(sorted: &[i64]) -> Option<Skew>
         least,
         median,
         greatest,
+        is_part: false,
     })
+}
+
+/// Returns the bounds of delays with one more.
+pub(crate) fn bounds_with(bounds: Option<DelayBounds>, delay: i64) -> DelayBounds
+    ensures { result ≡ spec.bounds_with bounds delay }
+{
+    match bounds {
+        Some(bounds) => DelayBounds {
+            least: lesser(bounds.least, delay),
+            greatest: greater(bounds.greatest, delay),
+        },
+        None => DelayBounds {
+            least: delay,
+            greatest: delay,
+        },
+    }
+}
+
+/// Returns the skew of some delays and of others with these bounds.
+pub(crate) fn skew_within(others: Option<DelayBounds>, skew: Option<Skew>) -> Option<Skew>
+    ensures { result ≡ spec.skew_within others skew }
+{
+    let Some(bounds) = others else {
+        return skew;
+    };
+    let skew = skew?;
+    Some(Skew {
+        least: lesser(skew.least, bounds.least),
+        median: skew.median,
+        greatest: greater(skew.greatest, bounds.greatest),
+        is_part: true,
+    })
+}
+
+/// Returns the lesser of two delays.
+fn lesser(one: i64, other: i64) -> i64
+    ensures { result ≡ spec.lesser one other }
+{
+    if other < one { other } else { one }
+}
+
+/// Returns the greater of two delays.
+fn greater(one: i64, other: i64) -> i64
+    ensures { result ≡ spec.greater one other }
+{
+    if one < other { other } else { one }
 }

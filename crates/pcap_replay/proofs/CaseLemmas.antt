@@ -26,6 +26,10 @@ pub ok_both : {X E : Type 0} (r : Result X E) (P Q R : Type 0) → (P → Q → 
 ok_both (Ok x) P Q R f p q = f p q
 ok_both (Err e) P Q R f p q = tt
 
+pub ok_all : {X E : Type 0} (r : Result X E) (P Q R S : Type 0) → (P → Q → R → S) → OnOk r P → OnOk r Q → OnOk r R → OnOk r S
+ok_all (Ok x) P Q R S f p q s = f p q s
+ok_all (Err e) P Q R S f p q s = tt
+
 -- a fault is returned as it was
 pub told : {T : Type 0} (P : ReplayFault → Type 0) (fault : ReplayFault) (r : Result T ReplayFault) → IsErrAnd r (λ answer. answer ≡ fault) → P fault → IfErr r P
 told P fault (Ok it) is holds = absurd is

@@ -23,7 +23,7 @@ use Rattle.studio_run.specs.StudioReport.{IsReport}
 use Rattle.studio_run.proofs.BufferLemmas.{BreaksOff-finished, BreaksOff-later, PassesOn-finished, PassesOn-trans}
 use Rattle.studio_run.proofs.StudioReportLemmas.{report_alone}
 use Rattle.pcap_replay.specs.declared.fault.ReplayFault.{ReplayFault}
-use Rattle.pcap_replay.specs.declared.fault.ReplayFault.TheVariants.{Memory, Capture, Run as RunOf, Change, TooManyEvents, Write}
+use Rattle.pcap_replay.specs.declared.fault.ReplayFault.TheVariants.{Memory, Capture, Run as RunOf, Change, Jump, TooManyEvents, Write}
 use Rattle.pcap_replay.specs.declared.state.ReplayState.{ReplayState}
 use Rattle.pcap_replay.specs.Lines.{Hearing}
 use Rattle.pcap_replay.specs.Events.{events_told, file_events}
@@ -73,6 +73,8 @@ ends_whole studio plan first a b c H run (Capture fault) other s rest = ends_fro
 ends_whole studio plan first a b c H run (RunOf fault) other s rest = ends_front studio plan first a b c H run (RunOf fault) s (inl (broke_whole (changed_by studio plan s.changed) s.stops.events a b c H run s.stops.at rest))
 ends_whole studio plan first a b c H run (Change number why) other s rest =
     ends_front studio plan first a b c H run (Change number why) s (inl (broke_whole (changed_by studio plan s.changed) s.stops.events a b c H run s.stops.at rest))
+ends_whole studio plan first a b c H run (Jump place seconds) other s rest =
+    ends_front studio plan first a b c H run (Jump place seconds) s (inl (broke_whole (changed_by studio plan s.changed) s.stops.events a b c H run s.stops.at rest))
 ends_whole studio plan first a b c H run TooManyEvents other s rest = ends_front studio plan first a b c H run TooManyEvents s (inl (broke_whole (changed_by studio plan s.changed) s.stops.events a b c H run s.stops.at rest))
 ends_whole studio plan first a b c H run Write other s rest = absurd (other refl)
 
@@ -82,6 +84,7 @@ held_at studio events a b H run Memory other at = absurd at
 held_at studio events a b H run (Capture fault) other at = at
 held_at studio events a b H run (RunOf fault) other at = at
 held_at studio events a b H run (Change number why) other at = at
+held_at studio events a b H run (Jump place seconds) other at = at
 held_at studio events a b H run TooManyEvents other at = at
 held_at studio events a b H run Write other at = absurd (other refl)
 

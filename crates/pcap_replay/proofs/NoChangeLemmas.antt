@@ -32,7 +32,7 @@ by_place from number packet (stream ∷ streams) place =
     by_if (nat_lt place stream.paths) from packet (role.Arrival (record { stream = number; path = place })) (role_at Skipped (number + 1) streams (place - stream.paths)) refl
     (by_place from (number + 1) packet streams (place - stream.paths))
 
-pub skipped_change_none : (studio : Studio) (packets : List PacketView) → changes_of (places_of studio Skipped) packets ≡ []
-skipped_change_none studio [] = refl
-skipped_change_none studio (packet ∷ packets) =
-    ap (λ l. l ++ changes_of (places_of studio Skipped) packets) (by_place (natural studio.open_at) 0 packet studio.streams packet.interface) ∙ skipped_change_none studio packets
+pub skipped_change_none : (studio : Studio) (longest : ℕ) (packets : List PacketView) → changes_of (places_of studio Skipped longest) packets ≡ []
+skipped_change_none studio longest [] = refl
+skipped_change_none studio longest (packet ∷ packets) =
+    ap (λ l. l ++ changes_of (places_of studio Skipped longest) packets) (by_place (natural studio.open_at) 0 packet studio.streams packet.interface) ∙ skipped_change_none studio longest packets

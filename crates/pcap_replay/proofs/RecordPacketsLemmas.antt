@@ -142,7 +142,7 @@ module _ (clock : CaptureClock) (origin : clock.origin ≡ Some 0) (n : ℕ) (no
   unfolding clock_with
   counts_on = ap (λ o. Some (unwrap_or o n)) origin
 
-module _ (studio : Studio) (low : pos 0 ≤ℤ studio.open_at) where
+module _ (studio : Studio) (longest : ℕ) (low : pos 0 ≤ℤ studio.open_at) where
   opening : pos (natural studio.open_at) ≡ studio.open_at
   opening = its studio.open_at low
     where
@@ -166,7 +166,7 @@ module _ (studio : Studio) (low : pos 0 ≤ℤ studio.open_at) where
   -- the events of packets and a close, after some
   abbrev said_after : CaptureClock → List TraceEvent → List PacketView → Option ℕ → List TraceEvent
   said_after clock events packets closing =
-      read_at studio.open_at (natural studio.open_at) (events_after studio.open_at (places_of studio Taken) clock events packets) (clock_after (places_of studio Taken) clock packets).reading (clock_with (clock_after (places_of studio Taken) clock packets) closing).reading ++ Closing ∷ []
+      read_at studio.open_at (natural studio.open_at) (events_after studio.open_at (places_of studio Taken longest) clock events packets) (clock_after (places_of studio Taken longest) clock packets).reading (clock_with (clock_after (places_of studio Taken longest) clock packets) closing).reading ++ Closing ∷ []
 
   -- one packet more, of a role
   one_more : (clock : CaptureClock) (events : List TraceEvent) (packet : PacketView) (packets : List PacketView) (closing : Option ℕ) (its : PacketRole) → role_at Taken 0 studio.streams packet.interface ≡ its
@@ -255,7 +255,7 @@ module _ (studio : Studio) (low : pos 0 ≤ℤ studio.open_at) where
       ∙ ap (λ l. before ++ l) (sym (going_stays (studio.open_at +ℤ pos clock.reading) time (Changes when gains) steps (kept_events steps) refl refl))
 
   pub run_said : (steps : List Step) (packets : List PacketView) (closing : Option ℕ) → session_fault_of studio (events_in steps) ≡ None → AreRising studio.open_at (events_in steps) → AreRecorded studio studio.open_at steps packets closing
-      → replay_events studio (places_of studio Taken) packets closing ≡ kept_events steps
+      → replay_events studio (places_of studio Taken longest) packets closing ≡ kept_events steps
   unfolding clock_with
   run_said steps packets closing none rising recorded =
       let start : studio.open_at ≡ studio.open_at +ℤ pos 0 = omega (arith, ints) in
@@ -263,23 +263,23 @@ module _ (studio : Studio) (low : pos 0 ≤ℤ studio.open_at) where
       ∙ ap (λ l. kept_events (l ++ steps)) (going_same (studio.open_at +ℤ pos 0) studio.open_at (sym start))
 
   -- the changes of the packets
-  nothing_left : (steps : List Step) (packets : List PacketView) → steps ≡ [] → packets ≡ [] → changes_of (places_of studio Taken) packets ≡ changes_in steps
-  nothing_left steps packets e f = ap (changes_of (places_of studio Taken)) f ∙ sym (ap changes_in e)
+  nothing_left : (steps : List Step) (packets : List PacketView) → steps ≡ [] → packets ≡ [] → changes_of (places_of studio Taken longest) packets ≡ changes_in steps
+  nothing_left steps packets e f = ap (changes_of (places_of studio Taken longest)) f ∙ sym (ap changes_in e)
 
   changes_after : (steps : List Step) (packets : List PacketView) (closing : Option ℕ) (p : ℕ) (time : ℤ) → session_fault_from studio.streams p time false (events_in steps) ≡ None
-      → AreRecorded studio time steps packets closing → changes_of (places_of studio Taken) packets ≡ changes_in steps
+      → AreRecorded studio time steps packets closing → changes_of (places_of studio Taken longest) packets ≡ changes_in steps
   changes_after [] packets closing p time none recorded = absurd recorded
   changes_after (Happens (Tick u) ∷ steps) packets closing p time none recorded =
       changes_after steps packets closing (suc p) u (later_none (event_fault studio.streams p time false (Tick u)) _ none) recorded
   changes_after (Happens Closing ∷ steps) packets closing p time none recorded = nothing_left steps packets recorded.0 recorded.1
   changes_after (Happens (Arrival stream path octets) ∷ steps) [] closing p time none recorded = absurd recorded
   changes_after (Happens (Arrival stream path octets) ∷ steps) (packet ∷ packets) closing p time none recorded =
-      ap (λ o. changes_with (natural studio.open_at) packet o ++ changes_of (places_of studio Taken) packets) (role_is p time stream path octets (events_in steps) packet none recorded.0)
+      ap (λ o. changes_with (natural studio.open_at) packet o ++ changes_of (places_of studio Taken longest) packets) (role_is p time stream path octets (events_in steps) packet none recorded.0)
       ∙ changes_after steps packets closing (suc p) time (later_none (event_fault studio.streams p time false (Arrival stream path octets)) _ none) recorded.1
   changes_after (Changes when gains ∷ steps) [] closing p time none recorded = absurd recorded
   changes_after (Changes when gains ∷ steps) (packet ∷ packets) closing p time none recorded =
       let its = recorded.0 in
-      let rest = changes_of (places_of studio Taken) packets in
+      let rest = changes_of (places_of studio Taken longest) packets in
       let same : pos (natural studio.open_at) +ℤ (when -ℤ studio.open_at) ≡ when = omega (arith, ints, opening) in
       ap (λ o. changes_with (natural studio.open_at) packet o ++ rest) (ap (role_at Taken 0 studio.streams) its.interface ∙ role_of_total 0 studio.streams)
       ∙ ap (λ o. changes_by (natural studio.open_at) o ++ rest) its.payload
@@ -287,7 +287,7 @@ module _ (studio : Studio) (low : pos 0 ≤ℤ studio.open_at) where
       ∙ ap (λ l. (when, gains) ∷ l) (changes_after steps packets closing p time none recorded.1)
 
   pub changes_said : (steps : List Step) (packets : List PacketView) (closing : Option ℕ) → session_fault_of studio (events_in steps) ≡ None → AreRecorded studio studio.open_at steps packets closing
-      → changes_of (places_of studio Taken) packets ≡ changes_in steps
+      → changes_of (places_of studio Taken longest) packets ≡ changes_in steps
   changes_said steps packets closing none recorded = changes_after steps packets closing 0 studio.open_at none recorded
 
 -- events alone are steps
@@ -309,10 +309,10 @@ kept_back (Tick time ∷ events) =
     ∙ ap (λ l. if begin_with_tick events then l else Tick time ∷ l) (kept_back events)
 kept_back (Closing ∷ events) = ap (λ l. Closing ∷ l) (kept_back events)
 
-pub run_unchanged : (studio : Studio) (events : List TraceEvent) (packets : List PacketView) (closing : Option ℕ) → pos 0 ≤ℤ studio.open_at → session_fault_of studio events ≡ None → AreRising studio.open_at events
-    → AreRecorded studio studio.open_at (map Happens events) packets closing → replay_events studio (places_of studio Taken) packets closing ≡ pruned_events events
-run_unchanged studio events packets closing low none rising recorded =
-    run_said studio low (map Happens events) packets closing (subst (λ l. session_fault_of studio l ≡ None) (sym (events_back events)) none)
+pub run_unchanged : (studio : Studio) (longest : ℕ) (events : List TraceEvent) (packets : List PacketView) (closing : Option ℕ) → pos 0 ≤ℤ studio.open_at → session_fault_of studio events ≡ None → AreRising studio.open_at events
+    → AreRecorded studio studio.open_at (map Happens events) packets closing → replay_events studio (places_of studio Taken longest) packets closing ≡ pruned_events events
+run_unchanged studio longest events packets closing low none rising recorded =
+    run_said studio longest low (map Happens events) packets closing (subst (λ l. session_fault_of studio l ≡ None) (sym (events_back events)) none)
     (subst (AreRising studio.open_at) (sym (events_back events)) rising) recorded
     ∙ kept_back events
 

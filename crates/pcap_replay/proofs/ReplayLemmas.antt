@@ -1,5 +1,5 @@
 -- The part of a report that was written so far.
-use Rattle.std.proofs.Common.{◌≡◌, inl, inr, ◌<◌, ℕ, Bool, List, [], ◌∷◌, ◌++◌, length, map, take, Option, None, option_map, IfSome, Result, Ok, Err, IfErr, refl, sym, ap, subst, ◌∙◌, append-nil}
+use Rattle.std.proofs.Common.{◌≡◌, inl, inr, ◌+◌, ◌<◌, ◌≤◌, ℕ, Bool, List, [], ◌∷◌, ◌++◌, length, map, take, Option, None, option_map, IfSome, Result, Ok, Err, IfErr, refl, sym, ap, subst, ◌∙◌, append-nil}
 use Rattle.std.specs.Prelude.{⊤}
 use Rattle.std.specs.Io.KnownBytes.{Appends}
 use Rattle.std.proofs.Math.Seq.{take-length}
@@ -24,12 +24,13 @@ use Rattle.studio_run.specs.Buffer.{BreaksOff, PassesOn}
 use Rattle.studio_run.specs.Listing.{datagrams_text}
 use Rattle.studio_run.proofs.BufferLemmas.{BreaksOff-finished, BreaksOff-later, PassesOn-none, PassesOn-finished, PassesOn-trans}
 use Rattle.pcap_replay.specs.declared.fault.ReplayFault.{ReplayFault}
-use Rattle.pcap_replay.specs.declared.fault.ReplayFault.TheVariants.{Memory, Capture, Run as RunOf, Change, TooManyEvents, Write}
+use Rattle.pcap_replay.specs.declared.fault.ReplayFault.TheVariants.{Memory, Capture, Run as RunOf, Change, Jump, TooManyEvents, Write}
 use Rattle.pcap_replay.specs.declared.state.ReplayState.{ReplayState}
 use Rattle.pcap_replay.specs.Lines.{BreaksLines, Hearing}
 use Rattle.pcap_replay.specs.Replay.{BeginsWith, BreaksAt, EndsAt, HasBegun, HasComeToClose, HasGoneOver, HasHeardFirst, HasReplayed, HasTaken, IsReason, IsReplaying, IsRun, IsOwn, Stops, StopsAt, StopsFile}
 use Rattle.pcap_replay.specs.Events.{AreFirst, clock_after, clock_of, closed_events, events_of, events_told, events_with, read_at}
-use Rattle.pcap_replay.specs.Routing.{PlanView, Flows, Interfaces, clock_before, clock_past, closing_of, opening_of, role_of}
+use Rattle.pcap_replay.specs.Routing.{PlanView, Flows, Interfaces, clock_before, clock_past, closing_of, longest_of, opening_of, role_of}
+use Rattle.pcap_replay.specs.Steady.{AreSteady, IsSteady}
 use Rattle.pcap_replay.specs.Record.{closing_in, closing_with}
 use Rattle.studio_mix.specs.Changed.{with_changes}
 use Rattle.pcap_replay.specs.RecordChanges.{changed_by, changes_with}
@@ -98,6 +99,7 @@ stops_at_run studio events a b H run Memory kind r = absurd kind
 stops_at_run studio events a b H run (Capture fault) kind r = absurd kind
 stops_at_run studio events a b H run (RunOf fault) kind r = r
 stops_at_run studio events a b H run (Change number why) kind r = r
+stops_at_run studio events a b H run (Jump place seconds) kind r = r
 stops_at_run studio events a b H run TooManyEvents kind r = r
 stops_at_run studio events a b H run Write kind r = absurd kind
 
@@ -119,6 +121,7 @@ own_of Memory kind = absurd kind
 own_of (Capture fault) kind = absurd kind
 own_of (RunOf fault) kind = tt
 own_of (Change number why) kind = tt
+own_of (Jump place seconds) kind = tt
 own_of TooManyEvents kind = tt
 own_of Write kind = absurd kind
 
@@ -160,14 +163,15 @@ begins_cut file entries is = record {
 
 pub begins_ended : (plan : PlanView) (file : List ℕ) (entries : List Entry) → EndsAt plan file entries → BeginsWith file entries
 begins_ended (Flows routes) file entries whole = begins_whole file entries whole
-begins_ended (Interfaces streams open_at changes) file entries (inl whole) = begins_whole file entries whole
-begins_ended (Interfaces streams open_at changes) file entries (inr cut) = begins_cut file entries cut
+begins_ended (Interfaces streams open_at changes longest) file entries (inl whole) = begins_whole file entries whole
+begins_ended (Interfaces streams open_at changes longest) file entries (inr cut) = begins_cut file entries cut
 
 pub own_reason : (file : List ℕ) (entries : List Entry) (fault : ReplayFault) → IsOwn fault → IsReason file entries fault
 own_reason file entries Memory kind = tt
 own_reason file entries (Capture fault) kind = absurd kind
 own_reason file entries (RunOf fault) kind = tt
 own_reason file entries (Change number why) kind = tt
+own_reason file entries (Jump place seconds) kind = tt
 own_reason file entries TooManyEvents kind = tt
 own_reason file entries Write kind = tt
 
@@ -184,13 +188,23 @@ next_events studio plan packets packet clock is =
     ap (λ k. events_with studio.open_at (opening_of plan) k (events_of studio plan packets) packet (role_of plan packet)) is
     ∙ sym (events_more studio.open_at plan (clock_before plan) [] packets packet)
 
+-- and the clock moved on by a step that is not too long
+steady_more : (plan : PlanView) (clock : CaptureClock) (packets : List PacketView) (packet : PacketView) → AreSteady plan clock packets
+    → (clock_past (clock_after plan clock packets) packet (role_of plan packet)).reading ≤ (clock_after plan clock packets).reading + longest_of plan
+    → AreSteady plan clock (packets ++ packet ∷ [])
+steady_more plan clock [] packet are step = (step, tt)
+steady_more plan clock (next ∷ packets) packet are step = (are.0, steady_more plan (clock_past clock next (role_of plan next)) packets packet are.1 step)
+
 pub taken_more : (studio : Studio) (plan : PlanView) (packets : List PacketView) (packet : PacketView) (a b c : Option (List ℕ)) (H K : Hearing) (old new : ReplayState) → HasTaken studio plan packets a old b H
     → new.clock ≡ clock_past old.clock packet (role_of plan packet)
+    → (clock_past old.clock packet (role_of plan packet)).reading ≤ old.clock.reading + longest_of plan
     → HasReplayed (with_changes (changed_by studio plan packets) (changes_with (opening_of plan) packet (role_of plan packet)))
     (events_with studio.open_at (opening_of plan) old.clock (events_of studio plan packets) packet (role_of plan packet)) a new c K
     → HasTaken studio plan (packets ++ packet ∷ []) a new c K
-taken_more studio plan packets packet a b c H K old new taken clock replayed = record {
+taken_more studio plan packets packet a b c H K old new taken clock step replayed = record {
   clock = clock ∙ ap (λ k. clock_past k packet (role_of plan packet)) taken.clock ∙ sym (clock_more plan (clock_before plan) packets packet);
+  steady = steady_more plan (clock_before plan) packets packet taken.steady
+      (subst (λ (k : CaptureClock). (clock_past k packet (role_of plan packet)).reading ≤ k.reading + longest_of plan) taken.clock step);
   replayed = subst (λ (s : Studio). HasReplayed s (events_of studio plan (packets ++ packet ∷ [])) a new c K) (changed_more studio plan packets packet)
       (subst (λ l. HasReplayed (with_changes (changed_by studio plan packets) (changes_with (opening_of plan) packet (role_of plan packet))) l a new c K)
       (next_events studio plan packets packet old.clock taken.clock) replayed);
@@ -221,7 +235,7 @@ pub replaying_none : (studio : Studio) (plan : PlanView) (first a : Option (List
 replaying_none studio plan first a run parts held ended left H told clock replayed = record {
   entries = [];
   told = told;
-  taken = record { clock = clock; replayed = replayed };
+  taken = record { clock = clock; steady = tt; replayed = replayed };
   closes = refl;
 }
 
@@ -229,17 +243,23 @@ replaying_none studio plan first a run parts held ended left H told clock replay
 closing_same : (plan : PlanView) (entries : List Entry) (told closing : Option ℕ) → closing ≡ closing_of plan told → told ≡ closing_in entries → closing ≡ closing_of plan (closing_in entries)
 closing_same plan entries told closing same closes = same ∙ ap (closing_of plan) closes
 
-pub come_to_close : (studio : Studio) (plan : PlanView) (told closing : Option ℕ) (from : ℕ) (first a b c : Option (List ℕ)) (H K : Hearing) (old new : ReplayState) → from ≡ opening_of plan → closing ≡ closing_of plan told
-    → (gone : HasGoneOver studio plan first a old b H told)
+pub come_to_close : (studio : Studio) (plan : PlanView) (told closing : Option ℕ) (from longest : ℕ) (first a b c : Option (List ℕ)) (H K : Hearing) (old new : ReplayState) → from ≡ opening_of plan → longest ≡ longest_of plan
+    → closing ≡ closing_of plan told → (clock_with old.clock closing).reading ≤ old.clock.reading + longest → (gone : HasGoneOver studio plan first a old b H told)
     → ((changed : Studio) (events : List TraceEvent) → HasReplayed changed events a old b H → HasReplayed changed (read_at changed.open_at from events old.clock.reading (clock_with old.clock closing).reading) a new c K)
     → HasComeToClose studio plan first a new c K
-come_to_close studio plan told closing from first a b c H K old new same closes gone reads =
+come_to_close studio plan told closing from longest first a b c H K old new same limit closes step gone reads =
     let packets = packets_among gone.entries in
     let events = events_of studio plan packets in
     let changed = changed_by studio plan packets in
     record {
       entries = gone.entries;
       told = gone.told;
+      steady = record {
+        each = gone.taken.steady;
+        close = subst (λ (o : Option ℕ). (clock_with (clock_of plan packets) o).reading ≤ (clock_of plan packets).reading + longest_of plan) (closing_same plan gone.entries told closing closes gone.closes)
+            (subst (λ (n : ℕ). (clock_with (clock_of plan packets) closing).reading ≤ (clock_of plan packets).reading + n) limit
+            (subst (λ (k : CaptureClock). (clock_with k closing).reading ≤ k.reading + longest) gone.taken.clock step));
+      };
       replayed = subst (λ o. HasReplayed changed (closed_events studio plan packets o) a new c K) (closing_same plan gone.entries told closing closes gone.closes)
           (subst (λ n. HasReplayed changed (read_at studio.open_at n events (clock_of plan packets).reading (clock_with (clock_of plan packets) closing).reading) a new c K) same
           (subst (λ k. HasReplayed changed (read_at studio.open_at from events k.reading (clock_with k closing).reading) a new c K) gone.taken.clock (reads changed events gone.taken.replayed)));

@@ -1,6 +1,7 @@
 pub mod Flows
 pub mod Routing
 pub mod Events
+pub mod Steady
 pub mod Record
 pub mod RecordChanges
 pub mod RecordPackets

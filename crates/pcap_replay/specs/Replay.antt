@@ -21,11 +21,12 @@ use Rattle.studio_run.specs.Listing.{datagrams_text}
 use Rattle.studio_run.specs.Play.{WritesEvents}
 use Rattle.studio_run.specs.StudioReport.{IsReport}
 use Rattle.pcap_replay.specs.declared.fault.ReplayFault.{ReplayFault}
-use Rattle.pcap_replay.specs.declared.fault.ReplayFault.TheVariants.{Memory, Capture, Run as RunOf, Change, TooManyEvents, Write}
+use Rattle.pcap_replay.specs.declared.fault.ReplayFault.TheVariants.{Memory, Capture, Run as RunOf, Change, Jump, TooManyEvents, Write}
 use Rattle.pcap_replay.specs.declared.state.ReplayState.{ReplayState}
 use Rattle.pcap_replay.specs.Lines.{Hearing}
 use Rattle.pcap_replay.specs.Events.{AreFirst, clock_of, events_of, events_told, file_events}
-use Rattle.pcap_replay.specs.Routing.{PlanView, Flows, Interfaces}
+use Rattle.pcap_replay.specs.Routing.{PlanView, Flows, Interfaces, clock_before, closing_of}
+use Rattle.pcap_replay.specs.Steady.{AreSteady, IsSteady}
 use Rattle.pcap_replay.specs.Record.{closing_in}
 use Rattle.pcap_replay.specs.RecordChanges.{AreAllButLast, changed_by}
 
@@ -70,6 +71,7 @@ StopsAt studio events written run written_then heard Memory = ⊥
 StopsAt studio events written run written_then heard (Capture fault) = HasReplayed studio events written run written_then heard
 StopsAt studio events written run written_then heard (RunOf fault) = HasReplayed studio events written run written_then heard
 StopsAt studio events written run written_then heard (Change number kind) = HasReplayed studio events written run written_then heard
+StopsAt studio events written run written_then heard (Jump place seconds) = HasReplayed studio events written run written_then heard
 StopsAt studio events written run written_then heard TooManyEvents = HasReplayed studio events written run written_then heard
 StopsAt studio events written run written_then heard Write = BreaksAt studio events written written_then heard
 
@@ -86,9 +88,11 @@ pub record BeginsWith (file : List ℕ) (entries : List Entry) : Type 0 where
   pub later : List Entry
   pub all : entries_of file ≡ entries ++ later
 
--- the studio with the changes in these packets took their events, and the clock is the one after them
+-- the studio with the changes in these packets took their events, and the clock is the one after them; no step of it was
+-- too long
 pub record HasTaken (studio : Studio) (plan : PlanView) (packets : List PacketView) (written : Option (List ℕ)) (run : ReplayState) (written_then : Option (List ℕ)) (heard : Hearing) : Type 0 where
   pub clock : run.clock ≡ clock_of plan packets
+  pub steady : AreSteady plan (clock_before plan) packets
   pub replayed : HasReplayed (changed_by studio plan packets) (events_of studio plan packets) written run written_then heard
 
 -- the packets among the file's entries so far were replayed, and `closing` is the time of the close among these entries
@@ -101,7 +105,7 @@ pub record IsReplaying (studio : Studio) (plan : PlanView) (first : Option (List
 -- a file ends behind these entries: it has no fault, or it is a record whose last block is cut
 abbrev pub EndsAt : PlanView → List ℕ → List Entry → Type 0
 EndsAt (Flows routes) file entries = HasEntries file entries
-EndsAt (Interfaces streams open_at changes) file entries = HasEntries file entries ⊎ IsCutBehind file entries
+EndsAt (Interfaces streams open_at changes longest) file entries = HasEntries file entries ⊎ IsCutBehind file entries
 
 -- the packets of a whole file were replayed
 pub record HasGoneOver (studio : Studio) (plan : PlanView) (first : Option (List ℕ)) (written : Option (List ℕ)) (run : ReplayState) (written_then : Option (List ℕ)) (heard : Hearing) (closing : Option ℕ) : Type 0 where
@@ -114,6 +118,7 @@ pub record HasGoneOver (studio : Studio) (plan : PlanView) (first : Option (List
 pub record HasComeToClose (studio : Studio) (plan : PlanView) (first : Option (List ℕ)) (written : Option (List ℕ)) (run : ReplayState) (written_then : Option (List ℕ)) (heard : Hearing) : Type 0 where
   pub entries : List Entry
   pub told : IfSome first (λ file. EndsAt plan file entries)
+  pub steady : IsSteady plan (packets_among entries) (closing_of plan (closing_in entries))
   pub replayed : HasReplayed (changed_by studio plan (packets_among entries)) (events_told studio plan entries) written run written_then heard
 
 -- a fault of the file is the one behind these entries
@@ -128,6 +133,7 @@ IsReason file entries Memory = Unit {0}
 IsReason file entries (Capture fault) = IsFileFault file entries fault
 IsReason file entries (RunOf fault) = Unit {0}
 IsReason file entries (Change number kind) = Unit {0}
+IsReason file entries (Jump place seconds) = Unit {0}
 IsReason file entries TooManyEvents = Unit {0}
 IsReason file entries Write = Unit {0}
 
@@ -148,10 +154,11 @@ pub record HasHeardAll (studio : Studio) (events : List TraceEvent) (heard : Hea
   pub told : heard events datagrams
 
 -- the report of a file's events was written, by the studio with the changes in its packets, and the observer received
--- the events and their datagrams; the file ends behind them
+-- the events and their datagrams; the file ends behind them, and no step of its clock is too long
 pub record WritesReplay (studio : Studio) (plan : PlanView) (left : Option (List ℕ)) (written written_then : Option (List ℕ)) (heard : Hearing) : Type 0 where
   pub entries : List Entry
   pub told : IfSome left (λ file. EndsAt plan file entries)
+  pub steady : IsSteady plan (packets_among entries) (closing_of plan (closing_in entries))
   pub writes : WritesEvents (changed_by studio plan (packets_among entries)) IsReport (file_events studio plan entries) written written_then
   pub hears : HasHeardAll (changed_by studio plan (packets_among entries)) (file_events studio plan entries) heard
 
@@ -178,6 +185,7 @@ BreaksOffReplay studio plan left written written_then heard Memory = (written_th
 BreaksOffReplay studio plan left written written_then heard (Capture fault) = WritesFront studio plan left written written_then heard (Capture fault)
 BreaksOffReplay studio plan left written written_then heard (RunOf fault) = WritesFront studio plan left written written_then heard (RunOf fault)
 BreaksOffReplay studio plan left written written_then heard (Change number kind) = WritesFront studio plan left written written_then heard (Change number kind)
+BreaksOffReplay studio plan left written written_then heard (Jump place seconds) = WritesFront studio plan left written written_then heard (Jump place seconds)
 BreaksOffReplay studio plan left written written_then heard TooManyEvents = WritesFront studio plan left written written_then heard TooManyEvents
 BreaksOffReplay studio plan left written written_then heard Write = WritesFront studio plan left written written_then heard Write
 
@@ -189,21 +197,23 @@ EndsBehind held written written_then fault result =
     ⊎ ((fault ≢ Write) × (((result ≡ fault) × Appends written written_then held)
     ⊎ ((result ≡ Write) × ((n : ℕ) × (n < length held) × Appends written written_then (take n held)))))
 
--- the fault is that of an event or of a change of gains, or there are too many events
+-- the fault is that of an event, of a change of gains or of a time, or there are too many events
 abbrev pub IsRun : ReplayFault → Type 0
 IsRun Memory = ⊥
 IsRun (Capture fault) = ⊥
 IsRun (RunOf fault) = Unit {0}
 IsRun (Change number kind) = Unit {0}
+IsRun (Jump place seconds) = Unit {0}
 IsRun TooManyEvents = Unit {0}
 IsRun Write = ⊥
 
--- the fault is that of an event or of a change of gains, there are too many events, or a write failed
+-- the fault is that of an event, of a change of gains or of a time, there are too many events, or a write failed
 abbrev pub IsOwn : ReplayFault → Type 0
 IsOwn Memory = ⊥
 IsOwn (Capture fault) = ⊥
 IsOwn (RunOf fault) = Unit {0}
 IsOwn (Change number kind) = Unit {0}
+IsOwn (Jump place seconds) = Unit {0}
 IsOwn TooManyEvents = Unit {0}
 IsOwn Write = Unit {0}
 

@@ -1,5 +1,5 @@
 -- The path to which each datagram of a capture goes, and the time from which clock readings count.
-use Rattle.std.specs.Prelude.{ℕ, ◌+◌, ◌-◌, nat_lt, ◌==◌, List, [], ◌∷◌, Option, Some, None, if◌then◌else◌}
+use Rattle.std.specs.Prelude.{ℕ, ◌+◌, ◌-◌, ◌^◌, nat_lt, ◌==◌, List, [], ◌∷◌, Option, Some, None, if◌then◌else◌}
 use Rattle.pcap_file.specs.Packet.{PacketView}
 use Rattle.pcap_flows.specs.declared.import.clock.CaptureClock.{CaptureClock}
 use Rattle.pcap_flows.specs.declared.routes.Route.{Route}
@@ -16,16 +16,16 @@ use Rattle.pcap_replay.specs.declared.changes.RecordedChanges.{RecordedChanges}
 use Rattle.pcap_replay.specs.declared.changes.RecordedChanges.TheVariants.{Taken, Skipped}
 
 -- the routing of a capture: flows have routes, and readings count from the first time; or interfaces are the places of
--- these streams' paths, readings count from an opening time, in sampling instants, and changes of gains are taken or
--- skipped
+-- these streams' paths, readings count from an opening time, in sampling instants, changes of gains are taken or
+-- skipped, and the clock moves on by at most this many sampling instants at once
 pub data PlanView : Type 0 where
   Flows : List Route → PlanView
-  Interfaces : List Stream → ℕ → RecordedChanges → PlanView
+  Interfaces : List Stream → ℕ → RecordedChanges → ℕ → PlanView
 
 -- the view of the value in the code
 abbrev pub plan_view : declared.Routing → PlanView
 plan_view (plan.Flows routes) = Flows routes.now
-plan_view (plan.Interfaces streams open_at changes) = Interfaces streams.now open_at changes
+plan_view (plan.Interfaces streams open_at changes longest) = Interfaces streams.now open_at changes longest
 
 -- the path with a letter, which is `a`, 97, for path 0
 abbrev pub path_of : ℕ → ℕ
@@ -52,22 +52,28 @@ role_of_route (Some route) = role.Arrival (record { stream = route.stream; path 
 -- the role of a packet: by its flow's route, or by its interface
 abbrev pub role_of : PlanView → PacketView → PacketRole
 role_of (Flows routes) packet = role_of_route (route_of routes packet)
-role_of (Interfaces streams open_at changes) packet = role_at changes 0 streams packet.interface
+role_of (Interfaces streams open_at changes longest) packet = role_at changes 0 streams packet.interface
 
 -- the time from which readings count
 abbrev pub opening_of : PlanView → ℕ
 opening_of (Flows routes) = 0
-opening_of (Interfaces streams open_at changes) = open_at
+opening_of (Interfaces streams open_at changes longest) = open_at
+
+-- the longest step of the clock that is no fault, in sampling instants: of a capture that is no record any step, since
+-- its times were tested before
+abbrev pub longest_of : PlanView → ℕ
+longest_of (Flows routes) = 2 ^ 64 - 1
+longest_of (Interfaces streams open_at changes longest) = longest
 
 -- the clock before the first packet: it counts from the first time, or from time 0
 abbrev pub clock_before : PlanView → CaptureClock
 clock_before (Flows routes) = clock_begun
-clock_before (Interfaces streams open_at changes) = clock_with clock_begun (Some 0)
+clock_before (Interfaces streams open_at changes longest) = clock_with clock_begun (Some 0)
 
 -- the time of the close by the marks, which counts only in a record
 abbrev pub closing_of : PlanView → Option ℕ → Option ℕ
 closing_of (Flows routes) told = None
-closing_of (Interfaces streams open_at changes) told = told
+closing_of (Interfaces streams open_at changes longest) told = told
 
 -- the clock after a packet; a packet that goes nowhere does not move it
 abbrev pub clock_past : CaptureClock → PacketView → PacketRole → CaptureClock
@@ -77,5 +83,5 @@ clock_past clock packet role.Change = clock_with clock packet.time
 
 -- the routing of a record of this studio's run: interfaces are the places of its paths, and readings count from its
 -- opening
-abbrev pub places_of : Studio → RecordedChanges → PlanView
-places_of studio changes = Interfaces studio.streams (natural studio.open_at) changes
+abbrev pub places_of : Studio → RecordedChanges → ℕ → PlanView
+places_of studio changes longest = Interfaces studio.streams (natural studio.open_at) changes longest

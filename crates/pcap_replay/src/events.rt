@@ -33,7 +33,7 @@ ghost use Rattle.studio_session.specs.Event.{TraceEvent, Arrival};
 ghost use Rattle.pcap_replay.specs.Events.{events_of, events_with, read_at};
 ghost use Rattle.studio_mix.specs.Changed.{with_changes};
 ghost use Rattle.pcap_replay.specs.RecordChanges.{changed_by, changes_with};
-ghost use Rattle.pcap_replay.specs.Routing.{clock_past, opening_of, plan_view, role_of};
+ghost use Rattle.pcap_replay.specs.Routing.{clock_past, longest_of, opening_of, plan_view, role_of};
 ghost use Rattle.pcap_replay.specs.Record.{closing_with};
 ghost use Rattle.pcap_replay.specs.Replay.{
   HasGoneOver,
@@ -52,7 +52,7 @@ use crate::fault::ReplayFault;
 use crate::observer::ReplayObserver;
 use crate::output::write_turn;
 use crate::record_times::first_close;
-use crate::routing::{PacketRole, Routing, StreamPath};
+use crate::routing::{PacketRole, ReadingRule, Routing, StreamPath};
 use crate::state::ReplayState;
 use path_merge::clock_fault;
 use pcap_file::{
@@ -64,9 +64,12 @@ use std::io::{Read, Write};
 use studio_engine::{ArriveFault, Engine};
 use studio_session::StudioFault;
 
+/// The number of sampling instants in a second.
+const INSTANTS_A_SECOND: u64 = 48_000;
+
 impl ReplayState {
     /// Takes the events of the rest of a capture, up to its end. Returns the time of the first mark of a close,
-    /// if there is one, in nanoseconds from the studio's opening on.
+    /// if there is one, in nanoseconds from the studio's opening on, and the number of octets before that mark's block.
     pub(crate) fn run_events<R: Read, W: Write, L: ReplayObserver>(
         &mut self,
         plan: &Routing<'_>,
@@ -75,14 +78,14 @@ impl ReplayState {
         reader: &mut R,
         writer: &mut W,
         observer: &mut L,
-    ) -> Result<Option<u64>, ReplayFault>
+    ) -> Result<(Option<u64>, usize), ReplayFault>
         ensures ok { IfOk result
-            (λ closing. (studio : Studio) (first : Option (List ℕ)) (written : Option (List ℕ)) (begun : L)
+            (λ ended. (studio : Studio) (first : Option (List ℕ)) (written : Option (List ℕ)) (begun : L)
             → IsReplaying studio (plan_view plan.now) first written self.old parts.old
             (octets_of window.old) window.old.ended (R.remaining reader.old) (W.contents writer.old)
             (L.heard begun observer.old) None
             → HasGoneOver studio (plan_view plan.now) first written self.new (W.contents writer.new)
-            (L.heard begun observer.new) closing) }
+            (L.heard begun observer.new) ended.0) }
         ensures fault { IfErr result
             (λ fault. (studio : Studio) (first : Option (List ℕ)) (written : Option (List ℕ)) (begun : L)
             → IsReplaying studio (plan_view plan.now) first written self.old parts.old
@@ -92,13 +95,16 @@ impl ReplayState {
             (L.heard begun observer.new) fault) }
     {
         let mut closing = None;
+        let mut closing_place = 0usize;
         // The label names the loop in its proof.
         'parts: for _ in 0..u64::MAX {
             if !plan.has_next(parts, window, reader)? {
-                return Ok(closing);
+                return Ok((closing, closing_place));
             }
+            let place = parts.place();
             // The block borrows the window, so only its length and its mark come back before `consume`.
             let (len, mark) = self.take_next(plan, parts, window, writer, observer)?;
+            closing_place = place_of_close(closing, closing_place, place);
             closing = first_close(closing, mark);
             window.consume(len);
         }
@@ -132,19 +138,22 @@ impl ReplayState {
             → StopsFile studio (plan_view plan.now) first written self.new (W.contents writer.new)
             (L.heard begun observer.new) fault) }
     {
+        let place = parts.place();
         match next_block(parts, window) {
             Ok(part) => {
-                self.take_part(plan, &part, writer, observer)?;
+                self.take_part(plan, place, &part, writer, observer)?;
                 Ok((part.len, part.mark))
             }
             Err(fault) => Err(ReplayFault::Capture(ReaderFault::Capture(fault))),
         }
     }
 
-    /// Takes the events and the change of a record or a block: those of its packet, if it has one.
+    /// Takes the events and the change of a record or a block at a place of the file: those of its packet, if it has
+    /// one.
     fn take_part<W: Write, L: ReplayObserver>(
         &mut self,
         plan: &Routing<'_>,
+        place: usize,
         part: &CaptureBlock<'_>,
         writer: &mut W,
         observer: &mut L,
@@ -164,16 +173,17 @@ impl ReplayState {
         ensures kind { IfErr result (λ fault. IsOwn fault) }
     {
         match part.packet {
-            Some(packet) => self.take(plan, &packet, writer, observer),
+            Some(packet) => self.take(plan, place, &packet, writer, observer),
             None => Ok(()),
         }
     }
 
-    /// Takes the events and the change of a packet: a clock reading and an arrival if it goes to a path, and a reading
-    /// and the change if it is a change of gains.
+    /// Takes the events and the change of a packet at a place of the file: a clock reading and an arrival if it goes to
+    /// a path, and a reading and the change if it is a change of gains.
     fn take<W: Write, L: ReplayObserver>(
         &mut self,
         plan: &Routing<'_>,
+        place: usize,
         packet: &Packet<'_>,
         writer: &mut W,
         observer: &mut L,
@@ -190,6 +200,9 @@ impl ReplayState {
         ensures clock { OnOk result (self.new.clock
             ≡ clock_past self.old.clock (packet_view packet.now)
             (role_of (plan_view plan.now) (packet_view packet.now))) }
+        ensures steady { OnOk result ((clock_past self.old.clock (packet_view packet.now)
+            (role_of (plan_view plan.now) (packet_view packet.now))).reading
+            ≤ self.old.clock.reading + longest_of (plan_view plan.now)) }
         ensures fault { IfErr result
             (λ fault. (studio : Studio) (events : List TraceEvent) (written : Option (List ℕ)) (begun : L)
             → HasReplayed studio events written self.old (W.contents writer.old) (L.heard begun observer.old)
@@ -198,19 +211,24 @@ impl ReplayState {
             (role_of (plan_view plan.now) (packet_view packet.now))) written self.new (W.contents writer.new)
             (L.heard begun observer.new) fault) }
     {
+        let rule = ReadingRule {
+            from: plan.opening(),
+            longest: plan.longest_step(),
+            place,
+        };
         match plan.role(packet) {
             PacketRole::Passed => Ok(()),
-            PacketRole::Arrival(target) => {
-                self.take_arrival(plan.opening(), packet, target, writer, observer)
-            }
-            PacketRole::Change => self.take_change(plan.opening(), packet, writer, observer),
+            PacketRole::Arrival(target) => self.take_arrival(
+                rule, packet, target, writer, observer,
+            ),
+            PacketRole::Change => self.take_change(rule, packet, writer, observer),
         }
     }
 
-    /// Takes a clock reading at a packet's time, from an opening on, and its datagram, which arrived on a path.
+    /// Takes a clock reading at a packet's time, by a rule, and its datagram, which arrived on a path.
     fn take_arrival<W: Write, L: ReplayObserver>(
         &mut self,
-        from: u64,
+        rule: ReadingRule,
         packet: &Packet<'_>,
         target: StreamPath,
         writer: &mut W,
@@ -219,54 +237,58 @@ impl ReplayState {
         ensures ok { OnOk result ((studio : Studio) (events : List TraceEvent) (written : Option (List ℕ)) (begun : L)
             → HasReplayed studio events written self.old (W.contents writer.old) (L.heard begun observer.old)
             → HasReplayed studio
-            (events_with studio.open_at from self.old.clock events (packet_view packet.now)
+            (events_with studio.open_at rule.from self.old.clock events (packet_view packet.now)
             (PacketRole.Arrival target)) written self.new (W.contents writer.new) (L.heard begun observer.new)) }
         ensures kind { IfErr result (λ fault. IsOwn fault) }
         ensures clock { OnOk result (self.new.clock ≡ clock_with self.old.clock packet.now.time) }
+        ensures steady { OnOk result ((clock_with self.old.clock packet.now.time).reading
+            ≤ self.old.clock.reading + rule.longest) }
         ensures fault { IfErr result
             (λ fault. (studio : Studio) (events : List TraceEvent) (written : Option (List ℕ)) (begun : L)
             → HasReplayed studio events written self.old (W.contents writer.old) (L.heard begun observer.old)
             → Stops studio
-            (events_with studio.open_at from self.old.clock events (packet_view packet.now)
+            (events_with studio.open_at rule.from self.old.clock events (packet_view packet.now)
             (PacketRole.Arrival target)) written self.new (W.contents writer.new) (L.heard begun observer.new) fault) }
     {
-        self.read(from, packet.time, writer, observer)?;
+        self.read(rule, packet.time, writer, observer)?;
         self.arrive(target, datagram_octets(packet), observer)
     }
 
-    /// Takes a clock reading at a packet's time, from an opening on, and its change of gains.
+    /// Takes a clock reading at a packet's time, by a rule, and its change of gains.
     // The run had turned to that reading when it took the change. So the same blocks are returned before it, and the
     // schedule has the same free places.
     fn take_change<W: Write, L: ReplayObserver>(
         &mut self,
-        from: u64,
+        rule: ReadingRule,
         packet: &Packet<'_>,
         writer: &mut W,
         observer: &mut L,
     ) -> Result<(), ReplayFault>
         ensures ok { OnOk result ((studio : Studio) (events : List TraceEvent) (written : Option (List ℕ)) (begun : L)
             → HasReplayed studio events written self.old (W.contents writer.old) (L.heard begun observer.old)
-            → HasReplayed (with_changes studio (changes_with from (packet_view packet.now) PacketRole.Change))
-            (events_with studio.open_at from self.old.clock events (packet_view packet.now) PacketRole.Change)
+            → HasReplayed (with_changes studio (changes_with rule.from (packet_view packet.now) PacketRole.Change))
+            (events_with studio.open_at rule.from self.old.clock events (packet_view packet.now) PacketRole.Change)
             written self.new (W.contents writer.new) (L.heard begun observer.new)) }
         ensures kind { IfErr result (λ fault. IsOwn fault) }
         ensures clock { OnOk result (self.new.clock ≡ clock_with self.old.clock packet.now.time) }
+        ensures steady { OnOk result ((clock_with self.old.clock packet.now.time).reading
+            ≤ self.old.clock.reading + rule.longest) }
         ensures fault { IfErr result
             (λ fault. (studio : Studio) (events : List TraceEvent) (written : Option (List ℕ)) (begun : L)
             → HasReplayed studio events written self.old (W.contents writer.old) (L.heard begun observer.old)
             → Stops studio
-            (events_with studio.open_at from self.old.clock events (packet_view packet.now) PacketRole.Change)
+            (events_with studio.open_at rule.from self.old.clock events (packet_view packet.now) PacketRole.Change)
             written self.new (W.contents writer.new) (L.heard begun observer.new) fault) }
     {
-        self.read(from, packet.time, writer, observer)?;
-        self.change(from, datagram_octets(packet))
+        self.read(rule, packet.time, writer, observer)?;
+        self.change(rule.from, datagram_octets(packet))
     }
 
-    /// Moves the clock to a time in nanoseconds, and takes its reading in sampling instants from an opening on. A
-    /// reading that isn't later is no event.
+    /// Moves the clock to a time in nanoseconds, and takes its reading in sampling instants by a rule. A reading that
+    /// isn't later is no event.
     pub(crate) fn read<W: Write, L: ReplayObserver>(
         &mut self,
-        from: u64,
+        rule: ReadingRule,
         time: Option<u64>,
         writer: &mut W,
         observer: &mut L,
@@ -274,16 +296,18 @@ impl ReplayState {
         ensures ok { OnOk result ((studio : Studio) (events : List TraceEvent) (written : Option (List ℕ)) (begun : L)
             → HasReplayed studio events written self.old (W.contents writer.old) (L.heard begun observer.old)
             → HasReplayed studio
-            (read_at studio.open_at from events self.old.clock.reading
+            (read_at studio.open_at rule.from events self.old.clock.reading
             (clock_with self.old.clock time).reading) written self.new (W.contents writer.new)
             (L.heard begun observer.new)) }
         ensures kind { IfErr result (λ fault. IsOwn fault) }
         ensures clock { self.new.clock ≡ clock_with self.old.clock time }
+        ensures steady { OnOk result ((clock_with self.old.clock time).reading
+            ≤ self.old.clock.reading + rule.longest) }
         ensures fault { IfErr result
             (λ fault. (studio : Studio) (events : List TraceEvent) (written : Option (List ℕ)) (begun : L)
             → HasReplayed studio events written self.old (W.contents writer.old) (L.heard begun observer.old)
             → Stops studio
-            (read_at studio.open_at from events self.old.clock.reading
+            (read_at studio.open_at rule.from events self.old.clock.reading
             (clock_with self.old.clock time).reading) written self.new (W.contents writer.new)
             (L.heard begun observer.new) fault) }
     {
@@ -293,7 +317,11 @@ impl ReplayState {
         if reading <= earlier {
             return Ok(());
         }
-        self.turn(from, reading, writer, observer)
+        let step = reading - earlier;
+        if step > rule.longest {
+            return Err(ReplayFault::Jump(rule.place, step.div_ceil(INSTANTS_A_SECOND)));
+        }
+        self.turn(rule.from, reading, writer, observer)
     }
 
     /// Moves the engine on to a reading, and writes the datagrams that it returns. A reading that repeats the engine's
@@ -374,6 +402,15 @@ impl ReplayState {
         } else {
             ReplayFault::Run(StudioFault::Stream(self.count))
         }
+    }
+}
+
+/// Returns the place of the block with the first mark of a close, by that of the blocks so far and the place of one
+/// more block. If no block has a mark it is the last one's.
+fn place_of_close(closing: Option<u64>, so_far: usize, place: usize) -> usize {
+    match closing {
+        Some(_) => so_far,
+        None => place,
     }
 }
 

@@ -23,6 +23,10 @@ pub enum ReplayFault {
     /// A change of gains of a record was not taken: its number among the changes, from 1, and why.
     #[error("capture change {0}: {1}")]
     Change(u64, RecordedChangeFault),
+    /// The time of a packet or of the close is too far ahead of the clock: the number of octets before its record or
+    /// block, and the length of the step in seconds, rounded up.
+    #[error("capture octet {0}: time jumps by {1} s; --gap allows it")]
+    Jump(usize, u64),
     /// The capture has more than 2^62 events.
     #[error("capture: too many events")]
     TooManyEvents,

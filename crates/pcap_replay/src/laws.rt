@@ -27,29 +27,29 @@ ghost use Rattle.pcap_replay.specs.RecordPackets.{
 /// run and its changes, except for each reading that another reading follows directly. By
 /// `studio_session::ticks_may_be_left_out` such readings change no datagram and no count.
 pub fn a_record_says_its_run()
-    ensures events { (studio : Studio) (steps : List Step) (packets : List PacketView) (closing : Option ℕ)
-        → pos 0 ≤ℤ studio.open_at
+    ensures events { (studio : Studio) (longest : ℕ) (steps : List Step) (packets : List PacketView)
+        (closing : Option ℕ) → pos 0 ≤ℤ studio.open_at
         → session_fault_of studio (events_in steps) ≡ None → AreRising studio.open_at (events_in steps)
         → AreRecorded studio studio.open_at steps packets closing
-        → replay_events studio (places_of studio Taken) packets closing ≡ kept_events steps }
-    ensures changes { (studio : Studio) (steps : List Step) (packets : List PacketView) (closing : Option ℕ)
-        → pos 0 ≤ℤ studio.open_at
+        → replay_events studio (places_of studio Taken longest) packets closing ≡ kept_events steps }
+    ensures changes { (studio : Studio) (longest : ℕ) (steps : List Step) (packets : List PacketView)
+        (closing : Option ℕ) → pos 0 ≤ℤ studio.open_at
         → session_fault_of studio (events_in steps) ≡ None
         → AreRecorded studio studio.open_at steps packets closing
-        → changes_of (places_of studio Taken) packets ≡ changes_in steps }
+        → changes_of (places_of studio Taken longest) packets ≡ changes_in steps }
     ensures same { (steps : List Step) → pruned_events (kept_events steps) ≡ pruned_events (events_in steps) }
-    ensures unchanged { (studio : Studio) (events : List TraceEvent) (packets : List PacketView) (closing : Option ℕ)
-        → pos 0 ≤ℤ studio.open_at
+    ensures unchanged { (studio : Studio) (longest : ℕ) (events : List TraceEvent) (packets : List PacketView)
+        (closing : Option ℕ) → pos 0 ≤ℤ studio.open_at
         → session_fault_of studio events ≡ None → AreRising studio.open_at events
         → AreRecorded studio studio.open_at (map Happens events) packets closing
-        → replay_events studio (places_of studio Taken) packets closing ≡ pruned_events events }
+        → replay_events studio (places_of studio Taken longest) packets closing ≡ pruned_events events }
 {}
 
 /// States that only a record whose changes are taken has changes of gains.
 pub fn other_captures_change_no_gains()
     ensures flows { (routes : List Route) (packets : List PacketView) → changes_of (Flows routes) packets ≡ [] }
-    ensures skipped { (studio : Studio) (packets : List PacketView)
-        → changes_of (places_of studio Skipped) packets ≡ [] }
+    ensures skipped { (studio : Studio) (longest : ℕ) (packets : List PacketView)
+        → changes_of (places_of studio Skipped longest) packets ≡ [] }
 {}
 
 /// States that the events of a capture's packets by routes are those of the trace that an import writes by the same

@@ -26,7 +26,7 @@ use crate::count_lines::write_all_counts;
 use crate::fault::ReplayFault;
 use crate::observer::ReplayObserver;
 use crate::output::write_drained;
-use crate::routing::Routing;
+use crate::routing::{ReadingRule, Routing};
 use crate::state::ReplayState;
 use pcap_file::{BlockParser, CaptureFault, ReadBuffer, cut_fault, open_reader};
 use pcap_flows::Route;
@@ -69,27 +69,33 @@ pub fn replay<R: Read, W: Write, L: ReplayObserver>(
 /// behind all packets, at the time of the first mark of a close; if there is none, at the last packet's reading. The
 /// changes of gains of the run are passed to the engine where the run took them, or skipped.
 ///
+/// The work of a replay grows with its time, which a few wrong octets can make endless. So a packet or a close whose
+/// reading is more than `longest` sampling instants after the one before it is a fault. The first reading is the
+/// opening.
+///
 /// A last block that the file's end cuts ends the record before it: its fault is returned behind the whole report.
 pub fn replay_record<R: Read, W: Write, L: ReplayObserver>(
     alloc: Global,
     spec: &StudioSpec,
     changes: RecordedChanges,
+    longest: u64,
     reader: &mut R,
     writer: &mut W,
     observer: &mut L,
 ) -> Result<Option<CaptureFault>, ReplayFault>
     requires fresh { L.heard observer.old observer.old [] [] }
     ensures ok { OnOk result
-        (WritesReplay spec.now (places_of spec.now changes) (R.remaining reader.old) (W.contents writer.old)
+        (WritesReplay spec.now (places_of spec.now changes longest) (R.remaining reader.old) (W.contents writer.old)
         (W.contents writer.new) (L.heard observer.old observer.new)) }
     ensures fault { IfErr result
-        (λ fault. BreaksOffReplay spec.now (places_of spec.now changes) (R.remaining reader.old) (W.contents writer.old)
-        (W.contents writer.new) (L.heard observer.old observer.new) fault) }
+        (λ fault. BreaksOffReplay spec.now (places_of spec.now changes longest) (R.remaining reader.old)
+        (W.contents writer.old) (W.contents writer.new) (L.heard observer.old observer.new) fault) }
 {
     let plan = Routing::Interfaces {
         streams: spec.streams(),
         open_at: instants_of(spec.open_at()),
         changes,
+        longest,
     };
     replay_routed(alloc, spec, &plan, reader, writer, observer)
 }
@@ -171,8 +177,13 @@ impl ReplayState {
             → StopsFile studio (plan_view plan.now) first written self.new (W.contents writer.new)
             (L.heard begun observer.new) fault) }
     {
-        let marked = self.run_events(plan, parts, window, reader, writer, observer)?;
-        self.read(plan.opening(), plan.closing(marked), writer, observer)
+        let ended = self.run_events(plan, parts, window, reader, writer, observer)?;
+        let rule = ReadingRule {
+            from: plan.opening(),
+            longest: plan.longest_step(),
+            place: ended.1,
+        };
+        self.read(rule, plan.closing(ended.0), writer, observer)
     }
 
     /// Closes the studio of these streams, and writes the rest of the report: the datagrams that are left, and the

@@ -174,6 +174,35 @@ fn add_path(
     Ok(Some(part.len))
 }
 
+/// Returns true if a capture's first packet or first fault is among its first octets. What follows these then changes
+/// nothing of what `record_opening` and `recorded_paths` return. Returns an error if an allocation fails, the header is
+/// wrong, or a record or block is too long.
+pub fn has_first_packet(alloc: Global, front: &[u8]) -> Result<bool, ReaderFault> {
+    let mut octets = front;
+    let (mut window, mut parts) = open_reader(alloc, &mut octets)?;
+    for _ in 0..u64::MAX {
+        if !has_whole_block(&parts, &mut window, &mut octets)? {
+            return Ok(false);
+        }
+        match len_before_packet(&mut parts, &window) {
+            Some(len) => window.consume(len),
+            None => return Ok(true),
+        }
+    }
+    Ok(true)
+}
+
+/// Returns the length of the next block, or `None` if it has a packet or a fault.
+fn len_before_packet(parts: &mut BlockParser, window: &ReadBuffer) -> Option<usize>
+    requires { IsNext parts.old (octets_of window.now) window.now.ended }
+    ensures { IfSome result (λ len. len ≤ length (octets_of window.now)) }
+{
+    match next_block(parts, window) {
+        Ok(part) if part.packet.is_none() => Some(part.len),
+        _ => None,
+    }
+}
+
 /// Returns the first difference between the configuration by which a record with these paths was made and a studio's
 /// streams, stream by stream; `None` if there is none. Behind all paths a record may have the interface of changes of
 /// gains.

@@ -6,7 +6,7 @@ ghost use Rattle.pcap_file.specs.Reader.{HasReturned, IsLong, IsNext};
 ghost use Rattle.pcap_replay.specs.Replay.{EndsAt};
 ghost use Rattle.pcap_replay.specs.Routing as spec;
 ghost use Rattle.pcap_file.specs.Packet.{packet_view};
-ghost use Rattle.pcap_replay.specs.Routing.{clock_before, closing_of, opening_of, plan_view, role_of};
+ghost use Rattle.pcap_replay.specs.Routing.{clock_before, closing_of, longest_of, opening_of, plan_view, role_of};
 
 use crate::changes::RecordedChanges;
 use pcap_file::{BlockParser, Packet, ReadBuffer, ReaderFault, has_block, has_whole_block};
@@ -26,7 +26,20 @@ pub(crate) enum Routing<'a> {
         /// The time of the opening, in sampling instants at 48 kHz.
         open_at: u64,
         changes: RecordedChanges,
+        /// The longest step of the clock that is no fault, in sampling instants.
+        longest: u64,
     },
+}
+
+/// The rule by which the time of a packet or of the close becomes a clock reading.
+#[derive(Clone, Copy)]
+pub(crate) struct ReadingRule {
+    /// The time from which readings count, in sampling instants at 48 kHz.
+    pub(crate) from: u64,
+    /// The longest step that is no fault, in sampling instants.
+    pub(crate) longest: u64,
+    /// The number of octets before the record or block with the time.
+    pub(crate) place: usize,
 }
 
 /// A path of a stream, by the numbers of both, from 0.
@@ -72,6 +85,17 @@ impl Routing<'_> {
         match self {
             Routing::Flows(_) => 0,
             Routing::Interfaces { open_at, .. } => *open_at,
+        }
+    }
+
+    /// Returns the longest step of the clock that is no fault, in sampling instants. A capture that is no record has
+    /// none: its times were tested before.
+    pub(crate) fn longest_step(&self) -> u64
+        ensures { result ≡ longest_of (plan_view self.now) }
+    {
+        match self {
+            Routing::Flows(_) => u64::MAX,
+            Routing::Interfaces { longest, .. } => *longest,
         }
     }
 

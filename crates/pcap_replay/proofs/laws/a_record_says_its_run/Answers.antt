@@ -3,8 +3,8 @@ use Rattle.pcap_replay.proofs.laws.a_record_says_its_run.Goals as goal
 
 pub returns : goal.returns
 returns c = record {
-  events = λ studio steps packets closing low none rising recorded. run_said studio low steps packets closing none rising recorded;
-  changes = λ studio steps packets closing low none recorded. changes_said studio low steps packets closing none recorded;
+  events = λ studio longest steps packets closing low none rising recorded. run_said studio longest low steps packets closing none rising recorded;
+  changes = λ studio longest steps packets closing low none recorded. changes_said studio longest low steps packets closing none recorded;
   same = kept_same;
   unchanged = run_unchanged;
 }

@@ -17,9 +17,10 @@ returns-clause-ok g c =
     let small = c.open_at.type_inv in
     let bits : to_z w64 (of_z w64 c.open_at.result) ≡ c.open_at.result = omega (arith, ints, small) in
     let changes = c.args.changes in
-    let same : Interfaces c.streams.result.now c.instants_of.result changes ≡ places_of spec changes =
-    ap (λ l. Interfaces l c.instants_of.result changes) c.streams.ensures.value ∙ ap (λ n. Interfaces spec.streams n changes) (c.instants_of.ensures ∙ ap natural (bits ∙ c.open_at.ensures.value)) in
-    ok_then c.replay_routed.result (WritesReplay spec (Interfaces c.streams.result.now c.instants_of.result changes) first written then heard) (WritesReplay spec (places_of spec changes) first written then heard)
+    let longest = c.args.longest in
+    let same : Interfaces c.streams.result.now c.instants_of.result changes longest ≡ places_of spec changes longest =
+    ap (λ l. Interfaces l c.instants_of.result changes longest) c.streams.ensures.value ∙ ap (λ n. Interfaces spec.streams n changes longest) (c.instants_of.ensures ∙ ap natural (bits ∙ c.open_at.ensures.value)) in
+    ok_then c.replay_routed.result (WritesReplay spec (Interfaces c.streams.result.now c.instants_of.result changes longest) first written then heard) (WritesReplay spec (places_of spec changes longest) first written then heard)
     (λ writes. subst (λ (plan : PlanView). WritesReplay spec plan first written then heard) same writes) c.replay_routed.ensures.ok
 
 pub returns-clause-fault : goal.returns-clause-fault
@@ -32,7 +33,8 @@ returns-clause-fault g c =
     let small = c.open_at.type_inv in
     let bits : to_z w64 (of_z w64 c.open_at.result) ≡ c.open_at.result = omega (arith, ints, small) in
     let changes = c.args.changes in
-    let same : Interfaces c.streams.result.now c.instants_of.result changes ≡ places_of spec changes =
-    ap (λ l. Interfaces l c.instants_of.result changes) c.streams.ensures.value ∙ ap (λ n. Interfaces spec.streams n changes) (c.instants_of.ensures ∙ ap natural (bits ∙ c.open_at.ensures.value)) in
-    err_then c.replay_routed.result (λ (fault : ReplayFault). BreaksOffReplay spec (Interfaces c.streams.result.now c.instants_of.result changes) first written then heard fault) (λ (fault : ReplayFault). BreaksOffReplay spec (places_of spec changes) first written then heard fault)
+    let longest = c.args.longest in
+    let same : Interfaces c.streams.result.now c.instants_of.result changes longest ≡ places_of spec changes longest =
+    ap (λ l. Interfaces l c.instants_of.result changes longest) c.streams.ensures.value ∙ ap (λ n. Interfaces spec.streams n changes longest) (c.instants_of.ensures ∙ ap natural (bits ∙ c.open_at.ensures.value)) in
+    err_then c.replay_routed.result (λ (fault : ReplayFault). BreaksOffReplay spec (Interfaces c.streams.result.now c.instants_of.result changes longest) first written then heard fault) (λ (fault : ReplayFault). BreaksOffReplay spec (places_of spec changes longest) first written then heard fault)
     (λ fault breaks. subst (λ (plan : PlanView). BreaksOffReplay spec plan first written then heard fault) same breaks) c.replay_routed.ensures.fault

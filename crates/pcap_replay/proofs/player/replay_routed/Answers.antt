@@ -63,6 +63,7 @@ returns-in-Ok-clause-ok g c =
     record {
       entries = come.entries;
       told = come.told;
+      steady = come.steady;
       writes = c.in_ok-close-in-Ok.ensures.ok changed (events_told spec plan come.entries) written c.args.observer.now same come.replayed;
       hears = c.in_ok-close-in-Ok.ensures.hears changed (events_told spec plan come.entries) written c.args.observer.now same come.replayed;
     }

@@ -1,22 +1,22 @@
 use Rattle.std.proofs.Common.{◌≡◌, Err, rules}
 use Rattle.pcap_replay.specs.Routing.{plan_view}
-use Rattle.pcap_replay.proofs.CaseLemmas.{err_both, ok_then}
+use Rattle.pcap_replay.proofs.CaseLemmas.{err_both, ok_both}
 use Rattle.pcap_replay.proofs.ReplayLemmas.{come_to_close, stops_at_close}
 use Rattle.pcap_replay.proofs.state.ReplayState.go_to_close.Goals as goal
 
-pub returns-in_err-marked-clause-fault : goal.returns-in_err-marked-clause-fault
-returns-in_err-marked-clause-fault g c =
-    let is : c.from_residual.result ≡ Err c.in_err-marked.field-0.0 = search rules in
-    rw is (λ studio first written begun r. c.in_err-marked.ensures.fault studio first written begun r)
+pub returns-in_err-ended-clause-fault : goal.returns-in_err-ended-clause-fault
+returns-in_err-ended-clause-fault g c =
+    let is : c.from_residual.result ≡ Err c.in_err-ended.field-0.0 = search rules in
+    rw is (λ studio first written begun r. c.in_err-ended.ensures.fault studio first written begun r)
 
 pub returns-clause-ok : goal.returns-clause-ok
 returns-clause-ok g c =
-    ok_then c.read.result _ _ (λ reads studio first written begun r.
-    come_to_close studio (plan_view c.args.plan.now) c.in_ok-marked.marked c.closing.result c.opening.result first written _ _ _ _ c.run_events.new.self c.read.new.self c.opening.ensures c.closing.ensures
-    (c.in_ok-marked.ensures.ok studio first written begun r) (λ changed events replayed. reads changed events written begun replayed)) c.read.ensures.ok
+    ok_both c.read.result _ _ _ (λ reads step studio first written begun r.
+    come_to_close studio (plan_view c.args.plan.now) c.in_ok-ended.ended.0 c.closing.result c.opening.result c.longest_step.result first written _ _ _ _ c.run_events.new.self c.read.new.self c.opening.ensures c.longest_step.ensures c.closing.ensures step
+    (c.in_ok-ended.ensures.ok studio first written begun r) (λ changed events replayed. reads changed events written begun replayed)) c.read.ensures.ok c.read.ensures.steady
 
 pub returns-clause-fault : goal.returns-clause-fault
 returns-clause-fault g c =
     err_both c.read.result _ _ _ (λ fault kind stops studio first written begun r.
-    stops_at_close studio (plan_view c.args.plan.now) c.in_ok-marked.marked c.closing.result c.opening.result first written _ _ _ _ c.run_events.new.self c.read.new.self fault c.opening.ensures c.closing.ensures kind
-    (c.in_ok-marked.ensures.ok studio first written begun r) (λ changed events replayed. stops changed events written begun replayed)) c.read.ensures.kind c.read.ensures.fault
+    stops_at_close studio (plan_view c.args.plan.now) c.in_ok-ended.ended.0 c.closing.result c.opening.result first written _ _ _ _ c.run_events.new.self c.read.new.self fault c.opening.ensures c.closing.ensures kind
+    (c.in_ok-ended.ensures.ok studio first written begun r) (λ changed events replayed. stops changed events written begun replayed)) c.read.ensures.kind c.read.ensures.fault

@@ -19,8 +19,8 @@ returns-in_err-read-clause-fault g c =
     let clock = c.args.self.now.clock in
     let target = c.args.target in
     rw is (λ studio events written begun r.
-    let before = read_at studio.open_at c.args.from events clock.reading (clock_with clock packet.time).reading in
-    stops_longer studio before (events_with studio.open_at c.args.from clock events packet (role.Arrival target)) written _ _ c.read.new.self fault
+    let before = read_at studio.open_at c.args.rule.from events clock.reading (clock_with clock packet.time).reading in
+    stops_longer studio before (events_with studio.open_at c.args.rule.from clock events packet (role.Arrival target)) written _ _ c.read.new.self fault
     (first_more before (Arrival target.stream target.path (octets_of packet.ip.body) ∷ []))
     (c.in_err-read.ensures.fault studio events written begun r))
 
@@ -31,6 +31,6 @@ returns-clause-fault g c =
     let target = c.args.target in
     let last = g.W.Write.contents c.read.new.writer in
     err_then c.arrive.result _ _ (λ fault stops studio events written begun r.
-    let before = read_at studio.open_at c.args.from events clock.reading (clock_with clock packet.time).reading in
+    let before = read_at studio.open_at c.args.rule.from events clock.reading (clock_with clock packet.time).reading in
     subst (λ l. Stops studio (before ++ Arrival target.stream target.path l ∷ []) written c.arrive.new.self last (g.L.ReplayObserver.heard begun c.arrive.new.observer) fault) c.datagram_octets.ensures
     (stops studio before written last begun (c.in_ok-read.ensures.ok studio events written begun r))) c.arrive.ensures.fault

@@ -23,10 +23,10 @@ returns-clause-ok g c =
     let clock = c.args.self.now.clock in
     let last = g.W.Write.contents c.read.new.writer in
     ok_then c.change.result _ _ (λ changes studio events written begun r.
-    let before = read_at studio.open_at c.args.from events clock.reading (clock_with clock packet.time).reading in
+    let before = read_at studio.open_at c.args.rule.from events clock.reading (clock_with clock packet.time).reading in
     let heard = g.L.ReplayObserver.heard begun c.read.new.observer in
     let now = c.in_ok-read.ensures.ok studio events written begun r in
-    subst (λ l. HasReplayed (with_changes studio (changes_by c.args.from (change_of l))) before written c.change.new.self last heard) c.datagram_octets.ensures
+    subst (λ l. HasReplayed (with_changes studio (changes_by c.args.rule.from (change_of l))) before written c.change.new.self last heard) c.datagram_octets.ensures
     (gains_replayed studio _ before written last heard c.read.new.self c.change.new.self c.change.ensures.text c.change.ensures.turning now (changes studio before now.datagrams now.session))) c.change.ensures.ok
 
 pub returns-clause-kind : goal.returns-clause-kind
@@ -38,7 +38,7 @@ returns-clause-fault g c =
     let clock = c.args.self.now.clock in
     let last = g.W.Write.contents c.read.new.writer in
     own_fault c.change.result _ (λ fault kind studio events written begun r.
-    let before = read_at studio.open_at c.args.from events clock.reading (clock_with clock packet.time).reading in
+    let before = read_at studio.open_at c.args.rule.from events clock.reading (clock_with clock packet.time).reading in
     let heard = g.L.ReplayObserver.heard begun c.read.new.observer in
     let now = c.in_ok-read.ensures.ok studio events written begun r in
     record {
