@@ -1,8 +1,11 @@
 pub mod Addresses
 pub mod Backoff
 pub mod Clock
+pub mod HoldUps
 pub mod Inherited
 pub mod Links
+pub mod MixSpans
+pub mod MixTimes
 pub mod Names
 pub mod Ports
 pub mod ReceivePace
@@ -10,3 +13,4 @@ pub mod RecordBlocks
 pub mod RecordFile
 pub mod RecordWriter
 pub mod Sharing
+pub mod WholeDatagrams

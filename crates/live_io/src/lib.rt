@@ -10,7 +10,9 @@
 //!    those that are inherited. `udp_feeds` makes a `Feed` of each receiving socket. A feed takes what
 //!    its socket has, and waits by a `ReceivePace`, unless flags say which sockets are to be read. It reads its
 //!    socket as a `RetryingSocket`, which tries a socket that fails less and less often.
-//!    `UdpSink` is the `Sink` of the two sending sockets.
+//!    `UdpSink` is the `Sink` of the two sending sockets. `TimelySink` leaves out the datagrams of the mix that are
+//!    useless to every receiver, and `HoldUp` says what a feed leaves out after a hold-up, until the mix has caught up.
+//!    `copy_whole` leaves out the datagrams that are too long.
 //! 4. `RecordOutput` is the record as an output of a run. It creates a `RecordChannel`, which has two
 //!    ends of a ring. The thread of the run passes each datagram and each change of gains to its
 //!    `RecordObserver`, which pushes whole blocks and never waits. `write_record`, in another thread,
@@ -36,15 +38,19 @@ pub use record::output::{RecordOutput, RecordTask};
 pub use record::writer::{FileResult, RecordWriter, write_record};
 pub use sockets::feed::{FeedFlags, UdpFeed, udp_feeds};
 pub use sockets::health::{RunHealth, SendHealth, SocketHealth};
+pub use sockets::hold_up::HoldUp;
 pub use sockets::inherited::{InheritedSocketFault, InheritedSockets};
+pub use sockets::mix_times::{MixDue, MixProgress, MixTimes};
 pub use sockets::pace::{ReceivePace, ReceiveWait, common_pause};
 pub use sockets::ports::LivePorts;
 pub use sockets::receiver::Receiver;
 pub use sockets::retrying::{DatagramSocket, RetryingSocket};
 pub use sockets::sharing::{PathPlace, have_collision};
 pub use sockets::sink::UdpSink;
+pub use sockets::timely_sink::TimelySink;
 pub use sockets::udp_table::{drops_in, read_kernel_drops};
 pub use sockets::unexpected::UnexpectedSources;
 pub use sockets::unopened::{SystemReason, UnopenedSocket, unopened_socket};
+pub use sockets::whole_datagrams::copy_whole;
 pub use sockets::{SocketConfig, Sockets, open_sockets};
 pub use tai::{TaiOffset, TaiTime, tai_now};

@@ -1,11 +1,14 @@
 //! The sockets of a run. `ports` and `addresses` find where they are bound, `inherited` has those that were passed in,
 //! and `receiver` and `sink` those that receive and send. `feed` makes a feed of a receiver; `unexpected` tests and
-//! counts the sources of datagrams. `sharing` says which paths can be at one place. A socket that fails is read by
-//! `retrying`, as `backoff` says, and one that is empty as `pace` says. `health` has what the sockets count, and
-//! `udp_table` what the kernel counts. `unopened` says which socket could not be opened.
+//! counts the sources of datagrams, and `whole_datagrams` says which of them are too long. `hold_up` says what a feed
+//! leaves out after a hold-up, by the times of the mix in `mix_times`, and `timely_sink` leaves out what the mix has
+//! too late. `sharing` says which paths can be at one place. A socket that fails is read by `retrying`, as `backoff`
+//! says, and one that is empty as `pace` says. `health` has what the sockets count, and `udp_table` what the kernel
+//! counts. `unopened` says which socket could not be opened.
 
 use crate::sockets::addresses::{PathAddress, addresses_of};
 use crate::sockets::health::RunHealth;
+use crate::sockets::hold_up::HoldUp;
 use crate::sockets::inherited::InheritedSockets;
 use crate::sockets::pace::pause_of;
 use crate::sockets::ports::LivePorts;
@@ -24,7 +27,9 @@ pub(crate) mod addresses;
 pub(crate) mod backoff;
 pub(crate) mod feed;
 pub(crate) mod health;
+pub(crate) mod hold_up;
 pub(crate) mod inherited;
+pub(crate) mod mix_times;
 pub(crate) mod names;
 pub(crate) mod pace;
 pub(crate) mod ports;
@@ -33,9 +38,11 @@ pub(crate) mod retrying;
 pub(crate) mod sharing;
 pub(crate) mod sink;
 pub(crate) mod socket_kind;
+pub(crate) mod timely_sink;
 pub(crate) mod udp_table;
 pub(crate) mod unexpected;
 pub(crate) mod unopened;
+pub(crate) mod whole_datagrams;
 
 /// The configuration of a run's sockets, in addition to the studio's addresses.
 #[derive(Clone, Copy)]
@@ -74,12 +81,12 @@ pub fn open_sockets<'a, R: Net>(
     Ok(Sockets { receiving, sink })
 }
 
-/// The places of the paths of a run, their pauses in sampling instants, and the descriptors of their inherited sockets,
-/// all ordered by stream and then by path.
+/// The places of the paths of a run, how each is read, and the descriptors of their inherited sockets, all ordered by
+/// stream and then by path.
 #[derive(Drop)]
 struct ReceiverPlan<'a> {
     places: Vec<PathPlace>,
-    pauses: Vec<u32>,
+    readings: Vec<PathReading>,
     descriptors: Vec<Option<i32>>,
     config: SocketConfig<'a>,
 }
@@ -95,7 +102,7 @@ fn open_receivers<'a, R: Net>(
 ) -> io::Result<Vec<Receiver<'a>>> {
     let plan = ReceiverPlan {
         places: places_of(alloc, studio, config.ports)?,
-        pauses: pauses_of(alloc, studio)?,
+        readings: readings_of(alloc, studio)?,
         descriptors: config.inherited.descriptors(alloc, studio.streams())?,
         config,
     };
@@ -134,16 +141,27 @@ fn places_of(
     Ok(places)
 }
 
-/// Returns the pauses of all paths while packets flow, in sampling instants. Returns `AllocError` if an allocation
-/// fails.
-fn pauses_of(alloc: Global, studio: &StudioSpec) -> Result<Vec<u32>, AllocError> {
-    let mut pauses = Vec::new(alloc);
+/// How the socket of a path is read.
+#[derive(Clone, Copy)]
+pub(crate) struct PathReading {
+    /// The pause between two reads while packets flow, in sampling instants.
+    pub(crate) pause: u32,
+    /// The hold-up of its feed, after which it leaves out what the socket has.
+    pub(crate) hold_up: HoldUp,
+}
+
+/// Returns how the socket of each path is read. Returns `AllocError` if an allocation fails.
+fn readings_of(alloc: Global, studio: &StudioSpec) -> Result<Vec<PathReading>, AllocError> {
+    let mut readings = Vec::new(alloc);
     for stream in studio.streams() {
         for _ in 0..stream.paths() {
-            pauses.push(pause_of(stream))?;
+            readings.push(PathReading {
+                pause: pause_of(stream),
+                hold_up: HoldUp::new(stream),
+            })?;
         }
     }
-    Ok(pauses)
+    Ok(readings)
 }
 
 /// Returns the place of the path at an index, or `None` if there is no such path.
@@ -190,17 +208,14 @@ impl<'a> ReceiverPlan<'a> {
 
     /// Returns the socket of the path at an index.
     fn receiver<R: Net>(&self, rt: &R, index: usize) -> io::Result<Receiver<'a>> {
-        let (Some(place), Some(pause)) = (self.places.get(index), self.pauses.get(index)) else {
+        let (Some(place), Some(reading)) = (self.places.get(index), self.readings.get(index)) else {
             return Err(io::Error::from(ErrorKind::InvalidInput));
         };
         let socket = self.socket(rt, index, place)?;
         let source = self.config.unexpected.source(index, place.from);
         let address = SocketAddrV4::new(place.at, place.port);
-        let receiver = Receiver::new(socket, *pause, source, address);
-        if let Some(health) = self.config.health.paths().get(index) {
-            receiver.show_inode(health);
-        }
-        Ok(receiver)
+        let health = self.config.health.paths().get(index);
+        Ok(Receiver::new(socket, *reading, source, address, health))
     }
 
     /// Returns the inherited socket of the path at an index, or a new one at this place if there is none.

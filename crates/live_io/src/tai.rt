@@ -24,51 +24,66 @@ pub enum TaiOffset {
     System,
 }
 
-/// A time, and the reading of the system's monotonic clock at that time.
+/// A time, and the readings of two other clocks of the system at that time.
 #[derive(Clone, Copy, PartialEq, Eq)]
 pub struct TaiTime {
     /// The time, in sampling instants at 48 kHz since 1970.
     pub at: i64,
+    /// The time of day in UTC, in sampling instants at 48 kHz since 1970.
+    pub utc: i64,
     /// The reading of the system's monotonic clock.
     pub began: Duration,
 }
 
-/// Returns the present time by TAI, in sampling instants at 48 kHz since 1970. Returns `None` if a clock cannot be
-/// read, if the offset is to come from the system and the system does not have it, or if in 100 tries the two clocks
-/// were not read within 100 microseconds.
+/// Returns the present time by TAI and in UTC. Returns `None` if a clock cannot be read, if the offset is to come from
+/// the system and the system does not have it, or if in 100 tries the clocks were not read within 100 microseconds.
 pub fn tai_now<R: Clock>(rt: &R, offset: TaiOffset) -> Option<TaiTime> {
     for _ in 0..MAX_TRIES {
         let began = rt.monotonic().ok()?;
-        let now = tai_reading(rt, offset)?;
+        let DayReading { tai, utc } = day_reading(rt, offset)?;
         let apart = rt.monotonic().ok()?.checked_sub(began)?;
         if apart <= Duration::from_micros(MOST_APART_MICROS) {
-            let at = reading_after(0, now);
-            return Some(TaiTime { at, began });
+            return Some(TaiTime {
+                at: reading_after(0, tai),
+                utc: reading_after(0, utc),
+                began,
+            });
         }
     }
     None
 }
 
-/// Returns the time since 1970 by TAI, or `None` if a clock cannot be read or the system does not have the offset.
-fn tai_reading<R: Clock>(rt: &R, offset: TaiOffset) -> Option<Duration> {
+/// The time since 1970 by TAI and in UTC.
+#[derive(Clone, Copy)]
+struct DayReading {
+    tai: Duration,
+    utc: Duration,
+}
+
+/// Returns the time since 1970, or `None` if a clock cannot be read or the system does not have the offset.
+fn day_reading<R: Clock>(rt: &R, offset: TaiOffset) -> Option<DayReading> {
     match offset {
         TaiOffset::Seconds(ahead) => {
             let ahead = Duration::from_secs(u64::from(ahead));
-            Some(rt.since_1970().ok()?.saturating_add(ahead))
+            let utc = rt.since_1970().ok()?;
+            Some(DayReading {
+                tai: utc.saturating_add(ahead),
+                utc,
+            })
         }
-        TaiOffset::System => system_tai(),
+        TaiOffset::System => system_reading_of_day(),
     }
 }
 
-/// Returns the reading of the system's clock of TAI, or `None` if it cannot be read or the system does not have the
-/// offset.
-fn system_tai() -> Option<Duration> {
+/// Returns the readings of the system's clocks of TAI and of the time of day, or `None` if one cannot be read or the
+/// system does not have the offset.
+fn system_reading_of_day() -> Option<DayReading> {
     // Without an offset the clock of TAI reads the same as the time of day. Both are read at different moments, so they
     // are compared by a second. The time of day is read first, so the difference is never too small.
-    let day = system_reading(libc::CLOCK_REALTIME)?;
+    let utc = system_reading(libc::CLOCK_REALTIME)?;
     let tai = system_reading(CLOCK_TAI)?;
-    let ahead = tai.checked_sub(day)?;
-    (ahead >= Duration::from_secs(1)).then_some(tai)
+    let ahead = tai.checked_sub(utc)?;
+    (ahead >= Duration::from_secs(1)).then_some(DayReading { tai, utc })
 }
 
 /// Returns the reading of one of the system's clocks, or `None` if it cannot be read.

@@ -5,12 +5,12 @@ use Rattle.rtp_stream.specs.CountsFacts.{Tally}
 use Rattle.rtp_stream.specs.Path.{path_letter}
 use Rattle.studio_run.specs.Report.{count_text, tally_text}
 use Rattle.status_page.specs.declared.snapshot.SocketState.{SocketState}
+use Rattle.live_status.specs.declared.lines.running.FailedSends.{FailedSends}
 use Rattle.studio_io.specs.declared.output_kind.OutputKind.{OutputKind}
-use Rattle.studio_io.specs.declared.output_kind.OutputKind.TheVariants.{Record, Wav, Pcm}
 use Rattle.studio_io.specs.declared.output_kind.TheConstants.{OUTPUT_KINDS}
 use Rattle.studio_io.specs.declared.output_state.OutputState.{OutputState}
 use Rattle.studio_io.specs.declared.output_states.OutputStates.{OutputStates}
-use Rattle.studio_io.specs.Outputs.{has_reader, left_out_units, output_key, state_name, state_of, written_units}
+use Rattle.studio_io.specs.Outputs.{has_reader, left_out_units, output_key, state_name, state_of, written_units, written_word}
 use Rattle.live_status.specs.declared.lines.report.SinkCounts.{SinkCounts}
 
 -- the line of a path's feed: the number of its faults
@@ -42,7 +42,7 @@ abbrev pub known_text : Option ℕ → List ℕ
 known_text None = codes "-"
 known_text (Some number) = decimal number
 
--- the line of the socket of a path, at this clock reading, in three parts: its place, its faults, and its losses
+-- the line of the socket of a path, at this clock reading, in four parts: its place, its faults, its losses, and what was left out
 abbrev pub socket_place : ℕ → ℕ → ℤ → List ℕ
 socket_place stream path time = codes "socket=" ++ decimal stream ++ path_letter path ++ codes " time=" ++ signed_decimal time
 
@@ -50,34 +50,35 @@ abbrev pub socket_faults : SocketState → List ℕ
 socket_faults socket = codes " faults=" ++ decimal socket.faults ++ codes " ended=" ++ flag_text socket.has_ended
 
 abbrev pub socket_losses : SocketState → List ℕ
-socket_losses socket = codes " dropped=" ++ known_text socket.dropped ++ codes " unexpected=" ++ known_text socket.unexpected ++ codes "\n"
+socket_losses socket = codes " dropped=" ++ known_text socket.dropped ++ codes " unexpected=" ++ known_text socket.unexpected
+
+abbrev pub socket_left_out : SocketState → List ℕ
+socket_left_out socket = codes " too_long=" ++ decimal socket.too_long ++ codes " held_up=" ++ decimal socket.held_up ++ codes "\n"
 
 abbrev pub socket_line : ℕ → ℕ → ℤ → SocketState → List ℕ
-socket_line stream path time socket = socket_place stream path time ++ socket_faults socket ++ socket_losses socket
+socket_line stream path time socket = socket_place stream path time ++ socket_faults socket ++ socket_losses socket ++ socket_left_out socket
 
--- the line of a run, at this clock reading: the failed sends of each copy of the mix, and then its outputs
+-- the line of a run, at this clock reading: the failed sends of each copy of the mix, those that were stale, and then its
+-- outputs
 unfoldable pub run_time : ℤ → List ℕ
 run_time time = codes "run time=" ++ signed_decimal time
 
 unfoldable pub run_failed : ℕ → ℕ → List ℕ
 run_failed failed_a failed_b = codes " failed_a=" ++ decimal failed_a ++ codes " failed_b=" ++ decimal failed_b
 
-abbrev pub run_sends : ℤ → ℕ → ℕ → List ℕ
-run_sends time failed_a failed_b = run_time time ++ run_failed failed_a failed_b
+unfoldable pub run_stale : ℕ → List ℕ
+run_stale stale = codes " stale=" ++ decimal stale
+
+abbrev pub run_sends : ℤ → FailedSends → List ℕ
+run_sends time failed = run_time time ++ run_failed failed.a failed.b ++ run_stale failed.stale
 
 -- the name of an output's state, behind the output's name
 unfoldable pub output_state : OutputKind → List ℕ → List ℕ
 output_state kind state = codes " " ++ output_key kind ++ codes "=" ++ state
 
--- the word before the number of units of an output that were written
-abbrev pub written_word : OutputKind → List ℕ
-written_word Record = codes " recorded="
-written_word Wav = codes " wav_blocks="
-written_word Pcm = codes " pcm_blocks="
-
 -- the number of units of an output that were written
 unfoldable pub output_written : OutputKind → Option ℕ → List ℕ
-output_written kind written = written_word kind ++ known_text written
+output_written kind written = codes " " ++ written_word kind ++ codes "=" ++ known_text written
 
 -- the number of units of an output that were left out
 unfoldable pub output_left_out : OutputKind → Option ℕ → List ℕ
@@ -101,5 +102,5 @@ unfoldable pub run_outputs : List OutputKind → OutputStates → List ℕ
 run_outputs [] states = []
 run_outputs (kind ∷ kinds) states = run_output kind (state_of kind states) ++ run_outputs kinds states
 
-abbrev pub run_line : ℤ → ℕ → ℕ → OutputStates → List ℕ
-run_line time failed_a failed_b states = run_sends time failed_a failed_b ++ run_outputs OUTPUT_KINDS states ++ codes "\n"
+abbrev pub run_line : ℤ → FailedSends → OutputStates → List ℕ
+run_line time failed states = run_sends time failed ++ run_outputs OUTPUT_KINDS states ++ codes "\n"

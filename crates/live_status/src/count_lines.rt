@@ -203,11 +203,12 @@ impl CountLines {
     {
         if can_write() {
             let [a, b] = snapshot.failed_sends;
+            let stale = snapshot.stale;
             write_run_state(
                 &mut self.text,
                 writer,
                 now,
-                FailedSends { a, b },
+                FailedSends { a, b, stale },
                 &snapshot.run_outputs,
             )?;
             self.text.finish(writer)?;

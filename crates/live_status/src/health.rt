@@ -15,16 +15,21 @@ pub trait HealthSource: Drop {
     /// Returns for each of the two copies of the mix the number of datagrams that were not sent.
     fn failed_sends(&self) -> [u64; 2];
 
+    /// Returns the number of datagrams of the mix that were left out because they were stale.
+    fn stale(&self) -> u64;
+
     /// Returns the states of the run's outputs.
     fn outputs(&self) -> OutputStates;
 }
 
-/// Fills in the health of a run: the socket of each path, the failed sends, and the states of the run's outputs.
+/// Fills in the health of a run: the socket of each path, the sends that failed or were left out, and the states of the
+/// run's outputs.
 pub fn fill_health<H: HealthSource>(health: &H, snapshot: &mut Snapshot)
     ensures streams { AreEach KeepsStream snapshot.old.streams.items snapshot.new.streams.items }
     ensures outputs { snapshot.new.outputs ≡ snapshot.old.outputs }
 {
     snapshot.failed_sends = health.failed_sends();
+    snapshot.stale = health.stale();
     snapshot.run_outputs = health.outputs();
     fill_sockets(health, snapshot.streams.as_mut_slice());
 }

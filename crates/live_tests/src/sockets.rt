@@ -381,8 +381,8 @@ fn the_opening_is_read_again_after_a_preemption(rt: HostRuntime) {
             step,
         };
         let opened = tai_now(&clock, TaiOffset::Seconds(37));
-        let found = opened.map(|time| (time.at, time.began));
-        let wanted = began.map(|micros| (38 * 48_000, Duration::from_micros(micros)));
+        let found = opened.map(|time| (time.at, time.utc, time.began));
+        let wanted = began.map(|micros| (38 * 48_000, 48_000, Duration::from_micros(micros)));
         assert_eq!(rt; found, wanted, "{steps} steps of {step}");
     }
 }

@@ -9,6 +9,8 @@ use studio_io::OutputEnd;
 /// The error of a record that cannot be created.
 #[derive(Clone, Copy, PartialEq, Eq)]
 pub enum RecordFault {
+    /// An allocation failed.
+    Memory,
     /// There is a file at its path, or something else.
     Exists,
     /// The file cannot be created.
@@ -31,8 +33,8 @@ pub trait CreateRecord {
     /// The type of the file.
     type File: RecordFile + Send + Drop;
 
-    /// Creates an empty file where nothing is. Returns `Exists` if something is there, which stays as it is, and
-    /// `NotCreated` if the file cannot be created for another reason.
+    /// Creates an empty file where nothing is. Returns `Memory` if an allocation fails, `Exists` if something is there,
+    /// which stays as it is, and `NotCreated` if the file cannot be created for another reason.
     fn create(&self) -> Result<Self::File, RecordFault>
         ensures empty { IfOk result (λ file. Holds (Self.File.Write.contents file) []) };
 }

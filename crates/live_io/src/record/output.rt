@@ -8,7 +8,7 @@ use crate::record::observer::RecordObserver;
 use crate::record::writer::{RecordWriter, write_record};
 use run_outputs::{
     ArrivedDatagram, CreateOutput, CreatedOutput, EventOutput, NoOutput, OneTask, OutputFault,
-    SideTask, TakenChange,
+    RunStart, SideTask, TakenChange,
 };
 use std::alloc::Global;
 use std::sync::Wait;
@@ -33,11 +33,12 @@ pub struct RecordTask<'a, D> {
 }
 
 impl<D: RecordFile + Drop> SideTask for RecordTask<'_, D> {
-    fn complete<R: Wait + Clock>(self, rt: &R) {
+    fn complete<R: Wait + Clock>(self, rt: &R, start: &RunStart) {
         let RecordTask { writer, file } = self;
         let (mut writer, mut file) = (writer, file);
         // The writer itself sets the record's progress. It ends once the observer was dropped.
         let _written = write_record(rt, &mut writer, &mut file);
+        start.wait(rt);
     }
 }
 
@@ -106,6 +107,7 @@ impl<'a, P: CreateRecord + Drop> CreateOutput for RecordOutput<'a, P> {
 /// Returns the error of a record that could not be created.
 fn fault_of(fault: RecordFault) -> OutputFault {
     match fault {
+        RecordFault::Memory => OutputFault::Memory,
         RecordFault::Exists => OutputFault::Exists(OutputKind::Record),
         RecordFault::NotCreated => OutputFault::NotCreated(OutputKind::Record),
     }

@@ -1,5 +1,6 @@
 //! The health of a run's sockets: what the feeds and the sink count, and other threads read.
 
+use crate::sockets::mix_times::MixProgress;
 use std::alloc::{AllocError, Global};
 use std::io;
 use std::sync::atomic::{AtomicBool, AtomicU64, Ordering};
@@ -17,6 +18,7 @@ const NO_INODE: u64 = 0;
 pub struct RunHealth {
     paths: Vec<SocketHealth>,
     sends: SendHealth,
+    mix: MixProgress,
     /// The first socket that could not be opened: 2^32 times one more than its index, and the system's error number.
     unopened: AtomicU64,
 }
@@ -33,6 +35,7 @@ impl RunHealth {
         Ok(RunHealth {
             paths,
             sends: SendHealth::new(),
+            mix: MixProgress::new(studio),
             unopened: AtomicU64::new(0),
         })
     }
@@ -45,6 +48,11 @@ impl RunHealth {
     /// Returns the health of the two sockets that send.
     pub fn sends(&self) -> &SendHealth {
         &self.sends
+    }
+
+    /// Returns the progress of the mix.
+    pub fn mix(&self) -> &MixProgress {
+        &self.mix
     }
 
     /// Notes that a socket could not be opened, and returns the fault. The index is that of a path, ordered by stream
@@ -78,6 +86,8 @@ impl RunHealth {
 #[derive(Drop)]
 pub struct SocketHealth {
     faults: AtomicU64,
+    too_long: AtomicU64,
+    held_up: AtomicU64,
     ended: AtomicBool,
     pausing: AtomicBool,
     inode: AtomicU64,
@@ -89,6 +99,8 @@ impl SocketHealth {
     pub fn new() -> SocketHealth {
         SocketHealth {
             faults: AtomicU64::new(0),
+            too_long: AtomicU64::new(0),
+            held_up: AtomicU64::new(0),
             ended: AtomicBool::new(false),
             pausing: AtomicBool::new(false),
             inode: AtomicU64::new(NO_INODE),
@@ -99,6 +111,16 @@ impl SocketHealth {
     /// Returns the number of receives that failed so far.
     pub fn faults(&self) -> u64 {
         self.faults.load(Ordering::SeqCst)
+    }
+
+    /// Returns the number of datagrams that were left out because they were too long.
+    pub fn too_long(&self) -> u64 {
+        self.too_long.load(Ordering::SeqCst)
+    }
+
+    /// Returns the number of datagrams that were left out after a hold-up.
+    pub fn held_up(&self) -> u64 {
+        self.held_up.load(Ordering::SeqCst)
     }
 
     /// Returns true if the socket failed so often that its path was given up.
@@ -124,6 +146,16 @@ impl SocketHealth {
     pub(crate) fn note_fault(&self) {
         self.faults.fetch_add(1, Ordering::SeqCst);
         self.pausing.store(true, Ordering::SeqCst);
+    }
+
+    /// Counts a datagram that was left out because it was too long.
+    pub(crate) fn note_too_long(&self) {
+        self.too_long.fetch_add(1, Ordering::SeqCst);
+    }
+
+    /// Counts a datagram that was left out after a hold-up.
+    pub(crate) fn note_held_up(&self) {
+        self.held_up.fetch_add(1, Ordering::SeqCst);
     }
 
     /// Notes that a receive did not fail.

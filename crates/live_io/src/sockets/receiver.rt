@@ -1,8 +1,12 @@
 //! The socket that receives a path.
+ghost use Rattle.std.specs.Prelude.{◌≤◌, length, IfOk, IfSome};
+
+use crate::sockets::PathReading;
 use crate::sockets::health::SocketHealth;
 use crate::sockets::retrying::DatagramSocket;
 use crate::sockets::socket_kind::inode_of;
 use crate::sockets::unexpected::ExpectedSource;
+use crate::sockets::whole_datagrams::{RECEIVE_SPACE, copy_whole};
 use libc::net::POLLIN;
 use libc::types::pollfd;
 use os::FromRawFd;
@@ -19,8 +23,12 @@ const RECEIVE_BUFFER: u32 = 8 << 20;
 #[derive(Drop)]
 pub struct Receiver<'a> {
     socket: UdpSocket,
-    /// The pause between two reads of the socket while packets flow, in sampling instants.
-    pub(crate) pause: u32,
+    /// The space into which it receives.
+    space: [u8; RECEIVE_SPACE],
+    /// The health that counts the datagrams that are too long, if there is one.
+    health: Option<&'a SocketHealth>,
+    /// How the socket is read.
+    pub(crate) reading: PathReading,
     /// The path's source, if only its datagrams are taken.
     source: Option<ExpectedSource<'a>>,
     /// The address to which the path's datagrams are sent.
@@ -36,18 +44,24 @@ impl<'a> Receiver<'a> {
     /// if that is 0.0.0.0 or not known.
     pub(crate) fn new(
         socket: UdpSocket,
-        pause: u32,
+        reading: PathReading,
         source: Option<ExpectedSource<'a>>,
         address: SocketAddrV4,
+        health: Option<&'a SocketHealth>,
     ) -> Receiver<'a> {
         // An inherited socket may be bound elsewhere than the studio says.
         let address = match &socket.local_addr() {
             Ok(SocketAddr::V4(own)) if !own.ip().is_unspecified() => *own,
             _ => address,
         };
+        if let Some(health) = health {
+            health.set_inode(inode_of(socket.as_raw_fd()));
+        }
         Receiver {
             socket,
-            pause,
+            space: [0; RECEIVE_SPACE],
+            health,
+            reading,
             source,
             address,
             last_source: SocketAddrV4::new(Ipv4Addr::UNSPECIFIED, 0),
@@ -70,26 +84,47 @@ impl<'a> Receiver<'a> {
         self.address
     }
 
-    /// Sets the inode of the socket in its health.
-    pub(crate) fn show_inode(&self, health: &SocketHealth) {
-        health.set_inode(inode_of(self.socket.as_raw_fd()));
-    }
-}
-
-impl DatagramSocket for Receiver<'_> {
-    fn receive(&mut self, buf: &mut [u8]) -> io::Result<Option<usize>> {
+    /// Receives a datagram into the space, and returns its length in octets, or `None` if it is from an unexpected
+    /// source.
+    fn receive_own(&mut self) -> io::Result<Option<usize>>
+        ensures within { IfOk result (λ own. IfSome own (λ count. count ≤ 2049)) }
+    {
         let source = self.source;
         // `recv` is cheaper than `recv_from`.
         if source.is_none() && !self.keeps_sources {
-            return Ok(Some(self.socket.recv(buf)?));
+            return Ok(Some(self.socket.recv(&mut self.space)?));
         }
-        let (count, from) = self.socket.recv_from(buf)?;
+        let (count, from) = self.socket.recv_from(&mut self.space)?;
         if let SocketAddr::V4(from) = from {
             self.last_source = from;
         }
         match source {
             Some(source) if !source.accepts(from) => Ok(None),
             _ => Ok(Some(count)),
+        }
+    }
+
+    /// Copies the datagram of this length in the space to the start of `buf`, and returns its length. Counts it and
+    /// returns `None` if it is too long.
+    fn take(&self, count: usize, buf: &mut [u8]) -> Option<usize>
+        requires within { count ≤ 2049 }
+        ensures { IfSome result (λ count. count ≤ length buf.old) }
+    {
+        let taken = copy_whole(&self.space[..count], buf);
+        if taken.is_none() {
+            if let Some(health) = self.health {
+                health.note_too_long();
+            }
+        }
+        taken
+    }
+}
+
+impl DatagramSocket for Receiver<'_> {
+    fn receive(&mut self, buf: &mut [u8]) -> io::Result<Option<usize>> {
+        match self.receive_own()? {
+            Some(count) => Ok(self.take(count, buf)),
+            None => Ok(None),
         }
     }
 

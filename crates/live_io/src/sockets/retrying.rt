@@ -21,7 +21,8 @@ const LONGEST_PAUSE: i64 = 4_800;
 
 /// A socket that receives the datagrams of a path.
 pub trait DatagramSocket: Drop {
-    /// Receives a datagram into `buf`, and returns its length in octets, or `None` if it is from an unexpected source.
+    /// Receives a datagram into `buf`, and returns its length in octets, or `None` if it is from an unexpected source
+    /// or too long.
     /// Returns `ErrorKind::WouldBlock` at once if the socket is empty.
     fn receive(&mut self, buf: &mut [u8]) -> io::Result<Option<usize>>
         ensures within { IfOk result (λ own. IfSome own (λ count. count ≤ length buf.old)) };
@@ -74,7 +75,14 @@ impl<'a, S: DatagramSocket, C: PauseClock> RetryingSocket<'a, S, C> {
         self.ready.is_none()
     }
 
-    /// Receives a datagram into `buf`, and returns a feed's result, or `None` after one from an unexpected source.
+    /// Makes the next attempts read the socket until it is empty, whatever its flag says.
+    pub fn set_ready(&self) {
+        if let Some(ready) = self.ready {
+            ready.store(true, Ordering::SeqCst);
+        }
+    }
+
+    /// Receives a datagram into `buf`, and returns a feed's result, or `None` after one that the path does not take.
     pub fn next(&mut self, buf: &mut [u8]) -> Option<FeedAnswer>
         ensures { IfSome result (λ answer. IsWithin answer (length buf.old)) }
     {

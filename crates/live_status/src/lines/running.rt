@@ -4,8 +4,15 @@ ghost use Rattle.rtp_stream.specs.Counts.{tally_of};
 ghost use Rattle.studio_run.specs.Buffer.{PassesOn, BreaksOff};
 ghost use Rattle.live_status.specs.Lines.{flag_text, known_text, running_line};
 ghost use Rattle.live_status.specs.Lines.{output_left_out, output_left_out_if, output_state, output_written};
-ghost use Rattle.live_status.specs.Lines.{run_failed, run_line, run_output, run_output_counts, run_outputs, run_time};
-ghost use Rattle.live_status.specs.Lines.{socket_faults, socket_line, socket_losses, socket_place, written_word};
+ghost use Rattle.live_status.specs.Lines.{run_failed, run_line, run_output, run_output_counts, run_outputs};
+ghost use Rattle.live_status.specs.Lines.{run_stale, run_time};
+ghost use Rattle.live_status.specs.Lines.{
+  socket_faults,
+  socket_left_out,
+  socket_line,
+  socket_losses,
+  socket_place,
+};
 
 use rtp_stream::{Counts, Path};
 use status_page::SocketState;
@@ -74,6 +81,7 @@ fn push_socket_line(text: &mut TextBuffer, stream: u8, path: Path, time: i64, so
     push_socket_place(text, stream, path, time);
     push_socket_faults(text, socket);
     push_socket_losses(text, socket);
+    push_socket_left_out(text, socket);
 }
 
 /// Adds the front of a socket's line: its path, and the clock reading.
@@ -101,15 +109,27 @@ fn push_socket_faults(text: &mut TextBuffer, socket: &SocketState)
     text.push(flag_text(socket.has_ended));
 }
 
-/// Adds the datagrams that a socket did not get or did not want, and ends the line.
+/// Adds the datagrams that a socket did not get or did not want.
 fn push_socket_losses(text: &mut TextBuffer, socket: &SocketState)
     requires { length text.old + 200 ≤ 65536 }
-    ensures { text.new ≡ text.old ++ socket_losses socket.now }
+    ensures text { text.new ≡ text.old ++ socket_losses socket.now }
+    ensures few { length text.new ≤ length text.old + 200 }
 {
     text.push(" dropped=");
     push_known(text, socket.dropped);
     text.push(" unexpected=");
     push_known(text, socket.unexpected);
+}
+
+/// Adds the datagrams that a socket brought and that were left out, and ends the line.
+fn push_socket_left_out(text: &mut TextBuffer, socket: &SocketState)
+    requires { length text.old + 200 ≤ 65536 }
+    ensures { text.new ≡ text.old ++ socket_left_out socket.now }
+{
+    text.push(" too_long=");
+    text.push_number(socket.too_long);
+    text.push(" held_up=");
+    text.push_number(socket.held_up);
     text.push("\n");
 }
 
@@ -133,15 +153,17 @@ pub(crate) fn push_known(text: &mut TextBuffer, number: Option<u64>)
     }
 }
 
-/// The datagrams of each copy of the mix that were not sent.
+/// The datagrams of each copy of the mix that were not sent, and those of them that were left out of both because they
+/// were stale.
 #[derive(Clone, Copy)]
 pub(crate) struct FailedSends {
     pub(crate) a: u64,
     pub(crate) b: u64,
+    pub(crate) stale: u64,
 }
 
 /// Writes the line of a run at a clock reading, in sampling instants: the datagrams of each copy of the mix that were
-/// not sent, and the states of the run's outputs, each with its counts.
+/// not sent, those that were stale, and the states of the run's outputs, each with its counts.
 pub(crate) fn write_run_state<W: Write>(
     text: &mut TextBuffer,
     writer: &mut W,
@@ -150,29 +172,24 @@ pub(crate) fn write_run_state<W: Write>(
     outputs: &OutputStates,
 ) -> Result<(), WriteFault>
     ensures ok { OnOk result (PassesOn (W.contents writer.old) text.old (W.contents writer.new) text.new
-        (run_line time failed.a failed.b outputs.now)) }
+        (run_line time failed outputs.now)) }
     ensures fault { OnErr result (BreaksOff (W.contents writer.old) text.old (W.contents writer.new)
-        (run_line time failed.a failed.b outputs.now)) }
+        (run_line time failed outputs.now)) }
 {
     text.make_space(writer)?;
-    push_run_line(text, time, failed.a, failed.b, outputs);
+    push_run_line(text, time, failed, outputs);
     Ok(())
 }
 
 /// Adds the line of a run.
 // Each word is a function of its own, so that no proof has more than a few texts to compare.
-fn push_run_line(
-    text: &mut TextBuffer,
-    time: i64,
-    failed_a: u64,
-    failed_b: u64,
-    outputs: &OutputStates,
-)
+fn push_run_line(text: &mut TextBuffer, time: i64, failed: FailedSends, outputs: &OutputStates)
     requires { length text.old + 4096 ≤ 65536 }
-    ensures { text.new ≡ text.old ++ run_line time failed_a failed_b outputs.now }
+    ensures { text.new ≡ text.old ++ run_line time failed outputs.now }
 {
     push_run_time(text, time);
-    push_run_failed(text, failed_a, failed_b);
+    push_run_failed(text, failed.a, failed.b);
+    push_run_stale(text, failed.stale);
     push_run_outputs(text, &OUTPUT_KINDS, outputs);
     text.push("\n");
 }
@@ -199,6 +216,17 @@ fn push_run_failed(text: &mut TextBuffer, failed_a: u64, failed_b: u64)
     text.push_number(failed_a);
     text.push(" failed_b=");
     text.push_number(failed_b);
+}
+
+/// Adds the datagrams that were left out of both copies because they were stale.
+#[tactic(auto, unfolding(crate::specs::Lines::run_stale))]
+fn push_run_stale(text: &mut TextBuffer, stale: u64)
+    requires { length text.old + 100 ≤ 65536 }
+    ensures text { text.new ≡ text.old ++ run_stale stale }
+    ensures few { length text.new ≤ length text.old + 100 }
+{
+    text.push(" stale=");
+    text.push_number(stale);
 }
 
 /// Adds the outputs of these kinds.
@@ -261,20 +289,10 @@ fn push_output_written(text: &mut TextBuffer, kind: OutputKind, written: Option<
     ensures text { text.new ≡ text.old ++ output_written kind written }
     ensures few { length text.new ≤ length text.old + 100 }
 {
-    text.push(written_word(kind));
+    text.push(" ");
+    text.push(kind.written_word());
+    text.push("=");
     push_known(text, written);
-}
-
-/// Returns the word before the number of units of an output that were written.
-fn written_word(kind: OutputKind) -> &'static str
-    ensures word { result.now ≡ written_word kind }
-    ensures few { length result.now ≤ 12 }
-{
-    match kind {
-        OutputKind::Record => " recorded=",
-        OutputKind::Wav => " wav_blocks=",
-        OutputKind::Pcm => " pcm_blocks=",
-    }
 }
 
 /// Adds the number of units of an output that were left out, if the output has a reader.

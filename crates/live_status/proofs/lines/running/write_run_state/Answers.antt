@@ -10,5 +10,5 @@ returns-in_err-make_space-clause-fault g c =
 
 pub returns-clause-ok : goal.returns-clause-ok
 returns-clause-ok g c =
-    let grown : c.push_run_line.new.text ≡ c.make_space.new.self ++ run_line c.args.time c.args.failed.a c.args.failed.b c.args.outputs.now = search rules in
+    let grown : c.push_run_line.new.text ≡ c.make_space.new.self ++ run_line c.args.time c.args.failed c.args.outputs.now = search rules in
     PassesOn-grown _ _ _ _ _ _ c.in_ok-make_space.ensures.ok grown
