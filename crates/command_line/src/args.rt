@@ -1,7 +1,7 @@
 //! The commands of the program and their arguments.
 ghost use Rattle.std.specs.Prelude.{◌≡◌, bytes_eq, codes};
 
-use studio_io::LiveOptions;
+use crate::live_args::LiveArgs;
 
 /// The command that the command line asks for.
 #[derive(Drop)]
@@ -65,8 +65,9 @@ pub struct StreamsArgs<'a> {
     pub file: &'a str,
     /// True if the flows are listed too that are not shown to be RTP streams.
     pub all: bool,
-    /// The longest step forward of the capture's time that is no fault, in seconds.
-    pub gap: u64,
+    /// The longest step forward of the capture's time that is no fault, in seconds. If `None`, it follows from the kind
+    /// of the capture.
+    pub gap: Option<u64>,
 }
 
 /// The arguments of `replay`: the capture, the file with changes of gains, and the files that are written in addition
@@ -77,8 +78,9 @@ pub struct ReplayArgs<'a> {
     pub file: &'a str,
     /// The addresses and ports of the flows, as they were typed. If it is empty, all flows that fit a stream are taken.
     pub addresses: Vec<&'a str>,
-    /// The longest step forward of the capture's time that is no fault, in seconds.
-    pub gap: u64,
+    /// The longest step forward of the capture's time that is no fault, in seconds. If `None`, it follows from the kind
+    /// of the capture.
+    pub gap: Option<u64>,
     /// The path of the file with changes of gains, if there is one.
     pub gains: Option<&'a str>,
     /// The path of the mix's WAV file, if one is asked for.
@@ -107,45 +109,7 @@ pub struct ImportArgs<'a> {
     pub config: bool,
     /// The latency of the configuration's streams in milliseconds. If `None`, it follows from the skew between paths.
     pub latency: Option<u32>,
-    /// The longest step forward of the capture's time that is no fault, in seconds.
-    pub gap: u64,
-}
-
-/// The arguments of `live`.
-#[derive(Clone, Copy)]
-pub struct LiveArgs<'a> {
-    /// The options of the run.
-    pub options: LiveOptions,
-    /// True if the run uses the sockets that it inherited, as by sd_listen_fds(3).
-    pub listen_fds: bool,
-    /// True if sockets at groups are bound so that other programs may bind them too.
-    pub share_groups: bool,
-    /// The offset of International Atomic Time from the system's time of day, if the run opens by that time: a number
-    /// of seconds, or `system` for the offset that the system knows. If `None`, the run opens at the configuration's
-    /// time.
-    pub tai_offset: Option<&'a str>,
-    /// The path of the run's record, if one is asked for.
-    pub record: Option<&'a str>,
-    /// True if the fault of a device is explained: what the socket is for and its address, or the path of the file, and
-    /// the system's error.
-    pub verbose: bool,
-    /// The path of the file with the token of the page's control of gains, if the page is to have it.
-    pub control: Option<&'a str>,
-    /// The path of the mix's WAV file, if one is asked for.
-    pub wav: Option<&'a str>,
-    /// The number of minutes after which a new WAV file begins, if the mix is divided. Its files are named by `wav` and
-    /// the time.
-    pub wav_minutes: Option<u64>,
-    /// The path of the mix's raw PCM, if it is asked for; `-` is standard output.
-    pub pcm: Option<&'a str>,
-}
-
-impl LiveArgs<'_> {
-    /// Returns true if the raw PCM goes to standard output: its path is `-`.
-    pub fn is_pcm_stdout(&self) -> bool {
-        match self.pcm {
-            Some(path) => path == "-",
-            None => false,
-        }
-    }
+    /// The longest step forward of the capture's time that is no fault, in seconds. If `None`, it follows from the kind
+    /// of the capture.
+    pub gap: Option<u64>,
 }

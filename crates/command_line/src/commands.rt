@@ -164,7 +164,7 @@ const LIVE: &[ArgSpec] = &[
     },
     ArgSpec {
         name: "control",
-        help: "Let requests to the page change gains if they have the token in this file, which only its owner may read; needs --page",
+        help: "Let requests to the page change gains if they have the token in this file, which others must not be able to read; needs --page",
         relation: ArgRelation::Needs("page"),
         ..FILE
     },
@@ -264,7 +264,7 @@ const PATH: ArgSpec = ArgSpec {
 /// The longest step forward of a capture's time.
 const GAP: ArgSpec = ArgSpec {
     name: "gap",
-    help: "Allow the capture's time to step forward by this many seconds, from 1 to 18446744074 [default: 60]",
+    help: "Allow the capture's time to step forward by this many seconds, from 1 to 18446744074 [default: 60, for a live run's record 3600]",
     kind: ArgKind::Option(
         ArgAction::Set,
         &["SECONDS"],

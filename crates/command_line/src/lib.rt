@@ -8,9 +8,11 @@
 mod args;
 mod clap_args;
 mod commands;
+mod live_args;
 mod parse;
 
 pub use args::{
-    CliCommand, FileCommand, ImportArgs, LiveArgs, PlayArgs, ReplayArgs, StreamWavArgs, StreamsArgs,
+    CliCommand, FileCommand, ImportArgs, PlayArgs, ReplayArgs, StreamWavArgs, StreamsArgs,
 };
+pub use live_args::LiveArgs;
 pub use parse::parse_args;

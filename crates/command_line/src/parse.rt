@@ -1,17 +1,12 @@
 //! The command of a command line's words.
 use crate::args::{
-    CliCommand, FileCommand, ImportArgs, LiveArgs, PlayArgs, ReplayArgs, StreamWavArgs, StreamsArgs,
+    CliCommand, FileCommand, ImportArgs, PlayArgs, ReplayArgs, StreamWavArgs, StreamsArgs,
 };
 use crate::clap_args::program_parser;
+use crate::live_args::LiveArgs;
 use clap::error::ErrorKind;
 use clap::{ArgMatches, Error};
 use std::alloc::{AllocError, Global};
-use studio_io::LiveOptions;
-
-// A recorder that stops and starts again within a minute is one capture. A clock that is set steps by years.
-/// The longest step forward of a capture's time that is no fault, in seconds, unless the command line has another
-/// limit.
-const GAP: u64 = 60;
 
 /// Returns the command that the words ask for. The program's name is not among the words. Help and the version are
 /// errors too, with their texts, and so is an allocation failure.
@@ -64,7 +59,7 @@ fn parse_command<'a>(alloc: Global, matches: &ArgMatches<'a>) -> Result<CliComma
             FileCommand::Replay(config, replay_args(alloc, capture, inner)?)
         }
         (Some(config), None) if name == "live" => {
-            return Ok(CliCommand::Live(config, live_args(inner)));
+            return Ok(CliCommand::Live(config, LiveArgs::of(inner)));
         }
         (Some(config), None) => parse_config_command(name, config, inner),
         (None, Some(capture)) if name == "import" => {
@@ -123,7 +118,7 @@ fn streams_args<'a>(file: &'a str, matches: &ArgMatches<'a>) -> StreamsArgs<'a> 
     StreamsArgs {
         file,
         all: matches.get_flag("all"),
-        gap: gap_in(matches),
+        gap: matches.get_one::<u64>("gap"),
     }
 }
 
@@ -136,17 +131,12 @@ fn replay_args<'a>(
     Ok(ReplayArgs {
         file,
         addresses: addresses_in(alloc, matches)?,
-        gap: gap_in(matches),
+        gap: matches.get_one::<u64>("gap"),
         gains: matches.get_str("gains"),
         wav: matches.get_str("wav"),
         wav_stream: stream_wav_in(matches, "wav-stream"),
         chart: matches.get_str("chart"),
     })
-}
-
-/// Returns the longest step forward of a capture's time that is no fault, in seconds.
-fn gap_in(matches: &ArgMatches<'_>) -> u64 {
-    matches.get_one::<u64>("gap").unwrap_or(GAP)
 }
 
 /// Returns the words of `--path`.
@@ -158,41 +148,12 @@ fn addresses_in<'a>(alloc: Global, matches: &ArgMatches<'a>) -> Result<Vec<&'a s
     Ok(addresses)
 }
 
-/// Returns the arguments of `live`. With `--clock tai` and no `--tai-offset`, the offset is the one that the system
-/// knows.
-fn live_args<'a>(matches: &ArgMatches<'a>) -> LiveArgs<'a> {
-    let offset = matches.get_str("tai-offset").unwrap_or("system");
-    LiveArgs {
-        options: live_options(matches),
-        listen_fds: matches.get_flag("listen-fds"),
-        share_groups: matches.get_flag("share-groups"),
-        tai_offset: matches.get_str("clock").map(|_tai| offset),
-        record: matches.get_str("record"),
-        verbose: matches.get_flag("verbose"),
-        control: matches.get_str("control"),
-        wav: matches.get_str("wav"),
-        wav_minutes: matches.get_one::<u64>("wav-minutes"),
-        pcm: matches.get_str("pcm"),
-    }
-}
-
-/// Returns the options of a live run.
-fn live_options(matches: &ArgMatches<'_>) -> LiveOptions {
-    LiveOptions {
-        instants: matches.get_one::<i64>("instants"),
-        stats: matches.get_one::<u32>("stats"),
-        page: matches.get_one::<u16>("page"),
-        until_eof: matches.get_flag("until-eof"),
-        one_thread: matches.get_flag("one-thread"),
-    }
-}
-
 /// Returns the arguments of `import`.
 fn import_args<'a>(alloc: Global, matches: &ArgMatches<'a>) -> Result<ImportArgs<'a>, AllocError> {
     Ok(ImportArgs {
         addresses: addresses_in(alloc, matches)?,
         config: matches.get_flag("config"),
         latency: matches.get_one::<u32>("latency"),
-        gap: gap_in(matches),
+        gap: matches.get_one::<u64>("gap"),
     })
 }

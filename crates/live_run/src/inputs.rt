@@ -1,6 +1,8 @@
 //! The inputs of a live run.
 
+use crate::supervisor::signal_file::SignalFile;
 use live_io::SocketConfig;
+use run_outputs::RunStart;
 use status_page::StreamName;
 use std::time::Duration;
 use studio_config::StudioSpec;
@@ -26,6 +28,10 @@ pub struct LiveInputs<'a> {
     pub names: &'a [Option<StreamName>],
     /// The progress of the run's outputs, which its status shows. Each output sets its own.
     pub outputs: &'a RunProgress,
+    /// The signals of the process, of which a pending one ends the run.
+    pub signals: &'a SignalFile,
+    /// The start of the run, which sets it. A file that an output creates is removed if the run does not begin.
+    pub start: &'a RunStart,
     /// The reading of the system's monotonic clock at the studio's opening time, if it could be read.
     pub began: Option<Duration>,
 }

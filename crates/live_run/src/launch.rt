@@ -9,12 +9,13 @@ use crate::page_task::{RunPage, open_run_page};
 use crate::shown_health::ShownHealth;
 use crate::single_thread::run_in_one_thread;
 use crate::status::{PageLink, open_status};
+use crate::supervisor::stop_conditions::StopConditions;
 use crate::supervisor::stop_flags::StopFlags;
 use crate::workers::run_in_workers;
 use live_gains::{GainControl, GainLink, RunGains, open_control};
 use live_io::{RunPeriod, Sockets, open_sockets};
 use live_status::{Meter, StatusOutputs};
-use run_outputs::{CreateOutput, CreatedOutput, SideTask, TaskOutput};
+use run_outputs::{CreateOutput, CreatedOutput, NotedOutput, SideTask, TaskOutput};
 use status_page::Token;
 use std::alloc::Global;
 use std::io::Write;
@@ -119,7 +120,8 @@ impl<'a, R: Threads + Wait + Sync + Clock> BoundRun<'a, R> {
             Some(task) => Some(TaskOutput::new(task)),
             None => None,
         };
-        run_bound(rt, alloc, run, state, self, (served, outputs), faults)
+        let outputs = NotedOutput::new(run.inputs.start, (served, outputs));
+        run_bound(rt, alloc, run, state, self, outputs, faults)
     }
 }
 
@@ -143,7 +145,8 @@ fn run_bound<'a, R: Threads + Wait + Sync + Clock, E: Write + Send + Drop, O: Cr
         page,
     } = bound;
     let status = open_status(alloc, run, &sockets, page, &state.meter, faults)?;
-    // Last, so that a start that fails, as one whose sockets are taken, leaves no file behind and touches none.
+    // Last, so that a start that fails, as one whose sockets are taken, touches no file. A start that fails from here
+    // on removes the files that it created.
     let created = outputs.create(alloc, run.studio, gains.is_some())?;
     let context = context_of(run, state, status, gains);
     run_created::<R, E, O>(rt, alloc, run, sockets, context, created)
@@ -165,7 +168,7 @@ fn context_of<'a, R: Wait + Clock, E: Drop>(
     } = run;
     RunContext {
         period: RunPeriod::new(studio, inputs.began, options.instants),
-        until_eof: options.until_eof,
+        conditions: StopConditions::new(inputs.signals, options.until_eof),
         status,
         flags: &state.flags,
         health: inputs.sockets.health,
@@ -175,6 +178,7 @@ fn context_of<'a, R: Wait + Clock, E: Drop>(
             unexpected: inputs.sockets.unexpected,
             outputs: inputs.outputs,
         },
+        start: inputs.start,
         gains,
     }
 }

@@ -9,8 +9,8 @@
 //!
 //! - `launch` opens sockets, page and status, creates the outputs, and calls one of the two forms with
 //!   a `RunContext`. `page_task` is the task of the thread that serves the page.
-//! - `status` opens the outputs of the status, and writes the line of addresses and, at a terminal,
-//!   how to end the run with its report. `shown_health` reads what the status shows of sockets, sends
+//! - `status` opens the outputs of the status, and writes the line of addresses and how to end the
+//!   run, if that is not by a signal. `shown_health` reads what the status shows of sockets, sends
 //!   and outputs.
 //! - `workers` is the form with a thread for each path and stream and one for the mix,
 //!   `run_in_workers`. It passes its mix to the outputs.
@@ -18,7 +18,7 @@
 //!   poll(2) until a socket has a datagram. It passes its mix and its events to the outputs.
 //! - `report` writes the text of the final report.
 //! - `supervisor` is the task of the thread that ends the feeds, as the options say or on a pending
-//!   signal that was blocked at the start, and runs the status task.
+//!   signal that was blocked at the start, and runs the status task. Its `SignalFile` finds the signal.
 //! - `socket_watch` is the supervisor's task that writes a line for each path that fails or ends, and
 //!   reads what the kernel dropped.
 //!
@@ -44,3 +44,4 @@ mod workers;
 pub use fault::LiveFault;
 pub use inputs::{LiveInputs, LiveRun};
 pub use run::run_studio_live;
+pub use supervisor::signal_file::SignalFile;

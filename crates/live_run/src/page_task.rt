@@ -2,7 +2,7 @@
 
 use crate::status::PageLink;
 use live_status::{OpenPage, PageFault, PageThread, open_page};
-use run_outputs::SideTask;
+use run_outputs::{RunStart, SideTask};
 use status_page::{Control, GainRequester};
 use std::alloc::Global;
 use std::net::Net;
@@ -17,7 +17,7 @@ pub(crate) struct PageTask<D: GainRequester> {
 }
 
 impl<D: GainRequester> SideTask for PageTask<D> {
-    fn complete<R: Wait + Clock>(self, rt: &R) {
+    fn complete<R: Wait + Clock>(self, rt: &R, _start: &RunStart) {
         let PageTask { server } = self;
         server.serve(rt);
     }

@@ -28,10 +28,11 @@ use studio_run::TextBuffer;
 /// of the streams are wanted, they are written to `faults`, which has to be standard error: a line that would block
 /// there is dropped.
 ///
-/// `outputs` are created once all sockets are bound, and each is written by a thread of its own. A run in either form
-/// passes its mix to them, and a run in one thread also its events. The run does not wait for them: what an output that
-/// is too slow, fails or goes away does then is its own rule. With a token, `control`, requests to the page that have
-/// it change the gains while the run goes on.
+/// `outputs` are created once all sockets are bound, and each is written by a thread of its own. If the start fails
+/// behind that, the files that they created are removed. A run in either form passes its mix to them, and a run in one
+/// thread also its events. The run does not wait for them: what an output that is too slow, fails or goes away does
+/// then is its own rule. With a token, `control`, requests to the page that have it change the gains while the run goes
+/// on.
 ///
 /// Returns `LiveFault::Unsettled` if the run was not settled; its report is written all the same. Every other error but
 /// `LiveFault::Write` comes before anything is written to `output`.

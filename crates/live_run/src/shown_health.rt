@@ -57,12 +57,18 @@ impl HealthSource for ShownHealth<'_> {
             faults: health.faults(),
             has_ended: health.has_ended(),
             dropped: health.dropped(),
+            too_long: health.too_long(),
+            held_up: health.held_up(),
             unexpected: self.unexpected_at(stream, path, index),
         })
     }
 
     fn failed_sends(&self) -> [u64; 2] {
         self.health.sends().failed()
+    }
+
+    fn stale(&self) -> u64 {
+        self.health.mix().stale()
     }
 
     fn outputs(&self) -> OutputStates {

@@ -51,10 +51,10 @@ pub(crate) fn run_in_one_thread<
         keep_sources(sockets.receiving.as_mut_slice());
     }
     let ready = ready_flags(alloc, sockets.receiving.len())?;
-    let flags = context.flags;
+    let (flags, start) = (context.flags, context.start);
     // The run's own thread publishes the status, since only it may look at the engine.
     let supervisor = Supervisor {
-        until_eof: context.until_eof,
+        conditions: context.conditions,
         flags,
         task: SocketWatch::new(studio, context.health, context.status.publisher.is_some()),
     };
@@ -72,11 +72,15 @@ pub(crate) fn run_in_one_thread<
     run_beside(
         rt,
         (tasks, OneTask::new(supervisor)),
+        start,
         move || -> Result<WorkReport, LiveFault>
             ensures run { IfOk result (IsRunOf true (is_some run.entry.gains) studio.entry.now) }
             ensures early { IfErr result IsEarly }
         {
             let ran = run.run(rt, alloc, studio);
+            if ran.is_err() {
+                start.set_failed();
+            }
             flags.set_finished();
             ran
         },
@@ -115,11 +119,12 @@ fn prepare_run<'a, R: Wait + Clock, E: Write + Drop, O: CreateOutput>(
 {
     let RunContext {
         period,
-        until_eof: _,
+        conditions: _,
         status,
         flags,
         health,
         shown,
+        start: _,
         gains,
     } = context;
     let (events, mix) = outputs;
@@ -128,7 +133,7 @@ fn prepare_run<'a, R: Wait + Clock, E: Write + Drop, O: CreateOutput>(
         flags: FeedFlags {
             stop: &flags.stop,
             ready,
-            health: health.paths(),
+            health,
         },
         meter: status.meter,
         is_controlled: gains.is_some(),

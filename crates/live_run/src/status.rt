@@ -21,8 +21,9 @@ pub(crate) struct PageLink {
 }
 
 /// Opens the status of a run whose sockets and page are open: writes the line with the run's addresses, if there is a
-/// page or lines are wanted. At a terminal it also writes how to end the run with its report, if Ctrl-C would not.
-/// Lines go to `faults`. Allocates all memory of the status, and returns `AllocError` if that fails.
+/// page or lines are wanted. Then it writes how to end the run, if that is not by a signal: at a terminal, if Ctrl-C
+/// would end it without a report, and anywhere, if the system does not list the signals. Lines go to `faults`.
+/// Allocates all memory of the status, and returns `AllocError` if that fails.
 pub(crate) fn open_status<'a, E: Write + Drop>(
     alloc: Global,
     run: LiveRun<'a>,
@@ -41,7 +42,7 @@ pub(crate) fn open_status<'a, E: Write + Drop>(
     if options.stats.is_some() || snapshots.is_some() {
         write_address_line(studio, sockets, address, &mut faults);
     }
-    write_end_hint(options.until_eof, &mut faults);
+    write_end_hint(inputs.signals, options.until_eof, &mut faults);
     let shown = StatusInputs {
         names: inputs.names,
         meter,

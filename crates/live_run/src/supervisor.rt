@@ -1,13 +1,15 @@
 //! The supervisor of a run, which ends it on a signal or at the end of standard input, and publishes the status of a
-//! run by workers. `stop_conditions` finds signals, and `stop_flags` has the flags between the run and its supervisor.
+//! run by workers. `stop_conditions` says if the run is to end, `signal_file` finds signals, and `stop_flags` has the
+//! flags between the run and its supervisor.
 
-use crate::supervisor::stop_conditions::{has_input_ended, is_stop_signal_pending};
+use crate::supervisor::stop_conditions::StopConditions;
 use crate::supervisor::stop_flags::StopFlags;
-use run_outputs::SideTask;
+use run_outputs::{RunStart, SideTask};
 use std::sync::Wait;
 use std::sync::atomic::Ordering;
 use std::time::{Clock, Duration};
 
+pub(crate) mod signal_file;
 pub(crate) mod stop_conditions;
 pub(crate) mod stop_flags;
 
@@ -42,8 +44,8 @@ impl<T: StatusTask> StatusTask for Option<T> {
 /// The supervisor of a run, which works until the run sets the flag `finished`.
 #[derive(Drop)]
 pub(crate) struct Supervisor<'a, T> {
-    /// True if the run ends at the end of standard input.
-    pub(crate) until_eof: bool,
+    /// The conditions that stop the run.
+    pub(crate) conditions: StopConditions<'a>,
     /// The flags between it and the run.
     pub(crate) flags: &'a StopFlags,
     /// The task that publishes the run's status.
@@ -53,7 +55,7 @@ pub(crate) struct Supervisor<'a, T> {
 impl<T: StatusTask> Supervisor<'_, T> {
     /// Sets the flag `stop` if the feeds are to end, and publishes the status if it is due.
     fn poll(&mut self) {
-        if is_stop_signal_pending() || self.until_eof && has_input_ended() {
+        if self.conditions.is_met() {
             self.flags.stop.store(true, Ordering::SeqCst);
         }
         self.task.poll();
@@ -61,7 +63,7 @@ impl<T: StatusTask> Supervisor<'_, T> {
 }
 
 impl<T: StatusTask> SideTask for Supervisor<'_, T> {
-    fn complete<R: Wait + Clock>(self, rt: &R) {
+    fn complete<R: Wait + Clock>(self, rt: &R, _start: &RunStart) {
         let mut supervisor = self;
         for _ in rt.forever() {
             supervisor

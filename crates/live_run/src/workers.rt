@@ -57,11 +57,12 @@ pub(crate) fn run_in_workers<
     let Rings { ends, receivers } = open_rings(alloc, studio, sockets.receiving.len(), is_shown)?;
     let RunContext {
         period,
-        until_eof,
+        conditions,
         status,
         flags,
         health,
         shown,
+        start,
         gains,
     } = context;
     let (mix, tasks) = outputs;
@@ -69,13 +70,13 @@ pub(crate) fn run_in_workers<
     let feed_flags = FeedFlags {
         stop: &flags.stop,
         ready: &[],
-        health: health.paths(),
+        health,
     };
     let workers = prepare_workers(rt, alloc, ends, sockets, mix, period, feed_flags)?;
     let task = worker_status_task(rt, alloc, receivers, period, status.publisher, shown)?;
     let watch = SocketWatch::new(studio, health, is_shown);
     let supervisor = Supervisor {
-        until_eof,
+        conditions,
         flags,
         task: WatchedTask { watch, task },
     };
@@ -83,6 +84,7 @@ pub(crate) fn run_in_workers<
     run_beside(
         rt,
         (tasks, OneTask::new(supervisor)),
+        start,
         move || -> Result<WorkReport, LiveFault>
             requires sync { IsSync R.row }
             requires opened { AreOpenedTogether studio.now 256 workers.ends }
@@ -92,6 +94,9 @@ pub(crate) fn run_in_workers<
             ensures early { IfErr result IsEarly }
         {
             let ran = run_controlled(rt, alloc, studio, workers, gains);
+            if ran.is_err() {
+                start.set_failed();
+            }
             flags.set_finished();
             ran
         },

@@ -20,6 +20,10 @@ const CLOCK: &str =
 /// The explanation of a thread that could not be started.
 const THREAD: &str = "the system has no room for another thread (ulimit -u, TasksMax)";
 
+/// The explanation of raw PCM that would go to a terminal.
+pub(crate) const TERMINAL: &str =
+    "standard output is a terminal, which is no reader of samples: pass them on through a pipe, or name a FIFO or a file";
+
 /// The explanation of a fault: what could not be opened or read, and why.
 #[derive(Debug, Drop, Error)]
 pub(crate) enum Explanation {
@@ -44,7 +48,7 @@ pub(crate) enum Reason {
     System(i32),
     /// There is something at the path of a file that was to be created.
     Exists,
-    /// The file of a token is not one, or others than its owner may read or write it.
+    /// The file of a token is not one, or is not private (`is_private`).
     NotPrivate,
     /// It can be opened by now.
     Passed,
@@ -56,7 +60,7 @@ impl Display for Reason {
             Reason::System(code) => Display::fmt(&io::Error::from_raw_os_error(*code), f),
             Reason::Exists => Display::fmt("it exists, and was not touched", f),
             Reason::NotPrivate => Display::fmt(
-                "not a regular file of 16 to 256 visible ASCII characters that only its owner may read or write",
+                "not a regular file of 16 to 256 visible ASCII characters that others may not read or write, and its group may not write",
                 f,
             ),
             Reason::Passed => Display::fmt("it was not free at the start, but is now", f),

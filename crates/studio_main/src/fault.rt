@@ -18,7 +18,7 @@ const DEVICE_HINT: &str =
 
 /// The hint at a file that has no token for the control of gains.
 const CONTROL_HINT: &str =
-    "The file has to be a regular one of 16 to 256 visible ASCII characters, which only its owner may read or write.";
+    "The file has to be a regular one of 16 to 256 visible ASCII characters that others may not read or write, and its group may not write.";
 
 /// The fault that ended the program. Its `Display` is the fault's line.
 #[derive(Debug, Drop, Error)]
@@ -50,7 +50,7 @@ pub(crate) enum ProgramFault {
     /// A live run's report was written, but the output of this kind ended before the run, for this reason.
     #[error("device: {0} {1}")]
     OutputEnded(OutputKind, OutputEnd),
-    /// The file of `--control` cannot be read, others than its owner may read or write it, or it has no token.
+    /// The file of `--control` cannot be read, is not private (`is_private`), or has no token.
     #[error("device: control")]
     Control,
     /// The file of `--control` is refused, and this explains why.

@@ -1,18 +1,21 @@
 //! The command `live`: a live run, from a configuration to its report and the lines after it.
-use crate::explanation::{Explanation, explained};
+use crate::explanation::{Explanation, TERMINAL, explained};
 use crate::fault::ProgramFault;
+use crate::left_out_lines::write_left_out;
 use crate::live_host::LiveHost;
+use crate::live_lines::LiveLines;
+use crate::opening::{OpenedStudio, open_studio};
 use crate::run_files::{RunPaths, files_of};
+use crate::std_fds::is_stdout_terminal;
 use crate::token_file::token_of;
 use command_line::LiveArgs;
-use file_commands::{CommandFault, output_result, parse_studio, table_in};
-use live_audio::AudioParts;
+use file_commands::{CommandFault, output_result, table_in};
 use live_io::{
-    InheritedSockets, LivePorts, RunHealth, SocketConfig, TaiOffset, TaiTime, UnexpectedSources,
-    tai_now, unopened_socket,
+    InheritedSockets, LivePorts, RunHealth, SocketConfig, UnexpectedSources, unopened_socket,
 };
-use live_run::{LiveFault, LiveInputs, LiveRun, run_studio_live};
+use live_run::{LiveFault, LiveInputs, LiveRun, SignalFile, run_studio_live};
 use rtp_stream::Path;
+use run_outputs::RunStart;
 use status_page::{StreamName, Token};
 use std::alloc::{AllocError, Global};
 use std::io::Write;
@@ -21,25 +24,16 @@ use std::random::RandomSource;
 use std::rt::Env;
 use std::sync::Wait;
 use std::thread::Threads;
-use std::time::{Clock, Duration};
+use std::time::Clock;
 use studio_config::StudioSpec;
 use studio_io::{OUTPUT_KINDS, OutputEnd, OutputKind, OutputState, RunProgress};
 use toml::Value;
 
-/// The number of sampling instants in a minute.
-const MINUTE_INSTANTS: u64 = 2_880_000;
-
-/// A studio, and the reading of the system's monotonic clock at its opening time, if that clock could be read.
-#[derive(Drop)]
-struct OpenedStudio {
-    studio: StudioSpec,
-    began: Option<Duration>,
-}
-
 /// Runs the studio of a configuration's octets over sockets, and writes its report to `output`. If counts are asked for
-/// while it runs, they go to `faults`. Files are the host's. Returns the first fault: of the clock that times the WAV
-/// files, of the configuration, of the offset or the time of `--clock`, of the token's file, of a missing port or an
-/// inherited socket, of the run's files, or of the run. With `--verbose` the fault of a device is explained.
+/// while it runs, they go to `faults`. Files are the host's. Returns the first fault: of the configuration, of the
+/// offset or the time of `--clock`, of the clock that times the WAV files, of the token's file, of a missing port or an
+/// inherited socket, of the run's files, or of the run. With `--verbose` the fault of a device is explained. That of
+/// raw PCM to a terminal always is.
 pub(crate) fn run_live<
     R: Threads + Wait + Sync + Net + Clock + RandomSource + Env + AllocGlobal,
     H: LiveHost,
@@ -52,17 +46,16 @@ pub(crate) fn run_live<
     faults: &mut H::Stderr,
     host: &H,
 ) -> Result<(), ProgramFault> {
-    let request = LiveRequest {
-        config,
-        args,
-        parts: wav_parts(rt, args)?,
-        host,
+    let request = LiveRequest { config, args, host };
+    let (begins, ran) = match open_studio(rt, alloc, config, args) {
+        Ok(opened) => (
+            opened.parts.map(|parts| parts.at),
+            load_and_run(rt, alloc, &request, opened, output, faults),
+        ),
+        Err(fault) => (None, Err(fault)),
     };
-    match load_and_run(rt, alloc, &request, output, faults) {
-        Err(fault) if args.verbose => {
-            let begins = request.parts.map(|parts| parts.at);
-            Err(explained(rt, alloc, host, args, begins, fault)?)
-        }
+    match ran {
+        Err(fault) if args.verbose => Err(explained(rt, alloc, host, args, begins, fault)?),
         ran => ran,
     }
 }
@@ -73,13 +66,11 @@ struct LiveRequest<'a, H> {
     /// The octets of the configuration.
     config: &'a [u8],
     args: LiveArgs<'a>,
-    /// The division of the mix into WAV files, if it is divided.
-    parts: Option<AudioParts>,
     /// The host of the files.
     host: &'a H,
 }
 
-/// Runs the studio of a configuration's octets as `run_live` does. Only the fault of a socket is explained.
+/// Runs a studio that opens as `run_live` does. Only the faults of a socket and of raw PCM to a terminal are explained.
 fn load_and_run<
     R: Threads + Wait + Sync + Net + Clock + RandomSource + Env + AllocGlobal,
     H: LiveHost,
@@ -87,15 +78,16 @@ fn load_and_run<
     rt: &R,
     alloc: Global,
     request: &LiveRequest<'_, H>,
+    opened: OpenedStudio,
     output: &mut H::Stdout,
     faults: &mut H::Stderr,
 ) -> Result<(), ProgramFault> {
     let (config, args, host) = (request.config, request.args, request.host);
-    let opened = open_studio(rt, alloc, parse_studio(alloc, config)?, args.tai_offset)?;
     let token = token_of(alloc, host, args.control)?;
     let inputs = load_inputs(rt, alloc, &opened.studio, config, args.listen_fds)?;
+    refuse_terminal(args)?;
     // The run creates its files once its sockets are bound. A file that is there already is refused before that.
-    let files = files_of(alloc, host, args, request.parts)?;
+    let files = files_of(alloc, host, args, opened.parts)?;
     let loaded = LoadedRun {
         opened,
         inputs,
@@ -106,6 +98,17 @@ fn load_and_run<
         return run_loaded(rt, alloc, &loaded, files, token, &mut host.stderr(), faults);
     }
     run_loaded(rt, alloc, &loaded, files, token, output, faults)
+}
+
+/// Refuses raw PCM that would go to a terminal.
+// A terminal counts as ready if it has space for one octet, so a write of more may wait for its reader, and the run for
+// the write.
+fn refuse_terminal(args: LiveArgs<'_>) -> Result<(), ProgramFault> {
+    if args.is_pcm_stdout() && is_stdout_terminal() {
+        let fault = LiveFault::Output(OutputKind::Pcm);
+        return Err(ProgramFault::LiveExplained(fault, Explanation::Text(TERMINAL)));
+    }
+    Ok(())
 }
 
 /// A studio with the inputs of its run.
@@ -131,22 +134,27 @@ fn run_loaded<
     faults: &mut H::Stderr,
 ) -> Result<(), ProgramFault> {
     let (studio, args) = (&loaded.opened.studio, &loaded.args);
-    let progress = RunProgress::new();
+    let (progress, start) = (RunProgress::new(), files.start());
     let run = LiveRun {
         studio,
         options: &args.options,
-        inputs: live_inputs(loaded, &progress),
+        inputs: live_inputs(loaded, &progress, start),
     };
     let outputs = files.outputs(&progress);
-    let ran = run_studio_live(rt, alloc, run, outputs, token, output, faults);
+    let lines = LiveLines::new(faults);
+    let ran = run_studio_live(rt, alloc, run, outputs, token, output, lines);
     if args.verbose && matches!(ran, Err(LiveFault::Socket)) {
         return Err(socket_fault(alloc, studio, run.inputs.sockets)?);
     }
     finish(ran, studio, run.inputs, loaded.args, output)
 }
 
-/// Returns the inputs of a run, whose outputs set this progress.
-fn live_inputs<'a>(loaded: &'a LoadedRun<'_>, progress: &'a RunProgress) -> LiveInputs<'a> {
+/// Returns the inputs of a run with this start, whose outputs set this progress.
+fn live_inputs<'a>(
+    loaded: &'a LoadedRun<'_>,
+    progress: &'a RunProgress,
+    start: &'a RunStart,
+) -> LiveInputs<'a> {
     let inputs = &loaded.inputs;
     LiveInputs {
         sockets: SocketConfig {
@@ -158,6 +166,8 @@ fn live_inputs<'a>(loaded: &'a LoadedRun<'_>, progress: &'a RunProgress) -> Live
         },
         names: inputs.names.as_slice(),
         outputs: progress,
+        signals: &inputs.signals,
+        start,
         began: loaded.opened.began,
     }
 }
@@ -185,6 +195,7 @@ struct LoadedInputs {
     names: Vec<Option<StreamName>>,
     unexpected: UnexpectedSources,
     health: RunHealth,
+    signals: SignalFile,
 }
 
 /// Returns the inputs of a run of a configuration's studio.
@@ -206,6 +217,7 @@ fn load_inputs<R: Env + AllocGlobal>(
         names,
         unexpected,
         health,
+        signals: SignalFile::open(),
     })
 }
 
@@ -269,6 +281,7 @@ fn write_after_report<W: Write>(
         output_result(writeln!(output, "open_at {open_at}"))?;
     }
     write_unexpected(studio, inputs.sockets.unexpected, output)?;
+    write_left_out(studio, inputs.sockets.health, output)?;
     for kind in OUTPUT_KINDS {
         write_output_line(kind, inputs.outputs.of(kind).state(), output)?;
     }
@@ -288,60 +301,6 @@ fn write_output_line<W: Write>(
     let (written, given) = (counts.written, counts.given);
     output_result(writeln!(output, "{kind} {written} of {given}"))?;
     Ok(())
-}
-
-/// Returns the studio as the configuration has it, or, if an offset is given, opened now by International Atomic Time.
-fn open_studio<R: Clock>(
-    rt: &R,
-    alloc: Global,
-    studio: StudioSpec,
-    tai_offset: Option<&str>,
-) -> Result<OpenedStudio, ProgramFault> {
-    let Some(word) = tai_offset else {
-        let began = rt.monotonic().ok();
-        return Ok(OpenedStudio { studio, began });
-    };
-    let present = present_tai(rt, word)?;
-    let studio = studio.shifted(alloc, present.at)?;
-    Ok(OpenedStudio {
-        studio,
-        began: Some(present.began),
-    })
-}
-
-/// Returns the present International Atomic Time, by the offset in a word.
-fn present_tai<R: Clock>(rt: &R, word: &str) -> Result<TaiTime, ProgramFault> {
-    match tai_now(rt, offset_of(word)?) {
-        Some(present) => Ok(present),
-        None => Err(ProgramFault::Clock),
-    }
-}
-
-/// Returns the division of the mix into WAV files, if it is divided, with the present time for its first sample.
-fn wav_parts<R: Clock>(rt: &R, args: LiveArgs<'_>) -> Result<Option<AudioParts>, ProgramFault> {
-    let Some(minutes) = args.wav_minutes else {
-        return Ok(None);
-    };
-    // With an offset of 0 seconds this is the time of day in UTC.
-    let present = tai_now(rt, TaiOffset::Seconds(0)).and_then(|now| u64::try_from(now.at).ok());
-    match present {
-        Some(at) => Ok(Some(AudioParts {
-            at,
-            instants: minutes.saturating_mul(MINUTE_INSTANTS),
-        })),
-        None => Err(ProgramFault::Clock),
-    }
-}
-
-/// Returns the offset in a word: a number of seconds, or `system`.
-fn offset_of(word: &str) -> Result<TaiOffset, ProgramFault> {
-    if word == "system" {
-        return Ok(TaiOffset::System);
-    }
-    match word.parse::<u32>() {
-        Ok(seconds) => Ok(TaiOffset::Seconds(seconds)),
-        Err(_) => Err(ProgramFault::TaiOffset),
-    }
 }
 
 /// Writes the number of datagrams from unexpected sources, for each path that has a source address.

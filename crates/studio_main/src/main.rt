@@ -4,40 +4,54 @@
 //! by `command_line`, runs the command, and returns the exit status. `file_commands` runs a command
 //! over files, and `live_command` the live command, whose files are those of `run_files` on a
 //! `LiveHost`. A `ProgramFault` has the line and the exit status of every fault, and `explanation` what
-//! `--verbose` adds to it. `SystemHost` opens files by path, `pcm_output` the output of raw PCM, and
-//! `token_file` reads the token for the control of gains. `wav_files` has the WAV files of a live run.
-//! `output_end` writes the line of an output that ends before its run.
+//! `--verbose` adds to it. `opening` opens the studio of a live run, with the clocks at that moment.
+//! `SystemHost` opens files by path, `pcm_output` the output of raw PCM, and `token_file` reads the token
+//! for the control of gains. `wav_files` has the WAV files of a live run. A `CreatedFile` is removed if
+//! its run does not begin. `file_limit` keeps files below the limit of their size, and `std_streams`
+//! standard output and standard error. `output_end` writes the line of an output that ends before its run,
+//! `left_out_lines` those of the datagrams that a live run left out, and `live_lines` all others of a
+//! live run.
 //! `std_fds` opens the standard descriptors that are closed, before anything else. `terminal_help` has
 //! the help for a start by hand: without words, and behind a fault.
 #![tactic(auto)]
 
+mod created_file;
 mod explanation;
 mod fault;
+mod file_limit;
+mod left_out_lines;
 mod live_command;
 mod live_host;
+mod live_lines;
+mod opening;
 mod output_end;
 mod pcm_output;
 mod program;
 mod run_files;
 mod std_fds;
+mod std_streams;
 mod terminal_help;
 mod token_file;
 mod wav_files;
 
+use crate::created_file::{CreateFault, CreatedFile};
 use crate::explanation::SystemErrors;
 use crate::fault::ProgramFault;
+use crate::file_limit::LimitedFile;
 use crate::live_host::LiveHost;
 use crate::output_end::report_output_end;
 use crate::pcm_output::SystemPcm;
 use crate::program::run;
 use crate::std_fds::open_missing_fds;
+use crate::std_streams::{LimitedStderr, LimitedStdout};
 use crate::token_file::{TokenFiles, open_private};
 use crate::wav_files::{SystemAudio, SystemWavFiles};
 use file_commands::{CommandFault, Host};
 use live_io::{RecordFault, RecordFile};
+use run_outputs::RunStart;
 use std::alloc::{AllocError, Global};
 use std::env::Args;
-use std::io::{ErrorKind, Seek, SeekFrom, Stderr, Stdin, Stdout, Write};
+use std::io::{ErrorKind, Stdin, Write};
 use std::os::unix::fs::MetadataExt;
 use std::process::ExitCode;
 use std::rt::Env;
@@ -55,6 +69,8 @@ pub(crate) struct SystemHost<'a> {
     /// there was none.
     // An atomic, since the host is shared.
     error: &'a AtomicI32,
+    /// The start of the live run, if the command is one.
+    start: &'a RunStart,
 }
 
 impl SystemHost<'_> {
@@ -72,16 +88,16 @@ impl SystemErrors for SystemHost<'_> {
     }
 }
 
-impl Host for SystemHost<'_> {
+impl<'a> Host for SystemHost<'a> {
     type Stdin = Stdin;
 
-    type Stdout = Stdout;
+    type Stdout = LimitedStdout<'a>;
 
-    type Stderr = Stderr;
+    type Stderr = LimitedStderr<'a>;
 
     type Source = fs::File;
 
-    type Target = SeekFile<fs::File>;
+    type Target = SeekFile<LimitedFile>;
 
     fn open(&self, path: &str) -> Result<fs::File, ReadFault> {
         match fs::open(self.rt, path) {
@@ -97,9 +113,9 @@ impl Host for SystemHost<'_> {
         read_octets(alloc, &mut file)
     }
 
-    fn create(&self, path: &str) -> Result<SeekFile<fs::File>, FileFault> {
+    fn create(&self, path: &str) -> Result<SeekFile<LimitedFile>, FileFault> {
         match fs::create(self.rt, path) {
-            Ok(file) => Ok(SeekFile::new(file)),
+            Ok(file) => Ok(SeekFile::new(LimitedFile::new(file))),
             Err(_) => Err(FileFault::NotCreated),
         }
     }
@@ -113,29 +129,32 @@ impl Host for SystemHost<'_> {
 }
 
 impl<'a> LiveHost for SystemHost<'a> {
-    type Record = SystemRecord;
+    type Record = SystemRecord<'a>;
 
-    type WavFile = SystemAudio;
+    type WavFile = SystemAudio<'a>;
 
     type Audio = SystemWavFiles<'a>;
 
-    type Pcm = SystemPcm;
+    type Pcm = SystemPcm<'a>;
 
     fn has(&self, path: &str) -> bool {
         // Not `exists`, which follows a link: a link that leads nowhere is refused by `create_record` too.
         fs::symlink_metadata(self.rt, path).is_ok()
     }
 
-    fn create_record(&self, path: &str) -> Result<SystemRecord, RecordFault> {
-        match fs::File::create_new(self.rt, path) {
+    fn start(&self) -> &RunStart {
+        self.start
+    }
+
+    fn create_record(&self, alloc: Global, path: &str) -> Result<SystemRecord<'a>, RecordFault> {
+        match CreatedFile::create(*self, alloc, path) {
             Ok(file) => Ok(SystemRecord {
                 file,
-                faults: self.rt.stderr(),
+                faults: self.stderr(),
             }),
-            Err(error) => match self.note(&error) {
-                ErrorKind::AlreadyExists => Err(RecordFault::Exists),
-                _ => Err(RecordFault::NotCreated),
-            },
+            Err(CreateFault::Memory) => Err(RecordFault::Memory),
+            Err(CreateFault::Exists) => Err(RecordFault::Exists),
+            Err(CreateFault::NotCreated) => Err(RecordFault::NotCreated),
         }
     }
 
@@ -148,22 +167,21 @@ impl<'a> LiveHost for SystemHost<'a> {
         SystemWavFiles::new(*self, alloc, path, begins)
     }
 
-    fn create_pcm(&self, path: Option<&str>) -> Result<SystemPcm, PcmFault> {
-        match SystemPcm::open(self.rt, path) {
-            Ok(output) => Ok(output),
-            Err(error) => match self.note(&error) {
-                ErrorKind::AlreadyExists => Err(PcmFault::Exists),
-                _ => Err(PcmFault::NotCreated),
-            },
-        }
+    fn create_pcm(
+        &self,
+        alloc: Global,
+        path: Option<&str>,
+        block_len: usize,
+    ) -> Result<SystemPcm<'a>, PcmFault> {
+        SystemPcm::open(*self, alloc, path, block_len)
     }
 
     fn is_fifo(&self, path: &str) -> bool {
         pcm_output::is_fifo(self.rt, path)
     }
 
-    fn stderr(&self) -> Stderr {
-        self.rt.stderr()
+    fn stderr(&self) -> LimitedStderr<'a> {
+        LimitedStderr::new(self.rt)
     }
 }
 
@@ -182,26 +200,24 @@ impl TokenFiles for SystemHost<'_> {
 
 /// The file of a record, which reports its end on standard error.
 #[derive(Drop)]
-struct SystemRecord {
-    file: fs::File,
-    faults: Stderr,
+struct SystemRecord<'a> {
+    file: CreatedFile<'a>,
+    faults: LimitedStderr<'a>,
 }
 
-impl Write for SystemRecord {
+impl Write for SystemRecord<'_> {
     fn write(&mut self, buf: &[u8]) -> io::Result<usize> {
-        self.file.write(buf)
+        self.file.limited().write(buf)
     }
 
     fn flush(&mut self) -> io::Result<()> {
-        self.file.flush()
+        self.file.limited().flush()
     }
 }
 
-impl RecordFile for SystemRecord {
+impl RecordFile for SystemRecord<'_> {
     fn cut(&mut self, len: u64) -> io::Result<()> {
-        self.file.set_len(len)?;
-        self.file.seek(SeekFrom::Start(len))?;
-        Ok(())
+        self.file.limited().cut(len)
     }
 
     fn report(&mut self, end: OutputEnd, datagrams: u64) {
@@ -213,18 +229,19 @@ fn main(rt: HostRuntime) -> ExitCode {
     // Before the first file or socket, which would else get the descriptor of a standard stream that is closed.
     open_missing_fds();
     let alloc = rt.alloc();
-    let mut faults = rt.stderr();
+    let mut faults = LimitedStderr::new(&rt);
     let status = match program_args(&rt) {
         Ok(words) => run(
             &rt,
             alloc,
             words.as_slice(),
             &mut rt.stdin(),
-            &mut rt.stdout(),
+            &mut LimitedStdout::new(&rt),
             &mut faults,
             &SystemHost {
                 rt: &rt,
                 error: &AtomicI32::new(0),
+                start: &RunStart::new(),
             },
         ),
         Err(fault) => fault.report(&mut faults),

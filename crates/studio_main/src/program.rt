@@ -2,6 +2,7 @@
 use crate::fault::ProgramFault;
 use crate::live_command::run_live;
 use crate::live_host::LiveHost;
+use crate::std_fds::takes_fault_line;
 use crate::terminal_help::{write_hint, write_terminal_help};
 use clap::Error;
 use clap::error::ErrorKind;
@@ -20,7 +21,8 @@ use std::thread::Threads;
 use std::time::Clock;
 
 /// Runs the program and returns its exit status. The words do not include the program's name. The text goes to
-/// `output`, and the line of a fault to `faults`. Files are the host's.
+/// `output`, and the line of a fault to `faults`, which has to be standard error. The line of a live run's fault is
+/// left out if standard error does not take it within two seconds. Files are the host's.
 pub(crate) fn run<
     R: Threads + Wait + Sync + Net + Clock + RandomSource + Env + AllocGlobal,
     H: LiveHost,
@@ -37,14 +39,21 @@ pub(crate) fn run<
         Ok(command) => command,
         Err(error) => return report_usage(&error, output, faults),
     };
+    let is_live = matches!(command, CliCommand::Live(_, _));
     match dispatch(rt, alloc, command, input, output, faults, host) {
         Ok(()) => 0,
-        Err(fault) => report_fault(&fault, faults),
+        // A live run ends when it is told to, also if nobody reads its standard error. A command over files waits for
+        // its reader, as the report of a live run does.
+        Err(fault) => report_fault(&fault, !is_live || takes_fault_line(), faults),
     }
 }
 
-/// Writes the line of a fault and, at a terminal, how to learn more of it. Returns the exit status.
-fn report_fault<E: Write>(fault: &ProgramFault, faults: &mut E) -> u8 {
+/// Writes the line of a fault and, at a terminal, how to learn more of it. Both are left out if the line is not taken.
+/// Returns the exit status.
+fn report_fault<E: Write>(fault: &ProgramFault, is_taken: bool, faults: &mut E) -> u8 {
+    if !is_taken {
+        return fault.status();
+    }
     let status = fault.report(faults);
     write_hint(fault.hint(), faults);
     status

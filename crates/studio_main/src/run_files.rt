@@ -7,6 +7,7 @@ use file_commands::{Host, is_one_file};
 use live_audio::{AudioParts, RawPcmOutput, WavOutput};
 use live_io::{CreateRecord, RecordFault, RecordOutput};
 use live_run::LiveFault;
+use run_outputs::RunStart;
 use std::alloc::{AllocError, Global};
 use studio_io::{OutputKind, RunProgress};
 use wav_file::{CreateLiveWav, CreatePcm, PcmFault};
@@ -15,6 +16,7 @@ use wav_file::{CreateLiveWav, CreatePcm, PcmFault};
 #[derive(Drop)]
 pub(crate) struct RunPath<'h, 'p, H> {
     host: &'h H,
+    alloc: Global,
     path: &'p str,
     /// The time of the first sample of the WAV files, if each has its time in its name.
     begins: Option<u64>,
@@ -23,6 +25,7 @@ pub(crate) struct RunPath<'h, 'p, H> {
 /// The paths at which a run creates its files, each if it is wanted.
 #[derive(Drop)]
 pub(crate) struct RunPaths<'h, 'p, H> {
+    host: &'h H,
     record: Option<RunPath<'h, 'p, H>>,
     wav: Option<RunPath<'h, 'p, H>>,
     pcm: Option<RunPath<'h, 'p, H>>,
@@ -43,6 +46,7 @@ impl<'h, 'p, H> RunPaths<'h, 'p, H> {
         progress: &'a RunProgress,
     ) -> RunOutputs<'a, RunPath<'h, 'p, H>> {
         let RunPaths {
+            host: _,
             record,
             wav,
             pcm,
@@ -65,6 +69,13 @@ impl<'h, 'p, H> RunPaths<'h, 'p, H> {
     }
 }
 
+impl<'h, H: LiveHost> RunPaths<'h, '_, H> {
+    /// Returns the start of the run. A file that was created is removed if the run does not begin.
+    pub(crate) fn start(&self) -> &'h RunStart {
+        self.host.start()
+    }
+}
+
 /// Returns the path that the options name for the output of a kind, if they name one.
 pub(crate) fn path_of<'p>(kind: OutputKind, args: LiveArgs<'p>) -> Option<&'p str> {
     match kind {
@@ -78,7 +89,7 @@ impl<H: LiveHost> CreateRecord for RunPath<'_, '_, H> {
     type File = H::Record;
 
     fn create(&self) -> Result<H::Record, RecordFault> {
-        self.host.create_record(self.path)
+        self.host.create_record(self.alloc, self.path)
     }
 }
 
@@ -95,8 +106,9 @@ impl<H: LiveHost> CreateLiveWav for RunPath<'_, '_, H> {
 impl<H: LiveHost> CreatePcm for RunPath<'_, '_, H> {
     type Pcm = H::Pcm;
 
-    fn create_pcm(&self) -> Result<H::Pcm, PcmFault> {
-        self.host.create_pcm(file_of(self.path))
+    fn create_pcm(&self, block_len: usize) -> Result<H::Pcm, PcmFault> {
+        let path = file_of(self.path);
+        self.host.create_pcm(self.alloc, path, block_len)
     }
 }
 
@@ -122,8 +134,14 @@ pub(crate) fn files_of<'h, 'p, H: LiveHost>(
         }
         _ => refuse_files(host, args, args.wav)?,
     }
-    let place = |path| RunPath { host, path, begins };
+    let place = |path| RunPath {
+        host,
+        alloc,
+        path,
+        begins,
+    };
     Ok(RunPaths {
+        host,
         record: args.record.map(place),
         wav: args.wav.map(place),
         pcm: args.pcm.map(place),

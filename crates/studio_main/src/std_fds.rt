@@ -1,5 +1,16 @@
 //! The descriptors of standard input, output and error.
 
+use libc::net::POLLOUT;
+use libc::types::pollfd;
+use live_io::STDERR;
+
+/// The descriptor of standard output.
+pub(crate) const STDOUT: i32 = 1;
+
+/// The longest wait of a live run's fault for standard error, in milliseconds.
+// A reader that goes on gets the line. One that has stopped does not keep a run on that was told to end.
+const FAULT_WAIT_MS: i32 = 2_000;
+
 /// The file that replaces a descriptor that is not open: reads return its end, and writes fail, since it is opened for
 /// reading.
 const NULL_DEVICE: &[u8] = b"/dev/null";
@@ -18,4 +29,19 @@ pub(crate) fn open_missing_fds() {
             return;
         }
     }
+}
+
+/// Returns true if standard output is a terminal.
+pub(crate) fn is_stdout_terminal() -> bool {
+    libc::isatty(STDOUT) == 1
+}
+
+/// Returns true once standard error takes a line without blocking, and false if it does not within two seconds.
+pub(crate) fn takes_fault_line() -> bool {
+    let mut polled = [pollfd {
+        fd: STDERR,
+        events: POLLOUT,
+        revents: 0,
+    }];
+    libc::net::poll(&mut polled, FAULT_WAIT_MS) > 0
 }

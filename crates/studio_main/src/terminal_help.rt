@@ -1,14 +1,9 @@
 //! The help for whoever starts the program by hand: without words, and behind a fault.
 use clap::Error;
 use command_line::parse_args;
+use live_io::{STDERR, STDIN, is_ready};
 use std::alloc::{AllocError, Global};
 use std::io::Write;
-
-/// The descriptor of standard input.
-const STDIN: i32 = 0;
-
-/// The descriptor of standard error.
-const STDERR: i32 = 2;
 
 /// The line behind the help.
 const READS: &str =
@@ -30,12 +25,12 @@ pub(crate) fn write_terminal_help<E: Write>(
     Ok(())
 }
 
-/// Writes the hint at a fault to `faults`, if there is one and standard error is a terminal. Errors of the write are
-/// ignored.
+/// Writes the hint at a fault to `faults`, if there is one and standard error is a terminal. The hint is left out if
+/// standard error would block. Errors of the write are ignored.
 // A script reads the line of the fault alone.
 pub(crate) fn write_hint<E: Write>(hint: Option<&str>, faults: &mut E) {
     if let Some(hint) = hint {
-        if libc::isatty(STDERR) == 1 {
+        if libc::isatty(STDERR) == 1 && is_ready(STDERR, libc::net::POLLOUT) {
             let _ = writeln!(faults, "{hint}");
         }
     }

@@ -1,6 +1,6 @@
 //! The file with the token of the page's control of gains.
-ghost use Rattle.std.specs.Prelude.{◌≡◌, ◌%◌, ◌≤◌, ◌↔◌, IsTrue};
-ghost use Rattle.std.specs.Fs.{IsFile, file_type, metadata_len, metadata_mode};
+ghost use Rattle.std.specs.Prelude.{◌↔◌, IsTrue};
+ghost use Rattle.studio_main.specs.TokenFile.{MayHoldToken};
 
 use crate::fault::ProgramFault;
 use file_commands::CommandFault;
@@ -42,15 +42,18 @@ pub(crate) fn token_of<H: TokenFiles>(
     }
 }
 
-/// Returns true if a file is private, and may hold a token: a regular file of at most 257 octets, which only its owner
-/// may read, write or execute.
-// A token that others can read lets them change gains, and one that others can write lets them choose it.
+/// Returns true if a file is private, and may hold a token: a regular file of at most 257 octets that others may
+/// neither read nor write, and its group may not write.
+// A token that others can read lets them change gains, and one that others can write lets them choose it. The group may
+// read it, since systemd gives a service its credentials by an access list: the group's rights in a mode are then the
+// most that any entry of the list has. So the mode shows that no entry lets anybody write.
 pub(crate) fn is_private(file: &Metadata) -> bool
-    ensures owner { IsTrue result → metadata_mode file.now % 64 ≡ 0 }
-    ensures regular { IsTrue result → IsFile (file_type file.now) }
-    ensures short { IsTrue result → metadata_len file.now ≤ 257 }
+    ensures exact { IsTrue result ↔ MayHoldToken file.now }
 {
-    file.is_file() && file.mode() % 0o100 == 0 && file.len() <= MAX_OCTETS
+    let mode = file.mode();
+    let is_closed_to_others = mode % 8 < 2;
+    let is_read_only_to_group = mode / 16 % 2 == 0;
+    file.is_file() && is_closed_to_others && is_read_only_to_group && file.len() <= MAX_OCTETS
 }
 
 /// Returns the private file at a path, open for reading. Returns `None` if it is not private, and an error if it cannot

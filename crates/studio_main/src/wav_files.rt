@@ -2,10 +2,12 @@
 ghost use Rattle.std.specs.Prelude.{None};
 
 use crate::SystemHost;
+use crate::created_file::{CreateFault, CreatedFile};
 use crate::output_end::report_output_end;
+use crate::std_streams::LimitedStderr;
 use std::alloc::{AllocError, Global};
-use std::io::{ErrorKind, Seek, SeekFrom, Stderr, Write};
-use std::{fs, io, str};
+use std::io::{Seek, SeekFrom, Write};
+use std::{io, str};
 use studio_io::{OutputEnd, OutputKind};
 use wav_file::{LiveWavFault, LiveWavFile, WavFiles, time_stamp};
 
@@ -46,28 +48,28 @@ impl<'a> SystemWavFiles<'a> {
     }
 
     /// Creates the file whose first sample is of this time.
-    fn create_part(&self, at: u64) -> Result<SystemAudio, LiveWavFault> {
+    fn create_part(&self, at: u64) -> Result<SystemAudio<'a>, LiveWavFault> {
         match part_path(self.alloc, self.path.as_str(), at) {
-            Ok(path) => create_audio(self.host, path.as_str()),
-            Err(_) => Err(LiveWavFault::NotCreated),
+            Ok(path) => create_audio(self.host, self.alloc, path.as_str()),
+            Err(_) => Err(LiveWavFault::Memory),
         }
     }
 }
 
-impl WavFiles for SystemWavFiles<'_> {
-    type File = SystemAudio;
+impl<'a> WavFiles for SystemWavFiles<'a> {
+    type File = SystemAudio<'a>;
 
     // No contract can say what the system keeps.
     ghost closed = { λ _. None };
 
-    fn first(&mut self) -> Result<SystemAudio, LiveWavFault> {
+    fn first(&mut self) -> Result<SystemAudio<'a>, LiveWavFault> {
         match self.begins {
             Some(at) => self.create_part(at),
-            None => create_audio(self.host, self.path.as_str()),
+            None => create_audio(self.host, self.alloc, self.path.as_str()),
         }
     }
 
-    fn next(&mut self, file: &mut SystemAudio, at: u64) -> Result<(), LiveWavFault> {
+    fn next(&mut self, file: &mut SystemAudio<'a>, at: u64) -> Result<(), LiveWavFault> {
         // Not for a run of one file, which has space for more blocks than a run has.
         *file = self.create_part(at)?;
         Ok(())
@@ -75,55 +77,57 @@ impl WavFiles for SystemWavFiles<'_> {
 }
 
 /// Creates the empty file at a path at which nothing is.
-fn create_audio(host: SystemHost<'_>, path: &str) -> Result<SystemAudio, LiveWavFault> {
-    match fs::File::create_new(host.rt, path) {
+fn create_audio<'a>(
+    host: SystemHost<'a>,
+    alloc: Global,
+    path: &str,
+) -> Result<SystemAudio<'a>, LiveWavFault> {
+    match CreatedFile::create(host, alloc, path) {
         Ok(file) => Ok(SystemAudio {
             file,
-            faults: host.rt.stderr(),
+            faults: LimitedStderr::new(host.rt),
         }),
-        Err(error) => match host.note(&error) {
-            ErrorKind::AlreadyExists => Err(LiveWavFault::Exists),
-            _ => Err(LiveWavFault::NotCreated),
-        },
+        Err(CreateFault::Memory) => Err(LiveWavFault::Memory),
+        Err(CreateFault::Exists) => Err(LiveWavFault::Exists),
+        Err(CreateFault::NotCreated) => Err(LiveWavFault::NotCreated),
     }
 }
 
 /// The WAV file of a live run's mix, which reports its end on standard error.
 #[derive(Drop)]
-pub(crate) struct SystemAudio {
-    file: fs::File,
-    faults: Stderr,
+pub(crate) struct SystemAudio<'a> {
+    file: CreatedFile<'a>,
+    faults: LimitedStderr<'a>,
 }
 
-impl Write for SystemAudio {
+impl Write for SystemAudio<'_> {
     fn write(&mut self, buf: &[u8]) -> io::Result<usize> {
-        self.file.write(buf)
+        self.file.limited().write(buf)
     }
 
     fn flush(&mut self) -> io::Result<()> {
-        self.file.flush()
+        self.file.limited().flush()
     }
 }
 
-impl LiveWavFile for SystemAudio {
+impl LiveWavFile for SystemAudio<'_> {
     // No contract can say what a device holds.
     ghost synced = { λ _. Unit {0} };
 
     fn sync(&mut self) -> io::Result<()> {
-        self.file.sync_data()
+        self.file.sync()
     }
 
     fn overwrite(&mut self, octets: &[u8]) -> io::Result<()> {
-        self.file.seek(SeekFrom::Start(0))?;
-        self.file.write_all(octets)?;
-        self.file.seek(SeekFrom::End(0))?;
+        let file = self.file.limited();
+        file.seek(SeekFrom::Start(0))?;
+        file.write_all(octets)?;
+        file.seek(SeekFrom::End(0))?;
         Ok(())
     }
 
     fn cut(&mut self, len: u64) -> io::Result<()> {
-        self.file.set_len(len)?;
-        self.file.seek(SeekFrom::Start(len))?;
-        Ok(())
+        self.file.limited().cut(len)
     }
 
     fn report(&mut self, end: OutputEnd, blocks: u64) {

@@ -6,7 +6,9 @@ use crate::fault::LiveFault;
 use crate::single_thread::observer::LiveObserver;
 use crate::single_thread::socket_wait::SocketWait;
 use engine_run::{RunDevices, run_engine};
-use live_io::{FeedFlags, RunPeriod, Sockets, SystemClock, UdpFeed, UdpSink, udp_feeds};
+use live_io::{
+    FeedFlags, RunPeriod, Sockets, SystemClock, TimelySink, UdpFeed, UdpSink, udp_feeds,
+};
 use live_status::Meter;
 use run_outputs::{EventOutput, MixOutput, OutputSink};
 use std::alloc::{AllocError, Global};
@@ -21,7 +23,7 @@ use studio_io::{GainSource, SendAnswer, Sink, WorkReport};
 pub(crate) struct EngineDevices<'a, R: Wait + Clock, M> {
     feeds: Vec<UdpFeed<'a, R>>,
     clock: SystemClock<'a, R>,
-    sink: MeteredSink<'a, OutputSink<UdpSink<'a>, M>>,
+    sink: MeteredSink<'a, OutputSink<TimelySink<'a, UdpSink<'a>, SystemClock<'a, R>>, M>>,
     wait: SocketWait<'a, R>,
 }
 
@@ -86,7 +88,7 @@ pub(crate) fn prepare_engine_io<'a, R: Wait + Clock, M: MixOutput>(
         feeds,
         clock: period.clock(rt),
         sink: MeteredSink {
-            sink: OutputSink::new(sink, mix),
+            sink: OutputSink::new(TimelySink::new(sink, period.clock(rt), flags.health), mix),
             meter,
         },
         wait,

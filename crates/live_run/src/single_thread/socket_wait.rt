@@ -110,7 +110,7 @@ impl<'a, R: Wait + Clock> SocketWait<'a, R> {
             rt,
             descriptors,
             sockets,
-            health: flags.health,
+            health: flags.health.paths(),
             ready: flags.ready,
             pace: ReceivePace::new(common_pause(studio.streams())),
             parker: Parker::new(),

@@ -5,7 +5,9 @@ ghost use Rattle.live_run.specs.RunResult.{IsEarly, IsRunOf, IsRunWith};
 
 use crate::fault::LiveFault;
 use live_gains::RunGains;
-use live_io::{FeedFlags, RunPeriod, Sockets, SystemClock, UdpFeed, UdpSink, udp_feeds};
+use live_io::{
+    FeedFlags, RunPeriod, Sockets, SystemClock, TimelySink, UdpFeed, UdpSink, udp_feeds,
+};
 use run_outputs::{MixOutput, OutputSink};
 use std::alloc::{AllocError, Global};
 use std::sync::Wait;
@@ -14,15 +16,15 @@ use std::time::Clock;
 use studio_config::StudioSpec;
 use studio_ends::Ends;
 use studio_io::{GainSource, NoGains, WorkReport};
-use studio_rings::run_workers_with_gains;
+use studio_rings::WorkerDevices;
 
 /// The ends of the rings, the feeds, the clocks and the sink of a run's workers.
 #[derive(Drop)]
-pub(crate) struct WorkerDevices<'a, R: Clock, M> {
+pub(crate) struct WorkerRun<'a, R: Clock, M> {
     pub(crate) ends: Ends,
     pub(crate) feeds: Vec<UdpFeed<'a, R>>,
     pub(crate) clocks: Vec<SystemClock<'a, R>>,
-    sink: OutputSink<UdpSink<'a>, M>,
+    sink: OutputSink<TimelySink<'a, UdpSink<'a>, SystemClock<'a, R>>, M>,
 }
 
 /// Returns the devices of the workers on these rings and sockets: a feed for each path, a clock for each stream, and
@@ -35,7 +37,7 @@ pub(crate) fn prepare_workers<'a, R: Wait + Clock, M: MixOutput>(
     mix: M,
     period: RunPeriod,
     flags: FeedFlags<'a>,
-) -> Result<WorkerDevices<'a, R, M>, AllocError>
+) -> Result<WorkerRun<'a, R, M>, AllocError>
     ensures ends { IfOk result (λ workers. workers.ends ≡ ends) }
     ensures feeds { IfOk result (λ workers. length workers.feeds.items ≡ length sockets.entry.receiving.items) }
     ensures clocks { IfOk result (λ workers. length workers.clocks.items ≡ length ends.streams.items) }
@@ -43,11 +45,11 @@ pub(crate) fn prepare_workers<'a, R: Wait + Clock, M: MixOutput>(
     let Sockets { receiving, sink } = sockets;
     let clocks = clocks_of(rt, alloc, ends.streams.len(), period)?;
     let feeds = udp_feeds(rt, alloc, receiving, period, flags)?;
-    Ok(WorkerDevices {
+    Ok(WorkerRun {
         ends,
         feeds,
         clocks,
-        sink: OutputSink::new(sink, mix),
+        sink: OutputSink::new(TimelySink::new(sink, period.clock(rt), flags.health), mix),
     })
 }
 
@@ -73,7 +75,7 @@ pub(crate) fn run_controlled<'a, R: Threads + Wait + Sync + Clock, M: MixOutput>
     rt: &R,
     alloc: Global,
     studio: &StudioSpec,
-    workers: WorkerDevices<'a, R, M>,
+    workers: WorkerRun<'a, R, M>,
     gains: Option<RunGains<'a, R>>,
 ) -> Result<WorkReport, LiveFault>
     requires opened { AreOpenedTogether studio.now 256 workers.ends }
@@ -89,7 +91,7 @@ pub(crate) fn run_controlled<'a, R: Threads + Wait + Sync + Clock, M: MixOutput>
     }
 }
 
-impl<R: Threads + Wait + Sync + Clock, M: MixOutput> WorkerDevices<'_, R, M> {
+impl<R: Threads + Wait + Sync + Clock, M: MixOutput> WorkerRun<'_, R, M> {
     /// Runs the workers of a studio with this source of gains. Returns the report once all have ended.
     fn run<G: GainSource>(
         self,
@@ -107,15 +109,19 @@ impl<R: Threads + Wait + Sync + Clock, M: MixOutput> WorkerDevices<'_, R, M> {
     {
         // Called for its contract alone, which says that the studio is sound: the proof of this function needs that.
         let _open_at = studio.open_at();
-        let WorkerDevices {
+        let WorkerRun {
             ends,
             feeds,
             clocks,
             sink,
         } = self;
-        let (report, _sink, _gains) = run_workers_with_gains(
-            rt, alloc, ends, feeds, clocks, sink, gains,
-        )?;
+        let devices = WorkerDevices {
+            feeds,
+            clocks,
+            sink,
+            gains,
+        };
+        let (report, _sink, _gains) = devices.run(rt, alloc, ends)?;
         Ok(report)
     }
 }
