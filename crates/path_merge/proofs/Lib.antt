@@ -32,6 +32,7 @@ pub mod RunLemmas
 pub mod GoalLemmas
 pub mod AgainLemmas
 pub mod ReadingStepsLemmas
+pub mod PassLostLemmas
 pub mod AnchorLemmas
 pub mod ShapeLemmas
 pub mod ClockLagLemmas

@@ -32,6 +32,7 @@ pub mod Steps
 pub mod NextMark
 pub mod Goal
 pub mod ReadingSteps
+pub mod PassLost
 pub mod ClockLag
 pub mod FollowLaws
 pub mod HeardOnce

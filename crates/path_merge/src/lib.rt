@@ -28,6 +28,9 @@
 //!
 //! A `MarkRef` ends before the next `&mut` call; `to_mark` copies it.
 //!
+//! `pass_lost` passes all lost slots up to a clock reading at once, for callers that need their number and
+//! not their marks. Its time does not grow with their number.
+//!
 //! A `Window` has space for `size` numbers from `base` on. `SlotWindow` has a slot for each number, so
 //! no call takes longer if more packets are held. `SortedWindow` keeps its packets sorted, and is the
 //! plain implementation to compare with. Only their `new` allocates.

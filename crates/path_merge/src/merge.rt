@@ -1,5 +1,5 @@
 //! The merge of a stream's paths: its state, its time and its close. `packets_in` holds the calls that take packets,
-//! `marks_out` those that produce marks.
+//! `marks_out` those that produce marks, and `lost_slots` the call that passes lost slots without their marks.
 ghost use Rattle.std.specs.Prelude.{◌≡◌, ℕ, ◌+◌, ◌^◌, ◌≤◌, ◌∷◌, ◌++◌, [], List, ℤ, pos, ◌≤ℤ◌, IfOk, true, false};
 ghost use Rattle.std.specs.FinMap as map;
 ghost use Rattle.rtp_stream.specs.declared.event.Event.{Event};
@@ -13,6 +13,7 @@ use rtp_stream::{Anchor, Counts, Probation, StreamSpec, Track};
 use std::alloc::{AllocError, Global};
 use std::marker::Model;
 
+mod lost_slots;
 mod marks_out;
 mod packets_in;
 

@@ -220,7 +220,7 @@ impl<V: Window> Merge<V> {
 
     /// Returns the anchor, if the deadline of the base has come.
     #[inline]
-    fn anchor_due(&self, now: i64) -> Option<Anchor>
+    pub(super) fn anchor_due(&self, now: i64) -> Option<Anchor>
         requires { clock_fault_of self.now.time self.now.closed now ≡ None }
         ensures { result ≡ anchor_due self.now now }
     {
