@@ -2,6 +2,7 @@ pub mod BlocksLemmas
 pub mod ReadingStepsLemmas
 pub mod CountsLemmas
 pub mod CursorLemmas
+pub mod LostStretchLemmas
 pub mod PlayLemmas
 pub mod SessionLemmas
 pub mod NewLemmas

@@ -4,6 +4,7 @@ pub mod Counts
 pub mod Fault
 pub mod ReadingSteps
 pub mod Cursor
+pub mod LostStretch
 pub mod PushedEvents
 pub mod ArriveOutcome
 pub mod Play
@@ -21,6 +22,7 @@ pub use Rattle.rtp_stream.specs.Marks
 pub use Rattle.path_merge.specs.Merge
 pub use Rattle.path_merge.specs.MergeState
 pub use Rattle.path_merge.specs.Steps
+pub use Rattle.path_merge.specs.PassLost
 pub use Rattle.studio_config.specs.Studio
 pub use Rattle.lane_align.specs.Cover
 pub use Rattle.lane_align.specs.Lane

@@ -1,4 +1,5 @@
-//! One stream of a run: its merge, and how far it has come in the events.
+//! One stream of a run: its merge, and how far it has come in the events. `lost_stretch` holds the call that passes lost
+//! slots without their marks.
 ghost use Rattle.std.specs.Prelude.{
   ◌≡◌,
   ℕ,
@@ -55,6 +56,8 @@ use path_merge::{Goal, Merge, SlotWindow};
 use rtp_stream::{Counts, MarkRef, Path, PathCounts, ReceptionRef, StreamSpec, receive_ref};
 use std::alloc::{AllocError, Global};
 use std::marker::Model;
+
+pub(crate) mod lost_stretch;
 
 /// A stream of a run: its merge, its counts, and how many of the run's events it took.
 ///

@@ -36,6 +36,7 @@ mod stream_counts;
 
 pub use arrive_outcome::{ArriveOutcome, OfferedPacket};
 pub use cursor::Cursor;
+pub use cursor::lost_stretch::LostStretch;
 pub use event::{EventHeader, StudioEvent};
 pub use fault::{StudioFault, first_fault, is_runnable};
 pub use feed_mixer::pull_marks;
