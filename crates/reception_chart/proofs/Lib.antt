@@ -1,2 +1,3 @@
 pub mod BinsLemmas
 pub mod ChartLemmas
+pub mod LostSlotsLemmas

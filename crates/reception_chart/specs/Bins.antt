@@ -1,5 +1,5 @@
 -- The events of a stream, counted by time interval and kind.
-use Rattle.std.specs.Prelude.{◌≡◌, ◌<◌, ◌+◌, ◌*◌, ℕ, ℤ, Bool, ◌&&◌, nat_eq, List, get_or, count_by}
+use Rattle.std.specs.Prelude.{◌≡◌, ◌<◌, ◌+◌, ◌*◌, ℕ, zero, suc, ℤ, pos, ◌+ℤ◌, Bool, ◌&&◌, nat_eq, nat_lt, List, [], ◌∷◌, get_or, count_by}
 use Rattle.reception_chart.specs.Axis.{span_of}
 use Rattle.reception_chart.specs.declared.reception.axis.Axis.{Axis}
 use Rattle.reception_chart.specs.declared.reception.ReceptionKind.{ReceptionKind}
@@ -39,3 +39,15 @@ count_in axis events bin row = count_by (is_in axis bin row) events
 -- each count is the number of events of its row and in its bin
 pub record HasCounted (bins : BinsState) (events : List BinEvent) : Type 0 where
   pub each : (bin row : ℕ) → bin < bins.axis.bins → row < 9 → get_or bins.counts (9 * bin + row) 0 ≡ count_in bins.axis events bin row
+
+-- the events of `count` lost slots, the first at this time and each a packet after the one before it
+abbrev pub lost_events : ℤ → ℕ → ℕ → List BinEvent
+lost_events first frames zero = []
+lost_events first frames (suc count) = record { time = first; kind = Lost } ∷ lost_events (first +ℤ pos frames) frames count
+
+-- the number of events in the bins before this one
+abbrev pub is_before : Axis → ℕ → BinEvent → Bool
+is_before axis bin event = nat_lt (bin_of axis event.time) bin
+
+abbrev pub count_before : Axis → List BinEvent → ℕ → ℕ
+count_before axis events bin = count_by (is_before axis bin) events

@@ -6,6 +6,9 @@
 //! takes all events twice. In the first pass each stream has an `Extent`, which finds its media time.
 //! In the second it has a `PanelData`, which counts packets, slots and arrival margins.
 //!
+//! The work of a chart grows with its events and the intervals of its axis, and not with the media time
+//! that they cover.
+//!
 //! The numbers next to a row are sums over its intervals. The counts below a panel are those of the
 //! report.
 #![tactic(auto)]
@@ -16,6 +19,7 @@ mod render;
 
 pub use reception::ReceptionObserver;
 pub use reception::extent::Extent;
+pub use reception::lost_slots::LostSlots;
 pub use reception::panel_data::PanelData;
 pub use reception::studio_tracker::StudioTracker;
 pub use render::chart;

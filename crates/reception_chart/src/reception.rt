@@ -1,13 +1,16 @@
 //! The events of a stream's reception. The submodules track these, count them by time (`bins`, on an `axis`) and by
-//! arrival margin (`margins`), and find their extent in time.
+//! arrival margin (`margins`), and find their extent in time. Lost slots next to each other are taken as one
+//! (`lost_slots`).
 ghost use Rattle.std.specs.Prelude.{◌≡◌, ◌<◌};
 ghost use Rattle.reception_chart.specs.Bins.{row_of};
 
+use crate::reception::lost_slots::LostSlots;
 use rtp_stream::Path;
 
 pub(crate) mod axis;
 pub(crate) mod bins;
 pub(crate) mod extent;
+pub(crate) mod lost_slots;
 pub(crate) mod margins;
 pub(crate) mod panel_data;
 pub(crate) mod stream_tracker;
@@ -89,4 +92,8 @@ pub struct ReceptionEvent {
 pub trait ReceptionObserver {
     /// Receives the next event.
     fn observe(&mut self, event: &ReceptionEvent);
+
+    /// Receives lost slots next to each other, for the events that each of them is.
+    // Not one by one: a clock reading may be far ahead of the last packet, and the slots up to it are then too many.
+    fn observe_lost(&mut self, slots: &LostSlots);
 }

@@ -1,9 +1,10 @@
 //! The counts of a stream's events by time interval and kind.
-ghost use Rattle.std.specs.Prelude.{◌≡◌, ◌+◌, ◌<◌, ◌^◌, ◌++◌, ◌∷◌, [], List, length, IfOk};
-ghost use Rattle.reception_chart.specs.Bins.{HasCounted, BinEvent, count_in};
+ghost use Rattle.std.specs.Prelude.{◌≡◌, ◌+◌, ◌-◌, ◌*◌, ◌<◌, ◌^◌, ◌++◌, ◌∷◌, [], ℕ, List, length, get_or, min, IfOk};
+ghost use Rattle.reception_chart.specs.Bins.{HasCounted, BinEvent, count_in, lost_events};
 
-use crate::reception::ReceptionKind;
 use crate::reception::axis::Axis;
+use crate::reception::lost_slots::LostSlots;
+use crate::reception::{LOST_ROW, ReceptionKind};
 use std::alloc::{AllocError, Global};
 use std::marker::Model;
 
@@ -54,6 +55,33 @@ impl Bins {
     {
         let place = ROWS * self.axis.bin_of(time) + kind.row();
         self.counts[place] = self.counts[place].saturating_add(1);
+    }
+
+    /// Counts lost slots, each in the interval of its media time.
+    // A loop over the intervals: a clock reading may make any number of slots lost.
+    pub(crate) fn add_lost(&mut self, slots: &LostSlots)
+        ensures counted { (events : List BinEvent) → length events + slots.now.count < 2 ^ 64
+            → HasCounted self.old events → HasCounted self.new
+            (events ++ lost_events slots.now.first slots.now.frames slots.now.count) }
+        ensures axis { self.new.axis ≡ self.old.axis }
+    {
+        let axis = self.axis();
+        for bin in 0..axis.bins {
+            self.add_lost_in(bin, slots.in_bin(&axis, bin));
+        }
+    }
+
+    /// Counts this many lost slots in an interval.
+    fn add_lost_in(&mut self, bin: usize, count: u64)
+        requires bin { bin < self.old.axis.bins }
+        ensures axis { self.new.axis ≡ self.old.axis }
+        ensures here { get_or self.new.counts (9 * bin + 6) 0
+            ≡ min (get_or self.old.counts (9 * bin + 6) 0 + count) (2 ^ 64 - 1) }
+        ensures others { (place : ℕ) → (place ≡ 9 * bin + 6 → ⊥)
+            → get_or self.new.counts place 0 ≡ get_or self.old.counts place 0 }
+    {
+        let place = ROWS * bin + LOST_ROW;
+        self.counts[place] = self.counts[place].saturating_add(count);
     }
 
     /// Returns the number of events of a row in an interval.

@@ -1,4 +1,5 @@
 //! The extent of a stream's events in media time.
+use crate::reception::lost_slots::LostSlots;
 use crate::reception::{ReceptionEvent, ReceptionKind, ReceptionObserver};
 
 /// The media time from the first to the last packet that was taken or lost, in sampling instants at 48 kHz, and the
@@ -38,6 +39,20 @@ impl Extent {
     pub(crate) fn greatest_margin(&self) -> i64 {
         self.greatest_margin
     }
+
+    /// Extends the extent to a stretch of media time.
+    fn cover(&mut self, begin: i64, end: i64) {
+        match self.first {
+            Some(first) => {
+                self.first = Some(first.min(begin));
+                self.last = self.last.max(end);
+            }
+            None => {
+                self.first = Some(begin);
+                self.last = end;
+            }
+        }
+    }
 }
 
 impl ReceptionObserver for Extent {
@@ -48,19 +63,18 @@ impl ReceptionObserver for Extent {
             }
             _ => {}
         }
-        let end = event.time.saturating_add(i64::from(self.frames));
         match event.kind {
-            ReceptionKind::Taken(_) | ReceptionKind::Lost => match self.first {
-                Some(first) => {
-                    self.first = Some(first.min(event.time));
-                    self.last = self.last.max(end);
-                }
-                None => {
-                    self.first = Some(event.time);
-                    self.last = end;
-                }
-            },
+            ReceptionKind::Taken(_) | ReceptionKind::Lost => {
+                let end = event.time.saturating_add(i64::from(self.frames));
+                self.cover(event.time, end);
+            }
             _ => {}
+        }
+    }
+
+    fn observe_lost(&mut self, slots: &LostSlots) {
+        if slots.count > 0 {
+            self.cover(slots.first, slots.end());
         }
     }
 }

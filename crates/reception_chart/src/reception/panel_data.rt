@@ -1,6 +1,7 @@
 //! The data of a stream's panel.
 use crate::reception::axis::Axis;
 use crate::reception::bins::Bins;
+use crate::reception::lost_slots::LostSlots;
 use crate::reception::margins::Margins;
 use crate::reception::{ReceptionEvent, ReceptionObserver};
 use std::alloc::{AllocError, Global};
@@ -27,5 +28,10 @@ impl ReceptionObserver for PanelData {
     fn observe(&mut self, event: &ReceptionEvent) {
         self.bins.add(event.time, event.kind);
         self.margins.add(event);
+    }
+
+    fn observe_lost(&mut self, slots: &LostSlots) {
+        // A lost slot has no copy, and so no arrival margin.
+        self.bins.add_lost(slots);
     }
 }

@@ -3,6 +3,7 @@ ghost use Rattle.std.specs.Prelude.{◌≡◌, ◌+◌, ◌<◌, None, true, len
 ghost use Rattle.studio_session.specs.Cursor.{IsSameCursor};
 ghost use Rattle.reception_chart.specs.Places.{CountsOne};
 
+use crate::reception::lost_slots::LostSlots;
 use crate::reception::{CopyTiming, ReceptionEvent, ReceptionKind, ReceptionObserver};
 use rtp_stream::{Fate, MarkKindRef, Path, StreamSpec, is_taken, near32};
 use rtp_wire::MAX_ARRIVAL_OCTETS;
@@ -175,8 +176,17 @@ fn report_lost<O: ReceptionObserver>(cursor: &mut Cursor, observer: &mut O)
     ensures kept { IsSameCursor cursor.old cursor.new }
     ensures settled { cursor.new.reading ≡ None }
 {
+    let frames = cursor.spec().frames();
     // The label names the loop in its proof.
     'marks: loop {
+        // While no packet is held, a reading makes any number of slots lost: they are reported at once.
+        if let Some(stretch) = cursor.pass_lost() {
+            observer.observe_lost(&LostSlots {
+                first: stretch.media,
+                frames,
+                count: stretch.count,
+            });
+        }
         if let Some(mark) = cursor.mark() {
             if let MarkKindRef::Slot {
                 media,
