@@ -33,6 +33,7 @@ pub mod GoalLemmas
 pub mod AgainLemmas
 pub mod ReadingStepsLemmas
 pub mod PassLostLemmas
+pub mod PassLostCases
 pub mod AnchorLemmas
 pub mod ShapeLemmas
 pub mod ClockLagLemmas

@@ -1,3 +1,4 @@
 pub mod BinsLemmas
 pub mod ChartLemmas
 pub mod LostSlotsLemmas
+pub mod LostSlotsCases

@@ -1,5 +1,5 @@
-//! One stream of a run: its merge, and how far it has come in the events. `lost_stretch` holds the call that passes lost
-//! slots without their marks.
+//! One stream of a run: its merge, and how far it has come in the events. `lost_stretch` holds the call that passes
+//! lost slots without their marks.
 ghost use Rattle.std.specs.Prelude.{
   ◌≡◌,
   ℕ,

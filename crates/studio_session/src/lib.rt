@@ -18,6 +18,9 @@
 //!
 //! For marks instead of datagrams, `studio_cursors` returns a cursor for each stream, which returns
 //! references to the marks.
+//!
+//! `Cursor::pass_lost` lets lost slots go at once, for callers that count them and need no mark of each. Its
+//! time does not grow with their number.
 #![tactic(auto)]
 
 mod arrive_outcome;
