@@ -1,5 +1,6 @@
 //! Lost slots next to each other, and where they are on an axis.
-ghost use Rattle.std.specs.Prelude.{◌≡◌, ◌+◌, ◌*◌, ◌<◌, ◌≤◌, ◌+ℤ◌, pos};
+ghost use Rattle.std.specs.Prelude.{◌≡◌, ◌+◌, ◌-◌, ◌*◌, ◌^◌, ◌<◌, ◌≤◌, ◌+ℤ◌, pos};
+ghost use Rattle.std.specs.Int.{int_min};
 ghost use Rattle.reception_chart.specs.Axis.{length_between};
 ghost use Rattle.reception_chart.specs.Bins.{count_before, count_in, lost_events};
 
@@ -19,9 +20,12 @@ pub struct LostSlots {
 
 impl LostSlots {
     /// Returns the media time at which the last slot ends, or the greatest `i64` if that is less.
-    pub(crate) fn end(&self) -> i64 {
-        let end = i128::from(self.first) + i128::from(self.count) * i128::from(self.frames);
-        i64::try_from(end).unwrap_or(i64::MAX)
+    pub(crate) fn end(&self) -> i64
+        ensures { result ≡ int_min (self.now.first +ℤ pos (self.now.count * self.now.frames)) (pos (2 ^ 63 - 1)) }
+    {
+        let length = u128::from(self.count) * u128::from(self.frames);
+        let end = i128::from(self.first) + length as i128;
+        end.min(i128::from(i64::MAX)) as i64
     }
 
     /// Returns the number of slots in an interval of an axis.
