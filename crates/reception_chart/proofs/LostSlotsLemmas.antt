@@ -1,8 +1,8 @@
 -- Lost slots next to each other, counted bin by bin.
-use Rattle.std.proofs.Common.{◌≡◌, ◌<◌, ◌≤◌, ◌+◌, ◌-◌, ◌*◌, ◌/◌, ◌^◌, ℕ, zero, suc, Bool, true, false, List, [], ◌∷◌, ◌++◌, length, get_or, min, ℤ, pos, ◌+ℤ◌, ◌-ℤ◌, ◌≤ℤ◌, ◌<ℤ◌, refl, sym, subst, ap, arith, ◌∙◌, inl, inr, if◌then◌else◌}
+use Rattle.std.proofs.Common.{◌≡◌, ◌<◌, ◌≤◌, ◌+◌, ◌-◌, ◌*◌, ◌/◌, ◌^◌, ℕ, zero, suc, Bool, true, false, List, ◌++◌, length, get_or, min, ℤ, pos, ◌+ℤ◌, ◌-ℤ◌, ◌≤ℤ◌, ◌<ℤ◌, refl, sym, subst, ap, arith, ◌∙◌, if◌then◌else◌}
 use Rattle.std.specs.Prelude.{cond, count_by, int_le, nat_eq, nat_lt, unsigned_abs, ◌&&◌}
 use Rattle.std.specs.Int.{div_ceil}
-use Rattle.std.proofs.lemmas.Bool.Decides.{eqb_tells, nat_tests}
+use Rattle.std.proofs.lemmas.Bool.Decides.{nat_tests}
 use Rattle.std.proofs.lemmas.Grind.{div_ceil_times}
 use Rattle.std.proofs.lemmas.Int.{ints}
 use Rattle.std.proofs.lemmas.List.Sums.{count_by-le-length, sum_by-append}
@@ -12,7 +12,7 @@ use Rattle.path_merge.proofs.TallyLemmas.{count_by-first}
 use Rattle.reception_chart.specs.declared.reception.axis.Axis.{Axis}
 use Rattle.reception_chart.specs.declared.reception.ReceptionKind.TheVariants.{Lost}
 use Rattle.reception_chart.specs.Axis.{length_between}
-use Rattle.reception_chart.specs.Bins.{BinsState, HasCounted, BinEvent, bin_of, count_before, count_in, is_before, is_in, lost_events, row_of}
+use Rattle.reception_chart.specs.Bins.{BinsState, HasCounted, BinEvent, bin_of, count_before, count_in, is_before, is_in, lost_events}
 
 -- the event of a lost slot
 abbrev lost_at : ℤ → BinEvent
@@ -73,9 +73,6 @@ distance_is first edge = by_test (int_le edge first) refl
 
 -- the slots before a time, by a division
 module _ (axis : Axis) (bin : ℕ) (some : 0 < bin) (inner : bin < axis.bins) where
-  edge : ℤ
-  edge = axis.first +ℤ pos (bin * axis.span)
-
   long : 0 < bin * axis.span
   long = let one : 1 * 1 ≤ bin * axis.span = mul-le 1 1 bin axis.span (omega (arith, some)) (omega (arith, axis.long)) in omega (arith, one)
 
@@ -110,7 +107,6 @@ module _ (axis : Axis) (bin : ℕ) (some : 0 < bin) (inner : bin < axis.bins) wh
 
   pub before_inner : (first : ℤ) (frames count d : ℕ) → 0 < frames → d ≡ length_between first (axis.first +ℤ pos (bin * axis.span)) → min (div_ceil d frames) count ≡ count_before axis (lost_events first frames count) bin
   before_inner first frames count d packet is =
-      let q = div_ceil d frames in
       let times : (d ≤ div_ceil d frames * frames) × (div_ceil d frames * frames < d + frames) = div_ceil_times d frames packet in
       let line = distance_is first (axis.first +ℤ pos (bin * axis.span)) in
       sym (count_first frames (axis.first +ℤ pos (bin * axis.span)) (is_before axis bin) early_bin late_bin first count (div_ceil d frames)
@@ -201,9 +197,6 @@ counted_step axis counts after events first frames count bin n counted inside is
   each = λ b row within few. by_tests b row within few (nat_eq b bin) (nat_eq 6 row) refl refl;
 }
   where
-    lost : List BinEvent
-    lost = lost_events first frames count
-
     not_yet : nat_lt bin bin ≡ false
     not_yet = grind (arith, nat_tests)
 

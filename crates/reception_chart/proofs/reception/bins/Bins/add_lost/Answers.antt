@@ -1,4 +1,4 @@
-use Rattle.std.proofs.Common.{◌≡◌, ◌<◌, ℕ, refl, sym, ap, subst, arith, ◌∙◌}
+use Rattle.std.proofs.Common.{◌≡◌, ◌<◌, refl, sym, ap, subst, arith, ◌∙◌}
 use Rattle.reception_chart.specs.declared.reception.axis.Axis.{Axis}
 use Rattle.reception_chart.specs.Bins.{count_in, lost_events}
 use Rattle.reception_chart.proofs.LostSlotsLemmas.{counted_all, counted_none, counted_step}
@@ -18,8 +18,6 @@ add_lost_in-requires c =
 
 pub loop-bin-preserved : goal.loop-bin-preserved
 loop-bin-preserved c =
-    let slots = c.args.slots.now in
-    let axis = c.args.self.now.axis in
     let inside : c.loop-bin.bin < c.args.self.now.axis.bins = subst (λ (a : Axis). c.loop-bin.bin < a.bins) c.axis-axis.ensures c.loop-bin-test.true in
     let number : c.in_bin.result ≡ count_in c.args.self.now.axis (lost_events c.args.slots.now.first c.args.slots.now.frames c.args.slots.now.count) c.loop-bin.bin 6
     = c.in_bin.ensures ∙ ap (λ a. count_in a (lost_events c.args.slots.now.first c.args.slots.now.frames c.args.slots.now.count) c.loop-bin.bin 6) c.axis-axis.ensures in

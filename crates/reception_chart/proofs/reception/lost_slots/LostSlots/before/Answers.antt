@@ -1,4 +1,4 @@
-use Rattle.std.proofs.Common.{◌≡◌, ◌<◌, ◌+ℤ◌, ◌*◌, min, pos, ap, sym, arith, ◌∙◌}
+use Rattle.std.proofs.Common.{◌<◌, min, ap, arith, ◌∙◌}
 use Rattle.std.specs.Int.{div_ceil}
 use Rattle.reception_chart.proofs.LostSlotsLemmas.{before_end, before_first, before_inner}
 use Rattle.reception_chart.proofs.reception.lost_slots.LostSlots.before.Goals as goal
@@ -11,8 +11,6 @@ returns-then-bin-axis c = before_end c.args.axis.now c.args.self.now.first c.arg
 
 pub returns : goal.returns
 returns c =
-    let slots = c.args.self.now in
-    let axis = c.args.axis.now in
     let some : 0 < c.args.bin = omega (arith, c.if-bin-eq0.false) in
     let inner : c.args.bin < c.args.axis.now.bins = omega (arith, c.if-bin-axis.false, c.requires) in
     c.min.ensures
