@@ -1,12 +1,12 @@
 -- Lost slots that a cursor passes at once are the next marks of its events.
-use Rattle.std.proofs.Common.{◌≡◌, ◌<◌, ◌≤◌, ◌+◌, ◌^◌, ℕ, Bool, true, false, List, [], ◌∷◌, ◌++◌, length, take, drop, ℤ, ◌≤ℤ◌, Option, Some, None, refl, sym, ap, subst, ◌∙◌, arith, length-append}
+use Rattle.std.proofs.Common.{◌≡◌, ◌<◌, ◌+◌, ℕ, false, List, [], ◌∷◌, ◌++◌, length, take, drop, ℤ, ◌≤ℤ◌, Option, Some, None, refl, sym, ap, subst, ◌∙◌, arith, length-append}
 use Rattle.std.proofs.lemmas.Int.{ints}
 use Rattle.std.proofs.lemmas.List.{drop_at, drop-take}
 use Rattle.rtp_stream.specs.declared.stream_spec.Stream.{Stream}
 use Rattle.rtp_stream.specs.declared.anchor.Anchor.{Anchor}
 use Rattle.rtp_stream.specs.declared.event.Event.{Event}
 use Rattle.rtp_stream.specs.declared.event.Event.TheVariants.{Tick}
-use Rattle.rtp_stream.specs.History.{is_closed, is_well_timed, time_of}
+use Rattle.rtp_stream.specs.History.{is_closed, time_of}
 use Rattle.rtp_stream.specs.MarkFacts.{MarkView}
 use Rattle.rtp_stream.specs.Marks.{marks_of}
 use Rattle.path_merge.specs.Clock.{clock_fault_of}
