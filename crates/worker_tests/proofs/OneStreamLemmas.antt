@@ -9,7 +9,7 @@ use Rattle.rtp_stream.specs.declared.stream_spec.Stream.{Stream}
 use Rattle.rtp_stream.specs.MarkFacts.{MarkView}
 use Rattle.rtp_stream.specs.declared.packet.Packet.{Packet}
 use Rattle.studio_ends.specs.FreshEnds.{AllFreshPaths, AllFreshRings, AllFreshStreams}
-use Rattle.worker_tests.specs.OneStream.{AreOfOneStream, HasSameRings}
+use Rattle.worker_tests.specs.OneStream.{AreOfOneStream, FeedsMixer, HasSameRings}
 use Rattle.studio_ends.specs.Tokens.{HandsIn}
 use Rattle.studio_ends.specs.DrainedRings.{AllLookAt}
 use Rattle.studio_ends.specs.MarksIn.{AllTakeSome}
@@ -18,7 +18,8 @@ use Rattle.studio_ends.specs.Streams.{ReadsClock, TakesTurn}
 use Rattle.studio_ends.specs.declared.stream_end.marks_out.StopReason.{StopReason}
 use Rattle.studio_ends.specs.declared.stream_end.marks_out.TurnNote.{TurnNote}
 use Rattle.studio_rings.specs.Turns.{AreSameRings}
-use Rattle.studio_rings.proofs.StreamTurnLemmas.{looked-either, rings-looked, rings-self}
+use Rattle.studio_ends.proofs.TurnLemmas.{producers}
+use Rattle.studio_rings.proofs.StreamTurnLemmas.{looked-either, rings-looked, rings-self, rings-trans}
 use Rattle.studio_ends.specs.declared.rings.TokenConsumer.{TokenConsumer}
 use Rattle.studio_ends.specs.declared.path_end.PathEnd.{PathEnd}
 use Rattle.studio_ends.specs.declared.stream_end.StreamEnd.{StreamEnd}
@@ -34,7 +35,7 @@ pair_of p q c d pair same other =
 pub token_of : {T A P : Type 0} (p : Producer T A P) (done : Finished T A P) (c : Consumer T A P) → IsPair p c → SameRing p.end done.end → IsFinishedOf done c
 token_of p done c pair f = (pair.0 ∙ sym f.0, pair.1 ∙ sym f.1, pair.2 ∙ sym f.2, pair.3 ∙ sym f.3)
 
-self_producer : {T A P : Type 0} (p : Producer T A P) → SameProducer p p
+pub self_producer : {T A P : Type 0} (p : Producer T A P) → SameProducer p p
 self_producer p = ((refl, refl, refl, refl), refl)
 
 pub self_consumer : {T A P : Type 0} (c : Consumer T A P) → SameConsumer c c
@@ -82,36 +83,47 @@ marks_count [] (n ∷ ns) same = absurd same
 marks_count (o ∷ os) [] same = absurd same
 marks_count (o ∷ os) (n ∷ ns) same = ap suc (marks_count os ns same.1)
 
--- the ends of one stream stay the ends of one stream after each call of one of them
-pub offered : (first then second : PathEnd) (stream : StreamEnd) (mix : MixEnd) → AreOfOneStream first second stream mix → SameProducer first.ring then.ring → AreOfOneStream then second stream mix
-offered first then second stream mix h same = record {
-  two = h.two;
-  first_is = λ side at. pair_of first.ring then.ring side.ring side.ring (h.first_is side at) same (self_consumer side.ring);
-  second_is = h.second_is;
-  one = h.one;
-  marks = h.marks;
+-- an end that did not change has the same rings
+pub same_end : (old new : StreamEnd) → new ≡ old → HasSameRings old new
+same_end old new e = subst (HasSameRings old) (sym e) (record { marks = self_producer old.marks; sides = rings-self old.sides.items })
+
+-- rings that are the same as the same rings
+pub same_ends : (old between new : StreamEnd) → HasSameRings old between → HasSameRings between new → HasSameRings old new
+same_ends old between new f g = record {
+  marks = producers old.marks between.marks new.marks f.marks g.marks;
+  sides = rings-trans old.sides.items between.sides.items new.sides.items f.sides g.sides;
 }
+
+-- a stream's end stays the producer of the mixer's only ring
+pub feeds_on : (stream then : StreamEnd) (olds news : List (TokenConsumer MarkView)) → FeedsMixer stream olds → SameProducer stream.marks then.marks → AreSameRings olds news → FeedsMixer then news
+feeds_on stream then olds news h ring same = record {
+  one = marks_count olds news same ∙ h.one;
+  marks = λ side at. pair_of stream.marks then.marks side.ring side.ring (marks_paired stream olds news 0 same h.marks side at) ring (self_consumer side.ring);
+}
+
+-- the ends of one stream stay the ends of one stream after calls of each of them
+pub all_on : (first first' second second' : PathEnd) (stream then : StreamEnd) (mix mix' : MixEnd) → AreOfOneStream first second stream mix
+    → SameProducer first.ring first'.ring → SameProducer second.ring second'.ring → HasSameRings stream then → AreSameRings mix.sides.items mix'.sides.items
+    → AreOfOneStream first' second' then mix'
+all_on first first' second second' stream then mix mix' h one two same rings = record {
+  two = same_count stream.sides.items then.sides.items same.sides ∙ h.two;
+  first_is = λ side at. pair_of first.ring first'.ring side.ring side.ring (path_paired first stream.sides.items then.sides.items 0 same.sides h.first_is side at) one (self_consumer side.ring);
+  second_is = λ side at. pair_of second.ring second'.ring side.ring side.ring (path_paired second stream.sides.items then.sides.items 1 same.sides h.second_is side at) two (self_consumer side.ring);
+  feeds = feeds_on stream then mix.sides.items mix'.sides.items h.feeds same.marks rings;
+}
+
+-- the same after a call of one of them
+pub offered : (first then second : PathEnd) (stream : StreamEnd) (mix : MixEnd) → AreOfOneStream first second stream mix → SameProducer first.ring then.ring → AreOfOneStream then second stream mix
+offered first then second stream mix h same =
+    all_on first then second second stream stream mix mix h same (self_producer second.ring) (same_end stream stream refl) (rings-self mix.sides.items)
 
 pub turned : (first second : PathEnd) (stream then : StreamEnd) (mix : MixEnd) → AreOfOneStream first second stream mix → HasSameRings stream then → AreOfOneStream first second then mix
-turned first second stream then mix h same = record {
-  two = same_count stream.sides.items then.sides.items same.sides ∙ h.two;
-  first_is = path_paired first stream.sides.items then.sides.items 0 same.sides h.first_is;
-  second_is = path_paired second stream.sides.items then.sides.items 1 same.sides h.second_is;
-  one = h.one;
-  marks = λ side at. pair_of stream.marks then.marks side.ring side.ring (h.marks side at) same.marks (self_consumer side.ring);
-}
-
-mix_same : (first second : PathEnd) (stream : StreamEnd) (mix then : MixEnd) → AreOfOneStream first second stream mix → AreSameRings mix.sides.items then.sides.items → AreOfOneStream first second stream then
-mix_same first second stream mix then h same = record {
-  two = h.two;
-  first_is = h.first_is;
-  second_is = h.second_is;
-  one = marks_count mix.sides.items then.sides.items same ∙ h.one;
-  marks = marks_paired stream mix.sides.items then.sides.items 0 same h.marks;
-}
+turned first second stream then mix h same =
+    all_on first first second second stream then mix mix h (self_producer first.ring) (self_producer second.ring) same (rings-self mix.sides.items)
 
 pub mixed_more : (first second : PathEnd) (stream : StreamEnd) (mix then : MixEnd) → AreOfOneStream first second stream mix → AllTakeSome mix.sides.items then.sides.items → AreOfOneStream first second stream then
-mixed_more first second stream mix then h some = mix_same first second stream mix then h (some_same mix.sides.items then.sides.items some)
+mixed_more first second stream mix then h some =
+    all_on first first second second stream stream mix then h (self_producer first.ring) (self_producer second.ring) (same_end stream stream refl) (some_same mix.sides.items then.sides.items some)
 
 -- rings whose consumer got a token are the same rings
 pub handed_same : (olds news : List (TokenConsumer Packet)) (place : ℕ) (all : List Packet) → HandsIn olds place all news → AreSameRings olds news
@@ -129,10 +141,6 @@ taken_same [] (n ∷ ns) taken h = absurd h
 taken_same (o ∷ os) [] taken h = absurd h
 taken_same (o ∷ os) (n ∷ ns) [] h = absurd h
 taken_same (o ∷ os) (n ∷ ns) (packets ∷ more) h = (h.0.ring, taken_same os ns more h.1)
-
--- an end that did not change has the same rings
-pub same_end : (old new : StreamEnd) → new ≡ old → HasSameRings old new
-same_end old new e = subst (HasSameRings old) (sym e) (record { marks = self_producer old.marks; sides = rings-self old.sides.items })
 
 pub turned_same : (old new : StreamEnd) (now : ℤ) (note : TurnNote) → TakesTurn old now note new → HasSameRings old new
 turned_same old new now note t = record { marks = t.ring; sides = taken_same old.sides.items new.sides.items t.taken t.took }
@@ -180,11 +188,7 @@ two_paths stream places (p ∷ q ∷ []) (a ∷ b ∷ []) first second e h =
           subst (λ (s : TokenConsumer Packet). IsPair second.ring s.ring) at' (subst (λ (x : PathEnd). IsPair x.ring b.ring) is' h.1.0.pair);
     }
 
-record IsOnly (s : StreamEnd) (sides : List (TokenConsumer MarkView)) : Type 0 where
-  one : length sides ≡ 1
-  marks : (side : TokenConsumer MarkView) → slice_get sides 0 ≡ Some side → IsPair s.marks side.ring
-
-only_ring : (places : ℕ) (s : StreamEnd) (monitors : List MonitorEnd) (sides : List (TokenConsumer MarkView)) → AllFreshRings places (s ∷ []) monitors sides → IsOnly s sides
+only_ring : (places : ℕ) (s : StreamEnd) (monitors : List MonitorEnd) (sides : List (TokenConsumer MarkView)) → AllFreshRings places (s ∷ []) monitors sides → FeedsMixer s sides
 only_ring places s [] sides h = absurd h
 only_ring places s (m ∷ ms) [] h = absurd h
 only_ring places s (m ∷ n ∷ ms) (a ∷ sides) h = absurd h.1
@@ -206,9 +210,9 @@ only_stream open_at places (st ∷ su ∷ more) paths (x ∷ []) monitors first 
 only_stream open_at places (st ∷ []) paths (x ∷ []) monitors first second s mix h r e f =
     let is : x ≡ s = ap (λ l. get_or l 0 x) f in
     let own : h.0 ≡ first ∷ second ∷ [] = sym (append-nil h.0) ∙ (ap (λ l. h.0 ++ l) (sym h.4) ∙ (sym h.2 ∙ e)) in
-    let ring : IsOnly s mix.sides.items = only_ring places s monitors mix.sides.items (subst (λ (z : StreamEnd). AllFreshRings places (z ∷ []) monitors mix.sides.items) is r) in
+    let ring : FeedsMixer s mix.sides.items = only_ring places s monitors mix.sides.items (subst (λ (z : StreamEnd). AllFreshRings places (z ∷ []) monitors mix.sides.items) is r) in
     let two : AreTwo first second s.sides.items = two_paths st places h.0 s.sides.items first second own (subst (λ (z : StreamEnd). AllFreshPaths st places h.0 z.sides.items) is h.3.paths) in
-    record { two = two.two; first_is = two.first_is; second_is = two.second_is; one = ring.one; marks = ring.marks }
+    record { two = two.two; first_is = two.first_is; second_is = two.second_is; feeds = ring }
 
 -- what two pops take from a list of two elements, and one pop from a list of one
 module _ {A : Type 0} where

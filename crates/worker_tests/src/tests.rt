@@ -8,6 +8,7 @@ mod order_of_calls;
 mod parts;
 mod rings;
 mod stats;
+mod stream_ends;
 mod threads;
 mod timed;
 mod workers;

@@ -1,122 +1,18 @@
 //! One stream through its rings, by worked examples.
-ghost use Rattle.std.specs.Prelude.{◌≡◌, ◌++◌, ◌∷◌, [], ◌<◌, Some, slice_get, vec_len};
-ghost use Rattle.rtrb.specs.Ring.{IsPair};
-ghost use Rattle.rtrb.specs.Ends.{SameRing};
-ghost use Rattle.rtp_stream.specs.declared.packet.Packet.{Packet};
-ghost use Rattle.studio_ends.specs.FreshEnds.{AreOpened};
 ghost use Rattle.studio_ends.specs.MarksIn.{AllTakeSome};
-ghost use Rattle.studio_ends.specs.declared.rings.TokenConsumer.{TokenConsumer};
-ghost use Rattle.worker_tests.specs.OneStream.{AreOfOneStream, HasSameRings};
+ghost use Rattle.worker_tests.specs.OneStream.{HasSameRings};
 
+use super::stream_ends::{
+    MEDIA, OneStream, close_paths, drains, gives_none, last_of, mixed, one_stream, open_ends,
+    settle, still_open, studio_in, studio_of, turn,
+};
 use engine_tests::small_packets::{FIRST, SECOND, thousands, thousands_alone};
-use engine_tests::small_studios::{six_and_forty_eight, sum_of};
-use path_merge::{ClockFault, SpecFault, StreamClock, StreamSpec};
-use rtp_wire::Enc;
+use engine_tests::small_studios::six_and_forty_eight;
+use path_merge::{ClockFault, StreamClock};
 use std::alloc::Global;
 use std::process::Abort;
 use studio_config::StudioSpec;
 use studio_ends::*;
-
-pub(super) const MEDIA: StreamClock = StreamClock::Media { offset: 0 };
-
-/// Returns a studio of one stream of L24 on two paths, in packets of six sampling instants, with a latency of twelve,
-/// by a clock, with a window of `width` packets. Its output has the same format.
-pub(super) fn studio_of(
-    rt: &impl Abort,
-    alloc: Global,
-    clock: StreamClock,
-    width: u16,
-) -> StudioSpec {
-    studio_in(alloc, clock, width).expect(rt, "there is memory")
-}
-
-/// Returns the stream of that studio.
-fn stream_in(clock: StreamClock, width: u16) -> Result<StreamSpec, SpecFault> {
-    StreamSpec::new(Enc::L24, 1, 6, 96, None, clock, 12, width, 2)
-}
-
-/// Returns that studio, or none if an allocation is refused.
-fn studio_in(alloc: Global, clock: StreamClock, width: u16) -> Option<StudioSpec> {
-    let spec = stream_in(clock, width).ok()?;
-    sum_of(alloc, &[spec], 6)
-}
-
-/// Returns the ends of a studio, over rings of `ring_len` places.
-pub(super) fn open_ends(
-    rt: &impl Abort,
-    alloc: Global,
-    studio: &StudioSpec,
-    ring_len: usize,
-) -> Ends
-    ensures { AreOpened studio.now ring_len result }
-{
-    match open(alloc, studio, ring_len) {
-        Ok(ends) => ends,
-        Err(_) => { panic!(rt; "there is memory") }
-    }
-}
-
-/// Removes the last of a list, and returns it.
-pub(super) fn last_of<T: Drop>(rt: &impl Abort, list: &mut Vec<T>) -> T
-    ensures { list.old.items ≡ list.new.items ++ result ∷ [] }
-{
-    let Some(last) = list.pop() else {
-        panic!(rt; "the list has none")
-    };
-    last
-}
-
-/// The ends of a studio of one stream.
-#[derive(Drop)]
-struct OneStream {
-    first: PathEnd,
-    second: PathEnd,
-    stream: StreamEnd,
-    monitor: MonitorEnd,
-    mix: MixEnd,
-    ghost pairs: { AreOfOneStream first second stream mix },
-}
-
-fn one_stream(rt: &impl Abort, alloc: Global, clock: StreamClock, ring_len: usize) -> OneStream {
-    let studio = studio_of(rt, alloc, clock, 8);
-    let mut ends = open_ends(rt, alloc, &studio, ring_len);
-    assert!(rt; ends.paths.len() == 2);
-    assert!(rt; ends.streams.len() == 1);
-    let second = last_of(rt, &mut ends.paths);
-    let first = last_of(rt, &mut ends.paths);
-    let stream = last_of(rt, &mut ends.streams);
-    let monitor = last_of(rt, &mut ends.monitors);
-    OneStream {
-        first,
-        second,
-        stream,
-        monitor,
-        mix: ends.mix,
-    }
-}
-
-/// Makes a turn, and returns its outcome: packets of the first two paths, marks, the time it reached, and the reason
-/// why it stopped.
-#[tactic(auto, using(crate::proofs::OneStreamLemmas::turned_same))]
-fn turn(rt: &impl Abort, stream: &mut StreamEnd, now: i64) -> (u32, u32, u32, i64, StopReason)
-    ensures { HasSameRings stream.old stream.new }
-{
-    match stream.turn(now) {
-        Ok(note) => {
-            let [first, second, _, _] = note.from;
-            (first, second, note.marks, note.reached, note.why_stopped)
-        }
-        Err(_) => { panic!(rt; "the readings are in order") }
-    }
-}
-
-/// Makes a turn of the mixer.
-fn mixed(mix: &mut MixEnd, out: &mut [u8; 1452]) -> MixNote
-    ensures { AllTakeSome mix.old.sides.items mix.new.sides.items }
-{
-    let _short = mix.datagram_len();
-    mix.turn(out)
-}
 
 /// Tests a turn of the mixer, which takes this many marks and returns a datagram with these samples.
 fn mixes(rt: &impl Abort, mix: &mut MixEnd, taken: u32, samples: &[u8])
@@ -199,25 +95,6 @@ fn reads(stream: &mut StreamEnd, now: i64) -> Option<StopReason>
     }
 }
 
-/// Returns true if a drain has sent all marks that are left.
-#[tactic(auto, using(crate::proofs::OneStreamLemmas::drained_same))]
-fn drains(stream: &mut StreamEnd) -> bool
-    ensures { HasSameRings stream.old stream.new }
-{
-    stream.drain_turn()
-}
-
-/// Returns the paths that a close finds open, or none if it closed.
-#[tactic(auto, using(crate::proofs::OneStreamLemmas::looked_same))]
-fn still_open(stream: &mut StreamEnd) -> Option<[bool; 4]>
-    ensures { HasSameRings stream.old stream.new }
-{
-    match stream.close() {
-        Ok(_) => None,
-        Err(open) => Some(open.still_open),
-    }
-}
-
 /// Tests that the monitor has these counts next, or none.
 fn shows(rt: &impl Abort, monitor: &mut MonitorEnd, expected: Option<(u64, u64)>) {
     let Some(counts) = monitor.next() else {
@@ -266,7 +143,7 @@ const SHOWN: [Step; 9] = [
 /// Each turn that was taken sends its counts, and a refused one none.
 #[test]
 fn counts_reach_the_monitor(rt: HostRuntime) {
-    let mut ends = one_stream(&rt, rt.alloc(), MEDIA, 1);
+    let mut ends = one_stream(&rt, rt.alloc(), MEDIA, 8, 1);
     play(&rt, &mut ends, &SHOWN);
 }
 
@@ -276,15 +153,6 @@ fn gives(rt: &impl Abort, mix: &mut MixEnd, datagram: &[u8]) {
     let note = mixed(mix, &mut out);
     assert!(rt; (note.strange, note.len) == (0, Some(156)));
     assert!(rt; out.starts_with(datagram), "the datagram of the block");
-}
-
-/// Tests a turn of the mixer that takes this many marks and returns no datagram.
-fn gives_none(rt: &impl Abort, mix: &mut MixEnd, taken: u32)
-    ensures { AllTakeSome mix.old.sides.items mix.new.sides.items }
-{
-    let mut out = [0u8; 1452];
-    let note = mixed(mix, &mut out);
-    assert!(rt; (note.taken, note.strange, note.len) == (taken, 0, None));
 }
 
 /// The ends of two streams of one path each.
@@ -373,62 +241,20 @@ fn the_order_of_the_streams_changes_no_datagram(rt: HostRuntime) {
 /// The first close of a stream, whose paths are both open.
 const OPEN: [Step; 2] = [Step::DrainNone, Step::Close([true, true, false, false])];
 
-/// Finishes a path's end, whose token goes to its stream's. Returns the numbers of datagrams that were offered, sent
-/// and refused at a full ring.
-fn finish_path(rt: &impl Abort, path: PathEnd, number: usize, stream: &mut StreamEnd) -> [u64; 3]
-    requires place { number < vec_len stream.old.sides }
-    requires pair { (side : TokenConsumer Packet) → slice_get stream.old.sides.items number ≡ Some side
-        → IsPair path.ring side.ring }
-    ensures { HasSameRings stream.old stream.new }
-{
-    let (done, counts) = path.finish();
-    let Some(done) = done else {
-        panic!(rt; "the stream's end is there")
-    };
-    stream.path_done(number, done);
-    [counts.offered, counts.sent, counts.full]
-}
-
-/// Drains and finishes a closed stream's end, in which only the end mark is left, and returns its token.
-fn finish_stream(rt: &impl Abort, stream: StreamEnd) -> StreamDone
-    ensures { SameRing stream.marks.end result.token.end }
-{
-    let mut stream = stream;
-    assert!(rt; drains(&mut stream), "the end is all that is left");
-    let (done, counts) = stream.finish();
-    assert!(rt; (counts.arrived, counts.taken, counts.got) == (2, 2, 2));
-    let Some(done) = done else {
-        panic!(rt; "the mixer's end is there")
-    };
-    done
-}
-
-/// Finishes the ends of a stream whose two slots the mixer took. The close names the paths that go on, until both have
-/// finished. Then the mark of the end is drained, and with the stream's token the mixer is settled.
+/// Finishes the ends of a stream whose two slots the mixer took. One datagram of the first path was refused at a full
+/// ring, and the second path was offered none.
 fn finish_in_turn(rt: &impl Abort, ends: OneStream) {
-    let OneStream {
-        first,
-        second,
-        mut stream,
-        monitor: _,
-        mut mix,
-    } = ends;
-    assert!(rt; !mix.settled(), "no stream has finished");
-    assert!(rt; finish_path(rt, first, 0, &mut stream) == [3, 2, 1]);
-    assert!(rt; still_open(&mut stream) == Some([false, true, false, false]));
-    assert!(rt; finish_path(rt, second, 1, &mut stream) == [0, 0, 0]);
-    assert!(rt; still_open(&mut stream).is_none(), "both paths are drained");
-    let done = finish_stream(rt, stream);
-    gives_none(rt, &mut mix, 1);
-    mix.stream_done(0, done);
-    assert!(rt; mix.settled());
+    let closed = close_paths(rt, ends);
+    assert!(rt; closed.paths == [[3, 2, 1], [0, 0, 0]]);
+    let counts = settle(rt, closed);
+    assert!(rt; (counts.arrived, counts.taken, counts.got) == (2, 2, 2));
 }
 
 /// Rings of one place: full, stopped because there is no space, caught up, and a reading that goes back. Then the paths
 /// finish one after the other, the stream closes and drains, and the mixer is settled.
 #[test]
 fn rings_of_one_place_lose_nothing_to_the_end(rt: HostRuntime) {
-    let mut ends = one_stream(&rt, rt.alloc(), MEDIA, 1);
+    let mut ends = one_stream(&rt, rt.alloc(), MEDIA, 8, 1);
     play(&rt, &mut ends, &ONE_PLACE);
     play(&rt, &mut ends, &OPEN);
     finish_in_turn(&rt, ends);
@@ -456,7 +282,7 @@ const LATE: [Step; 4] = [
 /// A turn over 99 marks stops after 64, and the next one reaches its reading.
 #[test]
 fn a_turn_stops_after_64_marks(rt: HostRuntime) {
-    let mut ends = one_stream(&rt, rt.alloc(), MEDIA, 128);
+    let mut ends = one_stream(&rt, rt.alloc(), MEDIA, 8, 128);
     play(&rt, &mut ends, &LATE);
 }
 
@@ -472,7 +298,7 @@ const FROM_A_READING: [Step; 6] = [
 /// By the arrival clock a first packet has the time of the reading before it: its slot is due twelve later.
 #[test]
 fn a_reading_sets_the_time_of_the_first_packet(rt: HostRuntime) {
-    let mut ends = one_stream(&rt, rt.alloc(), StreamClock::Arrival, 8);
+    let mut ends = one_stream(&rt, rt.alloc(), StreamClock::Arrival, 8, 8);
     play(&rt, &mut ends, &FROM_A_READING);
 }
 

@@ -1,5 +1,5 @@
 //! The statistics that receivers get of one stream and of its mix.
-use super::rings::{MEDIA, studio_of};
+use super::stream_ends::{MEDIA, studio_of};
 use engine_tests::small_packets::{FIRST, SECOND};
 use std::alloc::Global;
 use std::process::Abort;

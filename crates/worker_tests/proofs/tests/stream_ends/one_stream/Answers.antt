@@ -1,6 +1,6 @@
 use Rattle.std.proofs.Common.{rules, ◌≡◌, length}
 use Rattle.worker_tests.proofs.OneStreamLemmas.{one_popped, only_stream, two_popped}
-use Rattle.worker_tests.proofs.tests.rings.one_stream.Goals as goal
+use Rattle.worker_tests.proofs.tests.stream_ends.one_stream.Goals as goal
 
 pub invariant_of-result : goal.invariant_of-result
 invariant_of-result g c =

@@ -2,7 +2,7 @@ use Rattle.std.proofs.Common.{IfSome, subst}
 use Rattle.rtrb.specs.Ring.{Finishes, all_sent}
 use Rattle.studio_ends.specs.declared.path_end.PathDone.{PathDone}
 use Rattle.worker_tests.proofs.OneStreamLemmas.{handed_in, token_of}
-use Rattle.worker_tests.proofs.tests.rings.finish_path.Goals as goal
+use Rattle.worker_tests.proofs.tests.stream_ends.finish_path.Goals as goal
 
 pub path_done-requires-clause-token : goal.path_done-requires-clause-token
 path_done-requires-clause-token g c = λ side at.

@@ -1,7 +1,7 @@
 use Rattle.std.proofs.Common.{◌∙◌, IfSome, subst}
 use Rattle.rtrb.specs.Ring.{Finishes}
 use Rattle.studio_ends.specs.declared.stream_end.turns.StreamDone.{StreamDone}
-use Rattle.worker_tests.proofs.tests.rings.finish_stream.Goals as goal
+use Rattle.worker_tests.proofs.tests.stream_ends.finish_stream.Goals as goal
 
 pub returns : goal.returns
 returns g c =
