@@ -21,11 +21,11 @@ def udp(address: str = HOST, port: int = 0) -> socket.socket:
     return one
 
 
-def held() -> socket.socket:
-    """Returns a UDP socket that never waits, at a port of 127.0.0.1 that was free and is one of `OWN_PORTS`."""
+def held(address: str = HOST) -> socket.socket:
+    """Returns a UDP socket that never waits, at a port of an address that was free and is one of `OWN_PORTS`."""
     while True:
         try:
-            one = udp(port=random.choice(OWN_PORTS))
+            one = udp(address, random.choice(OWN_PORTS))
         except OSError:
             continue
         one.setsockopt(socket.SOL_SOCKET, socket.SO_RCVBUF, BUFFER)
@@ -63,19 +63,23 @@ def are_bound(ports: Iterable[int]) -> bool:
 
 
 class Listeners:
-    """The sockets to which a run sends the copies of its mix, and the datagrams that came in at each so far."""
+    """The sockets at these addresses to which a run sends the copies of its mix. Each has the datagrams that came in so
+    far, and the addresses that sent them."""
 
-    def __init__(self, count: int = 2) -> None:
-        self.sockets = [held() for _ in range(count)]
+    def __init__(self, addresses: Iterable[str] = (HOST, HOST)) -> None:
+        self.sockets = [held(address) for address in addresses]
         self.ports = [port_of(one) for one in self.sockets]
         self.taken: list[list[bytes]] = [[] for _ in self.sockets]
+        self.senders: list[set[str]] = [set() for _ in self.sockets]
 
     def take(self) -> None:
         """Takes what has come so far, without waiting."""
-        for one, taken in zip(self.sockets, self.taken):
+        for one, taken, senders in zip(self.sockets, self.taken, self.senders):
             try:
                 while True:
-                    taken.append(one.recv(2_048))
+                    octets, (address, _) = one.recvfrom(2_048)
+                    taken.append(octets)
+                    senders.add(address)
             except BlockingIOError:
                 pass
 
