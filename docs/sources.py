@@ -290,7 +290,7 @@ CASE_PLACES = {
     "The page": [f"{PAGE}/tests/{name}.rt" for name in ("texts", "requests", "controls", "sockets")],
     "Captures and live runs": [
         "tests/captures", "tests/control", "tests/desk", "tests/ends", "tests/loopback", "tests/networks",
-        "tests/page", "tests/faders", "tests/senders"
+        "tests/numbers", "tests/page", "tests/faders", "tests/senders"
     ],
 }
 ROW = re.compile(r'\bshows:\s*"((?:[^"\\]|\\.)*)"', re.DOTALL)
