@@ -1,8 +1,9 @@
 """What a test expects, and what it says of what differs or is missing."""
 import shutil
 import subprocess
+import sys
 import time
-from collections.abc import Callable, Iterable
+from collections.abc import Callable, Collection, Iterable
 from pathlib import Path
 
 # The characters that a line shows of what was found, and of a text that says why.
@@ -49,6 +50,14 @@ def need(*tools: str) -> None:
             raise Skipped(f"{tool} is missing")
 
 
+def parts_named(parts: Iterable[Callable[..., object]], names: Collection[str]) -> list[Callable[..., object]]:
+    """Returns the parts of a test that have one of these names, or all without a name. A name of no part ends the
+    script, since nothing would be tested."""
+    if unknown := set(names) - {part.__name__ for part in parts}:
+        sys.exit(f"{sys.argv[0]}: no part {', '.join(sorted(unknown))}")
+    return [part for part in parts if not names or part.__name__ in names]
+
+
 def run_parts(script: str, parts: Iterable[Callable[..., object]], folder: Path | str) -> int:
     """Runs parts of a test in a folder, prints what differs or is missing in each, and returns the script's status."""
     count, failed, begin = 0, 0, time.monotonic()
@@ -62,4 +71,4 @@ def run_parts(script: str, parts: Iterable[Callable[..., object]], folder: Path 
             failed += 1
             print(f"{script}: {part.__name__}: {wrong}")
     print(f"{script}: {count} parts, {failed} failed, in {time.monotonic() - begin:.0f} s")
-    return 1 if failed else 0
+    return 1 if failed or not count else 0

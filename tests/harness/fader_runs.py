@@ -138,7 +138,14 @@ class FaderRun:
         return [gain for (at, gain), end in zip(plan, ends) for _ in range(min(at, instants), min(end, instants))]
 
     def compare(self, sent: int, report: str) -> None:
-        """Compares each sample that came out at both ports with what the moves say of so many packets."""
+        """Compares each sample that came out at both ports with what the moves say of so many packets, and the report's
+        counts with both."""
+        blocks = len(self.listeners.taken[0])
+        paths = [f"path 0 {path} offered {sent} sent {sent} bad 0 type 0 length 0 full" for path in "ab"]
+        sink = f"sink blocks {blocks} sent_a {blocks} sent_b {blocks} fault_a 0 fault_b 0"
+        counts = [line.rpartition(" ")[0] if line.startswith("path ") else line for line in report.splitlines()]
+        expect("the paths of the report", counts[:2], paths)
+        expect("the feeds and the sink of the report", counts[3:], ["feed 0 a faults 0", "feed 0 b faults 0", sink])
         for taken in self.listeners.taken:
             blocks = {int.from_bytes(octets[4:8], "big"): octets[12:] for octets in taken}
             expect("the blocks", sorted(blocks), list(range(0, FRAMES * len(blocks), FRAMES)))
