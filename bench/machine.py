@@ -83,11 +83,11 @@ def save(name: str, words: str, before: str, lines: list[str]) -> None:
         model = re.search(r"model name\s*: (.*)", file.read())
     day = datetime.date.today().isoformat()
     machine = f"{os.cpu_count()} processors, {model.group(1) if model else 'unknown'}"
-    script = os.path.basename(sys.argv[0])
+    script = "/".join(os.path.abspath(sys.argv[0]).split("/")[-2:])
     text = (
         "\n".join(
             [
-                f"bench/{script} {words}".strip()
+                f"{script} {words}".strip()
                 + f", {day}, {machine}, load {before} to {load()}, {taken():.0f} % taken by the host",
                 "",
                 *lines,
