@@ -113,10 +113,10 @@ def begin_filter(edits, words, copies, piped):
 def filter_all(edits, words, copies, pipes):
     """Passes on what comes by the pipes, altered, and alters the files behind the end."""
     kept = {0, 1, 2, *pipes.values()} | ({copies.taken.fileno(), copies.out.fileno()} if copies else set())
-    for name in os.listdir("/proc/self/fd"):
-        if int(name) not in kept:
-            with contextlib.suppress(OSError):
-                os.close(int(name))
+    # There may be no /proc.
+    for number in set(range(1_024)) - kept:
+        with contextlib.suppress(OSError):
+            os.close(number)
     os.dup2(os.open(os.devnull, os.O_RDONLY), 0)
     if copies:
         threading.Thread(target=copies.relay, args=(edits.copy,), daemon=True).start()
