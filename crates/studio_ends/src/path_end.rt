@@ -8,6 +8,7 @@ ghost use Rattle.rtp_stream.specs.Reception.{reception_from, reception_of};
 ghost use Rattle.rtp_stream.specs.declared.reception.Reception.TheVariants.{Sent as Received};
 ghost use Rattle.studio_ends.specs.Fitting.{fitting};
 ghost use Rattle.studio_ends.specs.CellSizes.{HasCellsFor};
+ghost use Rattle.studio_ends.specs.Stats.{TellsPath};
 
 use crate::rings::packets::{PacketProducer, PacketToken};
 use rtp_stats::PathCountsSender;
@@ -70,7 +71,9 @@ fn lacks_space(ring: &mut PacketProducer, reception: ReceptionRef<'_>) -> bool
 }
 
 /// Sends counts, if the path has a sender.
-fn send_stats(sender: &mut Option<PathCountsSender>, counts: PathCounts) {
+fn send_stats(sender: &mut Option<PathCountsSender>, counts: PathCounts)
+    ensures { TellsPath counts sender.old sender.new }
+{
     if let Some(sender) = sender {
         sender.send(counts);
     }
@@ -88,6 +91,7 @@ impl PathEnd {
         ensures answer { Offers datagram.now self.old result self.new }
         ensures known { (packet : Packet) → self.old.counts.offered < 2 ^ 62 → 0 < known_free self.old.ring
             → reception_of self.old.spec datagram.now ≡ Received packet → result ≡ offer.Sent }
+        ensures told { self.old.counts.offered < 2 ^ 62 → TellsPath self.new.counts self.old.sender self.new.sender }
         ensures ring { SameProducer self.old.ring self.new.ring }
         ensures spec { self.new.spec ≡ self.old.spec }
     {
@@ -118,7 +122,8 @@ impl PathEnd {
     /// Sends the counts of datagrams, if the path has a sender. For use while no datagram arrives: `offer` sends
     /// them itself.
     pub fn send_counts(&mut self)
-        ensures { self.new ≡ record self.old { sender = self.new.sender } }
+        ensures same { self.new ≡ record self.old { sender = self.new.sender } }
+        ensures told { TellsPath self.old.counts self.old.sender self.new.sender }
     {
         send_stats(&mut self.sender, self.counts);
     }

@@ -2,6 +2,10 @@
 ghost use Rattle.std.specs.Prelude.{◌≡◌, ℕ, ◌+◌, ◌<◌, List, [], ◌∷◌, length, vec_len, get_or};
 ghost use Rattle.rtp_stream.specs.declared.packet.Packet.{Packet};
 ghost use Rattle.studio_ends.specs.Fitting.{fitting};
+ghost use Rattle.path_merge.specs.Steps.{next_deadline_of};
+ghost use Rattle.rtp_stream.specs.PacketRef.{packet_of};
+ghost use Rattle.rtp_stream.specs.StreamSpec.{Fits};
+ghost use Rattle.studio_ends.specs.Stats.{Notes, NotesPacket};
 ghost use Rattle.studio_ends.specs.StreamTurns.{AllTakePackets, Joins, TakesPackets, arrivals_by, arrivals_from};
 
 use crate::rings::TokenConsumer;
@@ -22,7 +26,10 @@ fn note(
     path: Path,
     packet: PacketRef<'_>,
     fate: Fate,
-) {
+)
+    ensures { Notes path fate (packet_of packet.entry) (next_deadline_of merge.now) merge.now.time
+        sender.old sender.new }
+{
     if let Some(sender) = sender {
         sender.note(path, packet, fate, merge.next_deadline(), merge.time());
     }
@@ -38,7 +45,8 @@ fn offer_packet<const N: usize>(
 )
     requires spec { merge.old.spec ≡ spec.now }
     requires path { path < spec.now.paths }
-    ensures { Joins merge.old merge.new (λ stream. arrivals_by path (fitting stream (cell.now ∷ []))) }
+    ensures joins { Joins merge.old merge.new (λ stream. arrivals_by path (fitting stream (cell.now ∷ []))) }
+    ensures noted { Fits spec.now cell.now → NotesPacket merge.old path cell.now merge.new sender.old sender.new }
 {
     let packet = cell.as_ref();
     if packet.payload.len() == spec.payload_len() {

@@ -22,7 +22,9 @@ ghost use Rattle.std.specs.Prelude.{
   OnErr,
   Some,
   None,
+  Option,
 };
+ghost use Rattle.rtp_stats.specs.declared.channel.stream.StreamStatsSender.{StreamStatsSender};
 ghost use Rattle.rtrb.specs.Ring.{all_sent, sent, known_free, Finishes, IsFinishedOf, SameProducer};
 ghost use Rattle.rtp_stream.specs.declared.stream_spec.Stream.{Stream};
 ghost use Rattle.rtp_stream.specs.Marks.{marks_of};
@@ -34,6 +36,7 @@ ghost use Rattle.studio_ends.specs.DrainedRings.{AllDrained, AllLookAt, AreOpen}
 ghost use Rattle.rtp_stream.specs.Counts.{tally_of};
 ghost use Rattle.path_merge.specs.Clock.{clock_fault_of};
 ghost use Rattle.path_merge.specs.Steps.{next_deadline_of};
+ghost use Rattle.studio_ends.specs.Stats.{TellsStream};
 ghost use Rattle.studio_ends.specs.Streams.{ReadsClock, ShowsCounts, StreamHasHistory, TakesTurn};
 ghost use Rattle.studio_ends.specs.Tokens.{HandsIn};
 
@@ -73,7 +76,9 @@ fn show_counts(monitor: &mut Producer<Counts>, counts: Counts)
 }
 
 /// Sends the packets' statistics, if the stream has a sender.
-fn send_stats(sender: &mut Option<StreamStatsSender>, merge: &Merge<SlotWindow>) {
+fn send_stats(sender: &mut Option<StreamStatsSender>, merge: &Merge<SlotWindow>)
+    ensures { TellsStream merge.now sender.old sender.new }
+{
     if let Some(sender) = sender {
         sender.send(merge.counts(), merge.time());
     }
@@ -87,6 +92,8 @@ impl StreamEnd {
     /// close; nothing changes then.
     pub fn turn(&mut self, now: i64) -> Result<TurnNote, ClockFault>
         ensures turned { IfOk result (λ note. TakesTurn self.old now note self.new) }
+        ensures told { IfOk result (λ _. (noted : Option StreamStatsSender)
+            × TellsStream self.new.merge noted self.new.sender) }
         ensures fine { IfOk result (λ note. clock_fault_of self.old.merge.time self.old.merge.closed now ≡ None) }
         ensures fault { IfErr result (λ fault. clock_fault_of self.old.merge.time self.old.merge.closed now
             ≡ Some fault) }

@@ -13,7 +13,7 @@ loop-taken-preserved g c =
         i.0 ++ packet ∷ [],
         took-more _ _ c.drop_next.new.self i.0 packet i.1 taken.0 (c.drop_next.ensures.done ∙ c.is_empty.ensures.done) taken.1 taken.2,
         (let n = i.2 in omega (arith, n, length-append i.0 (packet ∷ []))),
-        joined-more _ c.loop-taken.merge c.offer_packet.new.merge _ i.0 packet i.3 c.offer_packet.ensures,
+        joined-more _ c.loop-taken.merge c.offer_packet.new.merge _ i.0 packet i.3 c.offer_packet.ensures.joins,
       ),
     )
 

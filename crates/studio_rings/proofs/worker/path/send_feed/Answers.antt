@@ -29,9 +29,9 @@ pub loop-preserved-in-Nothing : goal.loop-preserved-in-Nothing
 loop-preserved-in-Nothing g c = record {
   few = few-faults c.loop.state c.note.new.self _ c.loop.invariant.few c.note.ensures.noted;
   space = search rules;
-  ring = subst (λ (end : PathEnd). SameProducer c.args.end.now.ring end.ring) (sym c.send_counts.ensures) c.loop.invariant.ring;
-  spec = ap (λ (end : PathEnd). end.spec) c.send_counts.ensures ∙ c.loop.invariant.spec;
-  sends = λ whole. sends-answer _ _ _ c.args.end.now c.loop.end c.send_counts.new.self c.loop.state c.note.new.self c.next-answer.new.buf _ Nothing c.in-Nothing.is c.if-state.false c.loop.invariant.few c.note.ensures.noted (c.next-answer.ensures.tells c.loop.invariant.space) c.send_counts.ensures (c.loop.invariant.sends whole);
+  ring = subst (λ (end : PathEnd). SameProducer c.args.end.now.ring end.ring) (sym c.send_counts.ensures.same) c.loop.invariant.ring;
+  spec = ap (λ (end : PathEnd). end.spec) c.send_counts.ensures.same ∙ c.loop.invariant.spec;
+  sends = λ whole. sends-answer _ _ _ c.args.end.now c.loop.end c.send_counts.new.self c.loop.state c.note.new.self c.next-answer.new.buf _ Nothing c.in-Nothing.is c.if-state.false c.loop.invariant.few c.note.ensures.noted (c.next-answer.ensures.tells c.loop.invariant.space) c.send_counts.ensures.same (c.loop.invariant.sends whole);
 }
 
 pub loop-preserved-in-Fault : goal.loop-preserved-in-Fault
