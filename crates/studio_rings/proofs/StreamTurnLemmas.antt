@@ -39,6 +39,12 @@ module _ {T : Type 0} where
   rings-self [] = tt
   rings-self (side ∷ sides) = (((refl, refl, refl, refl), refl), rings-self sides)
 
+  pub rings-still : (olds news : List (TokenConsumer T)) → news ≡ olds → AreSameRings olds news
+  rings-still olds news same = subst (λ l. AreSameRings olds l) (sym same) (rings-self olds)
+
+  pub tokens-still : (olds news : List (TokenConsumer T)) → news ≡ olds → KeepsTokens olds news
+  tokens-still olds news same lists told = subst (λ l. HaveTold l lists) (sym same) told
+
   pub rings-trans : (xs ys zs : List (TokenConsumer T)) → AreSameRings xs ys → AreSameRings ys zs → AreSameRings xs zs
   rings-trans [] [] [] f g = tt
   rings-trans (x ∷ xs) (y ∷ ys) (z ∷ zs) f g = (consumers x.ring y.ring z.ring f.0 g.0, rings-trans xs ys zs f.1 g.1)
@@ -191,6 +197,33 @@ is-turn-at stream open_at places s m t now note events f n shut space h =
       caught_up = stopped note.why_stopped note.reached now note.marks (known_free t.marks) _ _ n.stop (λ e. omega (arith, e, before, after, first, gained)) (λ e. omega (arith, e, after, same, within, space));
     }
 
+-- a reading without packets is a turn, wherever the turns before it stopped
+pub is-reading-at : (stream : Stream) (open_at : ℤ) (places : ℕ) (s t : StreamEnd) (now : ℤ) (why : StopReason) (events : List Event) (r : ReadsClock s now why t)
+    → s.merge.closed ≡ false → producer_capacity s.marks ≡ places → StreamHasHistory stream open_at s events → IsTurnAt stream open_at places now events (Tick t.merge.time ∷ [])
+is-reading-at stream open_at places s t now why events r shut space h =
+    let before : length (sent s.marks) ≡ length (marks_of stream open_at events) = sent_all stream open_at s events shut h in
+    let after : length (sent t.marks) ≡ length (marks_of stream open_at (events ++ Tick t.merge.time ∷ [])) = sent_all stream open_at t (events ++ Tick t.merge.time ∷ []) r.still_open (r.stands stream open_at events h) in
+    let gained : length (sent t.marks) ≡ length (sent s.marks) + r.marks = r.more in
+    let same : t.marks.capacity ≡ s.marks.capacity = r.ring.1 in
+    let within : t.marks.capacity ≤ t.marks.end.limit = t.marks.counts.0 in
+    record {
+      first = [];
+      early = inl refl;
+      taken = [];
+      few = tt;
+      reached = t.merge.time;
+      ends = refl;
+      most = r.not_after;
+      caught_up = stopped why t.merge.time now r.marks (known_free t.marks) _ _ r.stop (λ e. omega (arith, e, before, after, gained)) (λ e. omega (arith, e, after, same, within, space));
+    }
+
+-- how far a reading without packets came
+pub reads-up : (s t : StreamEnd) (now time : ℤ) (why : StopReason) → now ≡ time → ReadsClock s now why t → CatchesUp s time t
+reads-up s t now time why same r =
+    let gained = r.more in
+    let stop : StopsFor why t.merge.time time r.marks (known_free t.marks) = subst (λ u. StopsFor why t.merge.time u r.marks (known_free t.marks)) same r.stop in
+    stopped why t.merge.time time r.marks (known_free t.marks) (length (sent s.marks) + 64 ≤ length (sent t.marks)) (known_free t.marks ≡ 0) stop (λ e. omega (arith, e, gained)) (λ e. e)
+
 -- how far a turn came, whatever came before its packets
 pub catches-up : (s m t : StreamEnd) (first_at now time : ℤ) (note : TurnNote) → now ≡ time → ReadsFirst s first_at m → TakesTurn m now note t → CatchesUp s time t
 catches-up s m t first_at now time note same f n =
@@ -252,6 +285,21 @@ module _ {C : Type 0} (told : C → List ℤ) where
         timed = λ stream open_at events places later h space last.
             one_more stream open_at places s.now answer t.now (told s.clock) (told t.clock) events (f.first ++ turn_events stream n.taken note.reached) later tells is
             (is-turn-at stream open_at places s.end m t.end t.now note events f n s.open_yet space h) last;
+      }
+
+  -- a stream went on by a reading of its clock without packets
+  pub goes-reading : (s t : ClockedStream C) (answer now : ℤ) (why : StopReason) → TellsTime (told s.clock) answer (told t.clock) → t.now ≡ time_with s.now answer → now ≡ t.now → ReadsClock s.end now why t.end → GoesOn told s t
+  goes-reading s t answer now why tells is same r' =
+      let r : ReadsClock s.end t.now why t.end = subst (λ u. ReadsClock s.end u why t.end) same r' in
+      record {
+        rings = rings-still s.end.sides.items t.end.sides.items (ap (λ (v : Vec (TokenConsumer Packet) _). v.items) r.sides);
+        marks = r.ring;
+        spec = r.spec;
+        turns = λ stream. (Tick t.end.merge.time ∷ []) ∷ [];
+        stands = λ stream open_at events h. r.stands stream open_at events h;
+        timed = λ stream open_at events places later h space last.
+            one_more stream open_at places s.now answer t.now (told s.clock) (told t.clock) events (Tick t.end.merge.time ∷ []) later tells is
+            (is-reading-at stream open_at places s.end t.end t.now why events r s.open_yet space h) last;
       }
 
   -- a stream went on by a look that found a path open

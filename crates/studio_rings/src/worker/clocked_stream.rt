@@ -28,6 +28,8 @@ pub struct ClockedStream<C> {
     /// The greatest clock reading so far, from the opening time to 2^60, in sampling instants at 48 kHz.
     pub(crate) now: i64,
     pub(crate) pause: Backoff,
+    /// The time until which packets wait while the end has not reached the last reading, in sampling instants.
+    pub(crate) waits_until: i64,
     ghost open_yet: { end.merge.closed ≡ false },
     ghost not_before: { end.merge.time ≤ℤ now },
     ghost not_after: { now ≤ℤ pos (2 ^ 60) },
@@ -47,6 +49,7 @@ impl<C: Clock> ClockedStream<C> {
             clock,
             now,
             pause,
+            waits_until: now,
         }
     }
 
@@ -57,6 +60,7 @@ impl<C: Clock> ClockedStream<C> {
             clock: _,
             now: _,
             pause: _,
+            waits_until: _,
         } = self;
         end.finish()
     }

@@ -1,6 +1,6 @@
 //! The turns of a stream at its clock's readings, and its close.
-ghost use Rattle.std.specs.Prelude.{◌≡◌, ◌^◌, ◌≤ℤ◌, pos, false, IfOk, IfErr};
-ghost use Rattle.studio_ends.specs.Streams.{TakesTurn};
+ghost use Rattle.std.specs.Prelude.{◌≡◌, ◌↔◌, ◌^◌, ◌≤ℤ◌, ◌<ℤ◌, pos, false, IfOk, IfErr, IsTrue};
+ghost use Rattle.studio_ends.specs.Streams.{ReadsClock, TakesTurn};
 ghost use Rattle.studio_rings.specs.Turns.{CatchesUp, Closes, GoesOn, KeepsTokens, ReadsClockOnce, ReadsFirst};
 
 use crate::worker::Backoff;
@@ -9,6 +9,15 @@ use rtp_stream::{MAX_TIME, StreamClock};
 use std::sync::Wait;
 use studio_ends::{StopReason, StreamEnd, TurnNote};
 use studio_io::Clock;
+
+/// The longest time between two readings after which no packet waits, in sampling instants: 10 ms.
+// Twice the longest pause after a turn. After more the thread was held up.
+const MOST_BETWEEN: i64 = 480;
+
+/// The longest time that packets wait after a hold-up, in sampling instants: 50 ms.
+// The mixer takes what a second has left in less. A stream whose latency is shorter than another's is always behind its
+// clock, since the mixer takes its marks only when it needs them: its packets must not wait for longer.
+const LONGEST_WAIT: i64 = 2_400;
 
 /// Makes a turn at a reading that no clock fault refuses.
 fn turn_at(end: &mut StreamEnd, now: i64) -> TurnNote
@@ -19,6 +28,19 @@ fn turn_at(end: &mut StreamEnd, now: i64) -> TurnNote
 {
     match end.turn(now) {
         Ok(note) => note,
+        Err(_) => unreachable!(),
+    }
+}
+
+/// Passes a reading to a stream that no clock fault refuses. Takes no packet.
+fn read_at(end: &mut StreamEnd, now: i64) -> StopReason
+    requires open_yet { end.old.merge.closed ≡ false }
+    requires low { end.old.merge.time ≤ℤ now }
+    requires high { now ≤ℤ pos (2 ^ 60) }
+    ensures { ReadsClock end.old now result end.new }
+{
+    match end.read_clock(now) {
+        Ok(why) => why,
         Err(_) => unreachable!(),
     }
 }
@@ -35,10 +57,7 @@ fn read_first(end: &mut StreamEnd, now: i64)
     if matches!(end.spec().clock(), StreamClock::Media { .. }) || end.next_deadline().is_some() {
         return;
     }
-    match end.read_clock(now) {
-        Ok(_) => {}
-        Err(_) => unreachable!(),
-    }
+    let _ = read_at(end, now);
 }
 
 /// Pauses if a turn at this time left nothing to do until packets arrive or time passes. The pauses grow while no
@@ -54,17 +73,54 @@ fn snooze_after<R: Wait>(rt: &R, pause: &mut Backoff, now: i64, note: &TurnNote)
     }
 }
 
+/// Returns the time until which packets wait after a reading, if the last one was at another time: a new one after a
+/// hold-up.
+fn wait_after(until: i64, last: i64, now: i64) -> i64 {
+    if now.saturating_sub(last) > MOST_BETWEEN {
+        return now.saturating_add(LONGEST_WAIT);
+    }
+    until
+}
+
+/// Returns true if packets wait at a reading, since the end has not reached the last one.
+fn must_wait(end: &StreamEnd, last: i64, now: i64, until: i64) -> bool
+    ensures { IsTrue result ↔ ((end.now.merge.time <ℤ last) × (now <ℤ until)) }
+{
+    end.time() < last && now < until
+}
+
+/// Pauses if a reading at this time stopped because no free place is known.
+fn snooze_without_room<R: Wait>(rt: &R, pause: &mut Backoff, now: i64, why: StopReason) {
+    if why == StopReason::NoRoom {
+        pause.snooze_aligned(rt, now);
+    }
+}
+
 impl<C: Clock> ClockedStream<C> {
     /// Makes a turn at the greatest clock reading so far, and pauses if nothing is left to do until packets arrive or
     /// time passes.
+    ///
+    /// After a hold-up the marks of many turns are left, and come first: for at most 50 ms the turns take no packet
+    /// until one has reached its reading.
+    // A packet that was taken on the way would be judged at a time that is past: as in time or too early, or, if that
+    // time runs ahead of what the paths bring, as later and later. By a clock that follows it, its sender was astray.
     pub fn turn<R: Wait>(&mut self, rt: &R)
         ensures later { GoesOn C.told self.old self.new }
         ensures time { ReadsClockOnce C.told self.old.clock self.old.now self.new.clock self.new.now }
         ensures caught_up { CatchesUp self.old.end self.new.now self.new.end }
+        ensures punctual { self.old.end.merge.time <ℤ self.old.now → self.new.now <ℤ self.new.waits_until
+            → self.new.end.sides ≡ self.old.end.sides }
         ensures tokens { KeepsTokens self.old.end.sides.items self.new.end.sides.items }
     {
+        let last = self.now;
         // A reading before the last one or after 2^60 would be a clock fault, whatever the clock returns.
         self.now = self.clock.now().clamp(self.now, MAX_TIME);
+        self.waits_until = wait_after(self.waits_until, last, self.now);
+        if must_wait(&self.end, last, self.now, self.waits_until) {
+            let why = read_at(&mut self.end, self.now);
+            snooze_without_room(rt, &mut self.pause, self.now, why);
+            return;
+        }
         read_first(&mut self.end, self.now);
         let note = turn_at(&mut self.end, self.now);
         snooze_after(rt, &mut self.pause, self.now, &note);
@@ -82,6 +138,7 @@ impl<C: Clock> ClockedStream<C> {
             clock,
             now,
             pause,
+            waits_until,
         } = self;
         let mut end = end;
         match end.close() {
@@ -91,6 +148,7 @@ impl<C: Clock> ClockedStream<C> {
                 clock,
                 now,
                 pause,
+                waits_until,
             }),
         }
     }

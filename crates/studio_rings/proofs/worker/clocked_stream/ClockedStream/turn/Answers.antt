@@ -1,5 +1,5 @@
 use Rattle.std.proofs.Common.{◌≡◌, ◌∙◌, to_z, of_z, w64, rules, ap}
-use Rattle.studio_rings.proofs.StreamTurnLemmas.{catches-up, goes-turn, tokens-taken, took-first}
+use Rattle.studio_rings.proofs.StreamTurnLemmas.{catches-up, goes-reading, goes-turn, reads-up, tokens-taken, took-first}
 use Rattle.studio_rings.proofs.worker.clocked_stream.ClockedStream.turn.Goals as goal
 
 pub returns-clause-later : goal.returns-clause-later
@@ -30,3 +30,26 @@ pub returns-clause-tokens : goal.returns-clause-tokens
 returns-clause-tokens g c =
     let n = c.turn_at-note.ensures in
     tokens-taken _ _ n.taken (took-first c.args.self.now.end c.read_first.new.end c.turn_at-note.new.end n.taken c.read_first.ensures.sides n.took)
+
+pub returns-then-must_wait-clause-later : goal.returns-then-must_wait-clause-later
+returns-then-must_wait-clause-later g c =
+    let at : to_z w64 (of_z w64 c.clamp-self.result) ≡ c.clamp-self.result = search rules in
+    let was : to_z w64 (of_z w64 c.args.self.now.now) ≡ c.args.self.now.now = search rules in
+    let answer : to_z w64 (of_z w64 c.now.result) ≡ c.now.result = search rules in
+    goes-reading g.C.Clock.told _ _ c.now.result _ c.read_at-why.result c.now.ensures.tells (at ∙ (rw (was, answer) at c.clamp-self.ensures.value)) (ap (λ z. to_z w64 (of_z w64 z)) at) c.read_at-why.ensures
+
+pub returns-then-must_wait-clause-caught_up : goal.returns-then-must_wait-clause-caught_up
+returns-then-must_wait-clause-caught_up g c =
+    let at : to_z w64 (of_z w64 c.clamp-self.result) ≡ c.clamp-self.result = search rules in
+    reads-up _ _ _ _ c.read_at-why.result (ap (λ z. to_z w64 (of_z w64 z)) at) c.read_at-why.ensures
+
+pub returns-then-must_wait-clause-time : goal.returns-then-must_wait-clause-time
+returns-then-must_wait-clause-time g c =
+    let at : to_z w64 (of_z w64 c.clamp-self.result) ≡ c.clamp-self.result = search rules in
+    let was : to_z w64 (of_z w64 c.args.self.now.now) ≡ c.args.self.now.now = search rules in
+    let answer : to_z w64 (of_z w64 c.now.result) ≡ c.now.result = search rules in
+    record {
+      answer = c.now.result;
+      tells = c.now.ensures.tells;
+      time_is = at ∙ (rw (was, answer) at c.clamp-self.ensures.value);
+    }
