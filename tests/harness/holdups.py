@@ -16,12 +16,14 @@ from . import runs
 from .ports import HOST, Listeners, free_ports
 from .senders import L24_OCTETS, RATE, datagram
 
-# Sampling instants in a packet: after 4.1 seconds half of all numbers are past.
+# Sampling instants in a packet, if a run has no other number: after 4.1 seconds half of all numbers are past.
 FRAMES = 6
+# A stream's latency, if a run has no other, in sampling instants.
+LATENCY = 960
 # How often a packet is offered to a full ring before it is dropped.
 OFFERS = 1_001
-# The bursts of a sender are a millisecond long.
-BURST = 8
+# Sampling instants in a burst of a sender: a millisecond.
+BURST = 48
 # Seconds before a stop, and behind it.
 BEFORE, BEHIND = 1.5, 5.0
 CLOCKS = ("arrival", "follow", "media")
@@ -29,11 +31,11 @@ CONFIG = """open_at = 0
 [[stream]]
 encoding = "L24"
 channels = 1
-frames = 6
+frames = {frames}
 pt = 96
 ssrc = 1
 clock = "{clock}"
-latency = 960
+latency = {latency}
 window = 512
 port_a = {a}
 port_b = {b}
@@ -58,6 +60,8 @@ class HeldRun:
     clock: str
     form: list[str]
     folder: Path
+    frames: int = FRAMES
+    latency: int = LATENCY
     child: subprocess.Popen | None = None
     ports: list[int] = field(default_factory=list)
     listeners: Listeners | None = None
@@ -67,26 +71,28 @@ class HeldRun:
 
     @property
     def name(self) -> str:
-        return f"{self.clock} {'one' if self.form else 'workers'}"
+        own = "" if self.frames == FRAMES else f" {self.frames}"
+        return f"{self.clock} {'one' if self.form else 'workers'}{own}"
 
     @property
     def file(self) -> Path:
         return self.folder / self.name.replace(" ", "-")
 
-    def start(self, program: str, words: list[str]) -> None:
+    def start(self, program: str) -> None:
         """Starts the run with a WAV file, and in one thread a record."""
         self.ports, self.listeners = free_ports(2), Listeners()
         (a, b), (to_a, to_b) = self.ports, self.listeners.ports
         # By the media clock the run and the sender count from 1970, without leap seconds.
         offset = '"\noffset = 0' if self.clock == "media" else '"'
-        text = CONFIG.format(clock=self.clock, a=a, b=b, to_a=to_a, to_b=to_b)
+        own = {"clock": self.clock, "frames": self.frames, "latency": self.latency}
+        text = CONFIG.format(**own, a=a, b=b, to_a=to_a, to_b=to_b)
         self.file.with_suffix(".toml").write_text(text.replace(f'"{self.clock}"', f'"{self.clock}{offset}'))
         outputs = ["--wav", str(self.file.with_suffix(".wav"))]
         if self.form:
             outputs += ["--record", str(self.file.with_suffix(".pcapng"))]
         times = ["--clock", "tai", "--tai-offset", "0"] if self.clock == "media" else []
         config = str(self.file.with_suffix(".toml"))
-        self.child = runs.start(program, "live", config, *self.form, *outputs, *times, *words)
+        self.child = runs.start(program, "live", config, *self.form, *outputs, *times)
         runs.wait_bound(self.child, self.ports)
 
     def end(self) -> None:
@@ -134,7 +140,7 @@ class HeldRun:
                 continue
             if value > most:
                 most, held = value, 1
-            elif value == most and held < FRAMES:
+            elif value == most and held < self.frames:
                 held += 1
             else:
                 again += 1
@@ -150,8 +156,9 @@ class HeldRun:
         return len(self.listeners.taken[0])
 
 
-def send_all(ports: list[int], seconds: float) -> None:
-    """Sends the same packets to all ports in bursts of a millisecond, for so many seconds."""
+def send_all(ports: list[int], seconds: float, frames: int) -> None:
+    """Sends the same packets, of so many sampling instants, to all ports in bursts of a millisecond, for so many
+    seconds."""
     # It stands for another machine, which the load of this one doesn't slow down; only root may have it so.
     with contextlib.suppress(OSError):
         os.setpriority(os.PRIO_PROCESS, 0, -15)
@@ -159,11 +166,11 @@ def send_all(ports: list[int], seconds: float) -> None:
     for one, port in zip(out, ports):
         one.connect((HOST, port))
     began, first = time.monotonic(), int(time.time() * RATE)
-    for count in range(int(seconds * RATE / FRAMES)):
-        if count % BURST == 0:
-            time.sleep(max(0, began + count * FRAMES / RATE - time.monotonic()))
+    for count in range(int(seconds * RATE / frames)):
+        if count * frames % BURST == 0:
+            time.sleep(max(0, began + count * frames / RATE - time.monotonic()))
         value = (count + 1).to_bytes(L24_OCTETS, "big")
-        octets = datagram(96, count, first + count * FRAMES, 1, value * FRAMES)
+        octets = datagram(96, count, first + count * frames, 1, value * frames)
         for one in out:
             # A port where nobody listens any more answers with an error.
             with contextlib.suppress(OSError):
@@ -182,27 +189,39 @@ def busy(count: int) -> Iterator[None]:
             child.wait()
 
 
-def held_up(program: str, held: list[HeldRun], seconds: float, load: int, words: list[str]) -> None:
-    """Starts the runs side by side, stops all of them for so many seconds next to so many busy processes, and lets them
-    go on and end."""
+@dataclass
+class Stops:
+    """How runs are stopped: for so many seconds, so often, with so many seconds behind each stop, in which so many
+    processes are busy next to them."""
+
+    seconds: float
+    count: int = 1
+    behind: float = BEHIND
+    load: int = 0
+
+
+def held_up(program: str, held: list[HeldRun], stops: Stops) -> None:
+    """Starts the runs side by side, stops all of them, and lets them go on and end."""
+    length = BEFORE + stops.count * (stops.seconds + stops.behind) + 1
     with contextlib.ExitStack() as stack:
         for run in held:
-            run.start(program, words)
+            run.start(program)
             stack.callback(runs.stop, run.child)
         # Each run has a sender of its own: one for all of them falls behind.
         for run in held:
-            sender = multiprocessing.Process(target=send_all, args=(run.ports, BEFORE + seconds + BEHIND + 1))
+            sender = multiprocessing.Process(target=send_all, args=(run.ports, length, run.frames))
             sender.start()
             stack.callback(sender.join)
             stack.callback(sender.kill)
         time.sleep(BEFORE)
-        for run in held:
-            run.child.send_signal(signal.SIGSTOP)
-        wait(held, seconds)
-        with busy(load):
+        for _ in range(stops.count):
             for run in held:
-                run.child.send_signal(signal.SIGCONT)
-            wait(held, BEHIND)
+                run.child.send_signal(signal.SIGSTOP)
+            wait(held, stops.seconds)
+            with busy(stops.load):
+                for run in held:
+                    run.child.send_signal(signal.SIGCONT)
+                wait(held, stops.behind)
         for run in held:
             run.end()
 
