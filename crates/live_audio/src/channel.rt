@@ -1,5 +1,5 @@
 //! The two ends of a run's audio.
-ghost use Rattle.std.specs.Prelude.{◌≡◌, ◌≤◌, ℕ, [], Some, false, slice_get, IfOk};
+ghost use Rattle.std.specs.Prelude.{◌≡◌, ◌≤◌, ℕ, [], None, Some, slice_get, IfOk};
 ghost use Rattle.rtrb.specs.Ring.{IsPair, known_free, sent};
 ghost use Rattle.rtp_stream.specs.declared.stream_spec.Stream.{Stream};
 ghost use Rattle.wav_file.specs.MixSamples.{output_format};
@@ -35,7 +35,7 @@ impl<'a> AudioChannel<'a> {
         audio: &'a OutputProgress,
     ) -> Result<AudioChannel<'a>, AllocError>
         ensures pair { IfOk result (λ channel. IsPair channel.producer.ring channel.writer.ring) }
-        ensures open { IfOk result (λ channel. channel.producer.ended ≡ false) }
+        ensures open { IfOk result (λ channel. channel.producer.end ≡ None) }
         ensures none { IfOk result (λ channel. sent channel.producer.ring ≡ []) }
         ensures space { IfOk result (λ channel. (place : ℕ) (stream : Stream)
             → slice_get studio.now.streams place ≡ Some stream

@@ -37,6 +37,13 @@ impl<'r> PcmProducer<'r> {
         }
     }
 
+    /// Returns the number of blocks that were left out, up to 2^64 - 1.
+    pub fn left_out(&self) -> u64
+        ensures { result ≡ self.now.left_out }
+    {
+        self.left_out
+    }
+
     /// Puts the samples of a datagram of the mix, which are behind the twelve octets of its header. Leaves the block
     /// out if the ring has no space for all of them, or nobody reads the output yet.
     // Blocks before the first reader are left out, so that a reader that opens late hears the audio of that time.

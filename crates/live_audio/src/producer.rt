@@ -1,5 +1,5 @@
 //! The end of a ring into which the samples of the mix are put, a block as a whole or not at all.
-ghost use Rattle.std.specs.Prelude.{◌≡◌, ◌≤◌, drop, length, false};
+ghost use Rattle.std.specs.Prelude.{◌≡◌, ◌≤◌, drop, length, None};
 ghost use Rattle.live_audio.specs.Producer.{Puts, StaysEnded};
 
 use rtrb::Producer;
@@ -10,8 +10,8 @@ use studio_io::{OutputEnd, OutputProgress};
 #[derive(Drop)]
 pub struct AudioProducer<'a> {
     ring: Producer<u8>,
-    /// True once a block was not put. Nothing is put any more.
-    ended: bool,
+    /// Why the file ended, if it did. Nothing is put any more then.
+    end: Option<OutputEnd>,
     /// The number of blocks that were passed to it, also after the end.
     given: u64,
     /// The progress of the file, in which that number and the reason of the file's end are set.
@@ -22,14 +22,21 @@ impl<'r> AudioProducer<'r> {
     /// Returns the end of a ring, into which it has put nothing yet.
     pub(crate) fn new(ring: Producer<u8>, audio: &'r OutputProgress) -> AudioProducer<'r>
         ensures ring { result.ring ≡ ring }
-        ensures open { result.ended ≡ false }
+        ensures open { result.end ≡ None }
     {
         AudioProducer {
             ring,
-            ended: false,
+            end: None,
             given: 0,
             audio,
         }
+    }
+
+    /// Returns why the file ended, if it did.
+    pub fn end(&self) -> Option<OutputEnd>
+        ensures { result ≡ self.now.end }
+    {
+        self.end
     }
 
     /// Puts the samples of a datagram of the mix, which are behind the twelve octets of its header, if the ring has
@@ -41,11 +48,11 @@ impl<'r> AudioProducer<'r> {
         self.given = self.given.saturating_add(1);
         self.audio.set_given(self.given);
         // Nothing is put after a block that is missing: the file would have a hole in the middle.
-        if self.ended {
+        if self.end.is_some() {
             return;
         }
         if self.ring.push_entire_slice(samples_of(datagram)).is_err() {
-            self.ended = true;
+            self.end = Some(OutputEnd::Slow);
             self.audio.set_end(OutputEnd::Slow);
         }
     }
