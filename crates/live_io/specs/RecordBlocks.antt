@@ -16,15 +16,22 @@ use Rattle.studio_config.specs.Studio.{Studio}
 use Rattle.live_io.specs.declared.record.block_producer.BlockProducer.{BlockProducer}
 use Rattle.live_io.specs.declared.record.observer.RecordObserver.{RecordObserver}
 use Rattle.run_outputs.specs.declared.events.DatagramOrigin.{DatagramOrigin}
+use Rattle.studio_io.specs.declared.output_state.OutputEnd.{OutputEnd}
+use Rattle.studio_io.specs.declared.output_state.OutputEnd.TheVariants.{Slow, Unfit}
 
--- the record has ended: nothing was sent, and nothing will be sent any more
-abbrev pub Ends : BlockProducer → BlockProducer → Type 0
-Ends old new = (new.ended ≡ true) × (sent new.ring ≡ sent old.ring)
+-- the record ends for this reason, and nothing was sent
+abbrev pub Ends : OutputEnd → BlockProducer → BlockProducer → Type 0
+Ends reason old new = (new.end ≡ Some reason) × (sent new.ring ≡ sent old.ring)
 
--- the whole block was sent; or none of it, because the record had ended before, or the ring was not known to have space
+-- a record that has ended stays so, for the same reason, and nothing more is sent to the ring
+abbrev pub StaysEnded : BlockProducer → BlockProducer → Type 0
+StaysEnded old new = (reason : OutputEnd) → old.end ≡ Some reason → (new.end ≡ Some reason) × (new.ring ≡ old.ring)
+
+-- if the record had not ended: the whole block was sent; or the record ends as too slow, because the ring was not known to
+-- have space for the block
 abbrev pub Puts : BlockProducer → List ℕ → BlockProducer → Type 0
-Puts old block new =
-    ((new.ended ≡ false) × (sent new.ring ≡ sent old.ring ++ block)) ⊎ (Ends old new × ((old.ended ≡ true) ⊎ (known_free new.ring < length block)))
+Puts old block new = old.end ≡ None
+    → ((new.end ≡ None) × (sent new.ring ≡ sent old.ring ++ block)) ⊎ (Ends Slow old new × (known_free new.ring < length block))
 
 -- the time is this many nanoseconds after the opening
 abbrev pub IsSince : ℤ → ℤ → ℕ → Type 0
@@ -43,12 +50,12 @@ pub record IsPacket (open_at time : ℤ) (origin : DatagramOrigin) (octets : Lis
 abbrev pub IsPast : ℤ → ℤ → Type 0
 IsPast open_at time = (instants : ℕ) → time ≡ (open_at +ℤ pos instants) → nanoseconds_in_64 instants ≡ None
 
--- the datagram's packet was put; or nothing was sent, because the record had ended, or the datagram is too long, or its
--- time is past what the format holds
+-- if the record had not ended: the datagram's packet was put; or the record ends with what does not fit, because the
+-- datagram is too long, or its time is past what the format holds
 abbrev pub PutsPacket : ℤ → ℤ → DatagramOrigin → List ℕ → BlockProducer → BlockProducer → Type 0
-PutsPacket open_at time origin octets old new =
-    ((view : ArrivalView) × IsPacket open_at time origin octets view × Puts old (datagram_block view) new)
-    ⊎ (Ends old new × ((old.ended ≡ true) ⊎ ((2048 < length octets) ⊎ IsPast open_at time)))
+PutsPacket open_at time origin octets old new = old.end ≡ None
+    → ((view : ArrivalView) × IsPacket open_at time origin octets view × Puts old (datagram_block view) new)
+    ⊎ (Ends Unfit old new × ((2048 < length octets) ⊎ IsPast open_at time))
 
 -- the format has no space for this change of gains: the record has no interface for it, there are too many gains, or 64
 -- bits don't hold the nanoseconds after the opening of its time, or the sampling instants to the time from which its
@@ -61,19 +68,20 @@ IsUnfit open_at interface time at gains =
 abbrev pub change_from : ℤ → ℤ → ℕ → List ℤ → ChangeView
 change_from open_at at next_block gains = record { at = at -ℤ open_at; next_block = next_block; gains = gains }
 
--- the change's block was put, on the interface for changes; or nothing was sent, because the record had ended, or the
--- format has no space for the change
+-- if the record had not ended: the change's block was put, on the interface for changes; or the record ends with what does
+-- not fit, because the format has no space for the change
 abbrev pub PutsChange : ℤ → Option ℕ → ℤ → ℤ → ℕ → List ℤ → BlockProducer → BlockProducer → Type 0
-PutsChange open_at interface time at next_block gains old new =
-    ((number : ℕ) × (nanoseconds : ℕ) × (interface ≡ Some number) × IsSince open_at time nanoseconds
+PutsChange open_at interface time at next_block gains old new = old.end ≡ None
+    → ((number : ℕ) × (nanoseconds : ℕ) × (interface ≡ Some number) × IsSince open_at time nanoseconds
     × Puts old (change_block number nanoseconds (change_from open_at at next_block gains)) new)
-    ⊎ (Ends old new × ((old.ended ≡ true) ⊎ IsUnfit open_at interface time at gains))
+    ⊎ (Ends Unfit old new × IsUnfit open_at interface time at gains)
 
--- the block of a close at this time was put, or nothing was sent, because the format has no space for the time
+-- if the record had not ended: the block of a close at this time was put; or the record ends with what does not fit,
+-- because the format has no space for the time
 abbrev pub PutsClose : ℤ → ℤ → BlockProducer → BlockProducer → Type 0
-PutsClose open_at time old new =
-    ((nanoseconds : ℕ) × IsSince open_at time nanoseconds × Puts old (closing_block nanoseconds) new)
-    ⊎ (Ends old new × IsPast open_at time)
+PutsClose open_at time old new = old.end ≡ None
+    → ((nanoseconds : ℕ) × IsSince open_at time nanoseconds × Puts old (closing_block nanoseconds) new)
+    ⊎ (Ends Unfit old new × IsPast open_at time)
 
 -- the configuration of a stream in a record
 abbrev pub bits_of : Enc → ℕ
@@ -103,18 +111,13 @@ abbrev pub path_blocks : ℕ → List Stream → List ℕ
 path_blocks number [] = []
 path_blocks number (stream ∷ streams) = stream_blocks number stream ++ path_blocks (suc number) streams
 
--- a record that has ended stays so, and nothing more is sent to the ring
-abbrev pub StaysEnded : BlockProducer → BlockProducer → Type 0
-StaysEnded old new = old.ended ≡ true → (new.ended ≡ true) × (new.ring ≡ old.ring)
+-- the record has ended as too slow, because the ring was not known to have space for these octets
+abbrev pub LacksSpace : List ℕ → BlockProducer → Type 0
+LacksSpace octets end = (end.end ≡ Some Slow) × (known_free end.ring < length octets)
 
--- nothing will be sent any more, because the record had ended before, or the ring was not known to have space for these
--- octets
-abbrev pub LacksSpace : BlockProducer → List ℕ → BlockProducer → Type 0
-LacksSpace old octets new = (new.ended ≡ true) × ((old.ended ≡ true) ⊎ (known_free new.ring < length octets))
-
--- these octets were sent, or not all of them, because the record has ended or there is no space
+-- if the record had not ended: these octets were sent; or not all of them, because there was no space
 abbrev pub Sends : BlockProducer → List ℕ → BlockProducer → Type 0
-Sends old octets new = ((new.ended ≡ false) × (sent new.ring ≡ sent old.ring ++ octets)) ⊎ LacksSpace old octets new
+Sends old octets new = old.end ≡ None → ((new.end ≡ None) × (sent new.ring ≡ sent old.ring ++ octets)) ⊎ LacksSpace octets new
 
 -- the number of paths of all streams
 abbrev pub path_total : List Stream → ℕ
@@ -135,16 +138,15 @@ gains_interface_of false streams = None
 abbrev pub front_blocks : Bool → Studio → ℕ → List ℕ
 front_blocks is_controlled studio at = section_block at ++ (path_blocks 0 studio.streams ++ gains_blocks is_controlled)
 
--- the start of the record was sent; or nothing more will be sent, because the ring was not known to have space for all
--- of it
+-- the start of the record was sent; or the record has ended as too slow, because the ring was not known to have space for
+-- all of it
 abbrev pub Opens : Bool → Studio → BlockProducer → Type 0
 Opens is_controlled studio end = (at : ℕ) → studio.open_at ≡ pos at
-    → ((end.ended ≡ false) × (sent end.ring ≡ front_blocks is_controlled studio at))
-    ⊎ ((end.ended ≡ true) × (known_free end.ring < length (front_blocks is_controlled studio at)))
+    → ((end.end ≡ None) × (sent end.ring ≡ front_blocks is_controlled studio at)) ⊎ LacksSpace (front_blocks is_controlled studio at) end
 
 -- the observer of a run's record has just begun: the start of the record was sent, it counts times from the studio's
 -- opening, and it has the interface for changes of gains only if these can be changed
 pub record BeginsRecord (is_controlled : Bool) (studio : Studio) (observer : RecordObserver) : Type 0 where
-  pub opens : Opens is_controlled studio observer.end
+  pub opens : Opens is_controlled studio observer.blocks
   pub open_at : observer.open_at ≡ studio.open_at
   pub gains_interface : observer.gains_interface ≡ gains_interface_of is_controlled studio.streams

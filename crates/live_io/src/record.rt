@@ -42,7 +42,7 @@ impl<'a> RecordChannel<'a> {
         recorded: &'a OutputProgress,
     ) -> Result<RecordChannel<'a>, AllocError>
         ensures empty { IfOk result (λ channel. HasWritten (Some []) channel.writer) }
-        ensures opens { IfOk result (λ channel. Opens is_controlled studio.now channel.observer.end) }
+        ensures opens { IfOk result (λ channel. Opens is_controlled studio.now channel.observer.blocks) }
         ensures interface { IfOk result (λ channel.
             channel.observer.gains_interface ≡ gains_interface_of is_controlled studio.now.streams) }
         ensures open_at { IfOk result (λ channel. channel.observer.open_at ≡ studio.now.open_at) }

@@ -1,5 +1,5 @@
 //! The end of a ring into which the blocks of a record are put, each as a whole or not at all.
-ghost use Rattle.std.specs.Prelude.{◌≡◌, ◌≤◌, length, take, false};
+ghost use Rattle.std.specs.Prelude.{◌≡◌, ◌≤◌, length, take, None};
 ghost use Rattle.pcap_file.specs.RecordedChange.{change_view};
 ghost use Rattle.pcap_file.specs.RecordedDatagram.{arrival_view};
 ghost use Rattle.pcap_file.specs.Blocks.{
@@ -10,20 +10,22 @@ ghost use Rattle.pcap_file.specs.Blocks.{
   interface_block,
   section_block,
 };
-ghost use Rattle.live_io.specs.RecordBlocks.{Puts, StaysEnded};
+ghost use Rattle.studio_io.specs.declared.output_state.OutputEnd.TheVariants.{Unfit};
+ghost use Rattle.live_io.specs.RecordBlocks.{Ends, Puts, StaysEnded};
 
 use pcap_file::{
     MAX_BLOCK_LEN, RecordedChange, RecordedDatagram, write_change, write_gains_interface,
     write_interface, write_packet, write_section_header, write_statistics,
 };
 use rtrb::Producer;
+use studio_io::OutputEnd;
 
 /// The end of a ring into which blocks are put.
 #[derive(Drop)]
 pub(crate) struct BlockProducer {
     pub(crate) ring: Producer<u8>,
-    /// True once a block was not put. Nothing is put any more.
-    pub(crate) ended: bool,
+    /// Why the record ended, if it did. Nothing is put any more then.
+    pub(crate) end: Option<OutputEnd>,
     /// The buffer in which a block is made.
     // A field and not a local array, which would be cleared for each block.
     pub(crate) block: [u8; MAX_BLOCK_LEN],
@@ -33,11 +35,11 @@ impl BlockProducer {
     /// Returns the end of a ring, into which it has put nothing yet.
     pub(crate) fn new(ring: Producer<u8>) -> BlockProducer
         ensures ring { result.ring ≡ ring }
-        ensures open { result.ended ≡ false }
+        ensures open { result.end ≡ None }
     {
         BlockProducer {
             ring,
-            ended: false,
+            end: None,
             block: [0; MAX_BLOCK_LEN],
         }
     }
@@ -100,6 +102,16 @@ impl BlockProducer {
         self.put(len)
     }
 
+    /// Notes a block that does not fit the format of a record. It ends the record, unless that has ended before.
+    pub(crate) fn note_unfit(&mut self)
+        ensures unfit { self.old.end ≡ None → Ends Unfit self.old self.new }
+        ensures ended { StaysEnded self.old self.new }
+    {
+        if self.end.is_none() {
+            self.end = Some(OutputEnd::Unfit);
+        }
+    }
+
     /// Puts the first `len` octets of the buffer as one block, if the ring has space for all of them. The first block
     /// without space ends the record.
     fn put(&mut self, len: usize)
@@ -108,11 +120,11 @@ impl BlockProducer {
         ensures ended { StaysEnded self.old self.new }
     {
         // Nothing is put after a block that is missing: a gap would replay as losses that never happened.
-        if self.ended {
+        if self.end.is_some() {
             return;
         }
         if self.ring.push_entire_slice(&self.block[..len]).is_err() {
-            self.ended = true;
+            self.end = Some(OutputEnd::Slow);
         }
     }
 }

@@ -43,7 +43,7 @@ const FIRST_LETTER: u8 = b'a';
 /// that cannot be written: if the ring is full, the datagram is too long, or a time does not fit 64 bits.
 #[derive(Drop)]
 pub struct RecordObserver<'a> {
-    end: BlockProducer,
+    blocks: BlockProducer,
     /// The progress of the record, in which the reason of its end is set.
     recorded: &'a OutputProgress,
     /// The studio's opening time, in sampling instants.
@@ -64,46 +64,55 @@ impl<'r> RecordObserver<'r> {
         recorded: &'r OutputProgress,
     ) -> RecordObserver<'r>
         requires fresh { sent ring ≡ [] }
-        ensures opens { Opens is_controlled studio.now result.end }
+        ensures opens { Opens is_controlled studio.now result.blocks }
         ensures interface { result.gains_interface ≡ gains_interface_of is_controlled studio.now.streams }
         ensures open_at { result.open_at ≡ studio.now.open_at }
         ensures none { result.received ≡ 0 }
     {
         let open_at = studio.open_at();
-        let mut end = BlockProducer::new(ring);
-        end.put_opening(opening_of(open_at));
-        put_streams(&mut end, studio.streams());
+        let mut blocks = BlockProducer::new(ring);
+        blocks.put_opening(opening_of(open_at));
+        put_streams(&mut blocks, studio.streams());
         let paths = path_count(studio.streams());
-        let gains_interface = put_gains_interface(&mut end, is_controlled, paths);
-        RecordObserver {
-            end,
+        let gains_interface = put_gains_interface(&mut blocks, is_controlled, paths);
+        let observer = RecordObserver {
+            blocks,
             recorded,
             open_at,
             gains_interface,
             received: 0,
-        }
+        };
+        observer.report_end();
+        observer
+    }
+
+    /// Returns why the record ended, if it did.
+    pub fn end(&self) -> Option<OutputEnd>
+        ensures { result ≡ self.now.blocks.end }
+    {
+        self.blocks.end
     }
 
     /// Puts the packet block of a datagram that arrived at `time`, in sampling instants, and counts the datagram. It
     /// does not wait: if the block cannot be put, the record ends.
     pub fn record_datagram(&mut self, time: i64, octets: &[u8], origin: &DatagramOrigin)
-        ensures puts { PutsPacket self.old.open_at time origin.now octets.now self.old.end self.new.end }
-        ensures ended { self.old.end.ended ≡ true → self.new.end.ended ≡ true }
+        ensures puts { PutsPacket self.old.open_at time origin.now octets.now self.old.blocks self.new.blocks }
+        ensures ended { StaysEnded self.old.blocks self.new.blocks }
         ensures received { self.old.received + 1 < 2 ^ 64 → self.new.received ≡ self.old.received + 1 }
     {
         self.received = self.received.saturating_add(1);
         self.recorded.set_given(self.received);
-        if self.end.ended {
+        if self.blocks.end.is_some() {
             return;
         }
         match self.arrival(time, octets, origin) {
             Some(arrival) => {
-                self.end.put_datagram(&arrival);
-                self.report_if_slow();
+                self.blocks.put_datagram(&arrival);
+                self.report_end();
             }
             None => {
-                self.end.ended = true;
-                self.recorded.set_end(OutputEnd::Unfit);
+                self.blocks.note_unfit();
+                self.report_end();
             }
         }
     }
@@ -113,47 +122,47 @@ impl<'r> RecordObserver<'r> {
     /// counted. It does not wait: if the block cannot be put, the record ends.
     pub fn record_change(&mut self, time: i64, at: i64, next_block: u64, gains: &[i32])
         ensures puts { PutsChange self.old.open_at self.old.gains_interface time at next_block gains.now
-            self.old.end self.new.end }
-        ensures ended { self.old.end.ended ≡ true → self.new.end.ended ≡ true }
+            self.old.blocks self.new.blocks }
+        ensures ended { StaysEnded self.old.blocks self.new.blocks }
         ensures received { self.new.received ≡ self.old.received }
     {
-        if self.end.ended {
+        if self.blocks.end.is_some() {
             return;
         }
         match self.change(time, at, next_block, gains) {
             Some(change) => {
-                self.end.put_change(&change);
-                self.report_if_slow();
+                self.blocks.put_change(&change);
+                self.report_end();
             }
             None => {
-                self.end.ended = true;
-                self.recorded.set_end(OutputEnd::Unfit);
+                self.blocks.note_unfit();
+                self.report_end();
             }
         }
     }
 
     /// Puts the block of the close, which was at `time`, in sampling instants.
     pub fn record_close(&mut self, time: i64)
-        ensures puts { PutsClose self.old.open_at time self.old.end self.new.end }
-        ensures ended { self.old.end.ended ≡ true → self.new.end.ended ≡ true }
+        ensures puts { PutsClose self.old.open_at time self.old.blocks self.new.blocks }
+        ensures ended { StaysEnded self.old.blocks self.new.blocks }
         ensures received { self.new.received ≡ self.old.received }
     {
         match self.nanoseconds(time) {
             Some(nanoseconds) => {
-                self.end.put_closing(nanoseconds);
-                self.report_if_slow();
+                self.blocks.put_closing(nanoseconds);
+                self.report_end();
             }
             None => {
-                self.end.ended = true;
-                self.recorded.set_end(OutputEnd::Unfit);
+                self.blocks.note_unfit();
+                self.report_end();
             }
         }
     }
 
-    /// Sets the record's end if the ring had no space for a block.
-    fn report_if_slow(&self) {
-        if self.end.ended {
-            self.recorded.set_end(OutputEnd::Slow);
+    /// Sets the reason of the record's end in its progress, if it has ended.
+    fn report_end(&self) {
+        if let Some(end) = self.blocks.end {
+            self.recorded.set_end(end);
         }
     }
 
@@ -248,49 +257,49 @@ pub(crate) fn path_count(streams: &[StreamSpec]) -> u32
 
 /// Puts the description of the interface for changes of gains, if these can be changed. Returns its number, which is
 /// that of all paths.
-fn put_gains_interface(end: &mut BlockProducer, is_controlled: bool, paths: u32) -> Option<u32>
-    ensures sends { Sends end.old (gains_blocks is_controlled) end.new }
-    ensures ended { StaysEnded end.old end.new }
+fn put_gains_interface(blocks: &mut BlockProducer, is_controlled: bool, paths: u32) -> Option<u32>
+    ensures sends { Sends blocks.old (gains_blocks is_controlled) blocks.new }
+    ensures ended { StaysEnded blocks.old blocks.new }
     ensures put { is_controlled ≡ true → result ≡ Some paths }
     ensures none { is_controlled ≡ false → result ≡ None }
 {
     if !is_controlled {
         return None;
     }
-    end.put_gains_interface();
+    blocks.put_gains_interface();
     Some(paths)
 }
 
 /// Puts the descriptions of all paths of the streams.
-fn put_streams(end: &mut BlockProducer, streams: &[StreamSpec])
+fn put_streams(blocks: &mut BlockProducer, streams: &[StreamSpec])
     requires few { length streams.now ≤ 16 }
-    ensures sends { Sends end.old (path_blocks 0 streams.now) end.new }
-    ensures ended { StaysEnded end.old end.new }
+    ensures sends { Sends blocks.old (path_blocks 0 streams.now) blocks.new }
+    ensures ended { StaysEnded blocks.old blocks.new }
 {
     // Loops over numbers here and in `put_rows`: their invariants speak of the paths below the number.
     for number in 0..streams.len() {
-        put_paths(end, number as u16, &streams[number]);
+        put_paths(blocks, number as u16, &streams[number]);
     }
 }
 
 /// Puts the descriptions of a stream's paths.
-fn put_paths(end: &mut BlockProducer, number: u16, stream: &StreamSpec)
-    ensures sends { Sends end.old (stream_blocks number stream.now) end.new }
-    ensures ended { StaysEnded end.old end.new }
+fn put_paths(blocks: &mut BlockProducer, number: u16, stream: &StreamSpec)
+    ensures sends { Sends blocks.old (stream_blocks number stream.now) blocks.new }
+    ensures ended { StaysEnded blocks.old blocks.new }
 {
     let description = recorded_stream(stream).description();
-    put_rows(end, number, stream.paths(), description.as_slice());
+    put_rows(blocks, number, stream.paths(), description.as_slice());
 }
 
 /// Puts the descriptions of the first `count` paths of a stream.
-fn put_rows(end: &mut BlockProducer, stream: u16, count: u8, description: &[u8])
+fn put_rows(blocks: &mut BlockProducer, stream: u16, count: u8, description: &[u8])
     requires few { count < 5 }
     requires short { length description.now ≤ 64 }
-    ensures sends { Sends end.old (row_blocks stream description.now count) end.new }
-    ensures ended { StaysEnded end.old end.new }
+    ensures sends { Sends blocks.old (row_blocks stream description.now count) blocks.new }
+    ensures ended { StaysEnded blocks.old blocks.new }
 {
     for path in 0..count {
-        end.put_interface(stream, FIRST_LETTER + path, description);
+        blocks.put_interface(stream, FIRST_LETTER + path, description);
     }
 }
 

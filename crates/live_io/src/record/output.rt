@@ -1,6 +1,12 @@
 //! The record as an output of a run.
 ghost use Rattle.std.specs.Prelude.{◌≡◌};
-ghost use Rattle.live_io.specs.RecordBlocks.{BeginsRecord, PutsChange, PutsClose, PutsPacket};
+ghost use Rattle.live_io.specs.RecordBlocks.{
+  BeginsRecord,
+  PutsChange,
+  PutsClose,
+  PutsPacket,
+  StaysEnded,
+};
 
 use crate::record::RecordChannel;
 use crate::record::file::{CreateRecord, RecordFault, RecordFile};
@@ -44,13 +50,15 @@ impl<D: RecordFile + Drop> SideTask for RecordTask<'_, D> {
 
 impl EventOutput for RecordObserver<'_> {
     ghost arrives = { λ old datagram new.
-        PutsPacket old.open_at datagram.time datagram.origin datagram.octets old.end new.end };
+        PutsPacket old.open_at datagram.time datagram.origin datagram.octets old.blocks new.blocks
+        × StaysEnded old.blocks new.blocks };
 
     ghost changes = { λ old change new.
-        PutsChange old.open_at old.gains_interface change.time change.at change.next_block change.gains old.end
-        new.end };
+        PutsChange old.open_at old.gains_interface change.time change.at change.next_block change.gains old.blocks
+        new.blocks × StaysEnded old.blocks new.blocks };
 
-    ghost closes = { λ old time new. PutsClose old.open_at time old.end new.end };
+    ghost closes = { λ old time new.
+        PutsClose old.open_at time old.blocks new.blocks × StaysEnded old.blocks new.blocks };
 
     fn needs_addresses(&self) -> bool {
         true

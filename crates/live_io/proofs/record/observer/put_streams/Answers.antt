@@ -10,5 +10,5 @@ loop-number-preserved c =
     let more = c.loop-number-test.true in
     let long = c.loop-number.auto.number-end in
     let within : number < length streams = omega (arith, more, long) in
-    describes_more streams number c.index-streams-number.result c.args.end.now c.loop-number.end c.put_paths.new.end within c.index-streams-number.is c.loop-number.invariant
+    describes_more streams number c.index-streams-number.result c.args.blocks.now c.loop-number.blocks c.put_paths.new.blocks within c.index-streams-number.is c.loop-number.invariant
     c.put_paths.ensures.sends c.put_paths.ensures.ended
