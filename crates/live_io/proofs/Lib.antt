@@ -1,6 +1,7 @@
 pub mod AddressLemmas
 pub mod BackoffLemmas
 pub mod DescriptorLemmas
+pub mod FeedLemmas
 pub mod LinkLemmas
 pub mod NameLemmas
 pub mod PortLemmas

@@ -12,5 +12,6 @@ pub mod ReceivePace
 pub mod RecordBlocks
 pub mod RecordFile
 pub mod RecordWriter
+pub mod Sending
 pub mod Sharing
 pub mod WholeDatagrams

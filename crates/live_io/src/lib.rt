@@ -46,7 +46,7 @@ pub use sockets::ports::LivePorts;
 pub use sockets::receiver::Receiver;
 pub use sockets::retrying::{DatagramSocket, RetryingSocket};
 pub use sockets::sharing::{PathPlace, have_collision};
-pub use sockets::sink::UdpSink;
+pub use sockets::sink::{SendingSocket, UdpSender, UdpSink};
 pub use sockets::timely_sink::TimelySink;
 pub use sockets::udp_table::{drops_in, read_kernel_drops};
 pub use sockets::unexpected::UnexpectedSources;

@@ -5,6 +5,8 @@
 //! too late. `sharing` says which paths can be at one place. A socket that fails is read by `retrying`, as `backoff`
 //! says, and one that is empty as `pace` says. `health` has what the sockets count, and `udp_table` what the kernel
 //! counts. `unopened` says which socket could not be opened.
+ghost use Rattle.std.specs.Prelude.{IfOk};
+ghost use Rattle.live_io.specs.Sending.{AreDestinations};
 
 use crate::sockets::addresses::{PathAddress, addresses_of};
 use crate::sockets::health::RunHealth;
@@ -75,7 +77,10 @@ pub fn open_sockets<'a, R: Net>(
     alloc: Global,
     studio: &StudioSpec,
     config: SocketConfig<'a>,
-) -> io::Result<Sockets<'a>> {
+) -> io::Result<Sockets<'a>>
+    ensures { IfOk result (λ sockets. AreDestinations studio.now.networks.output config.entry.ports.now sockets.sink.a.to
+        sockets.sink.b.to) }
+{
     let receiving = open_receivers(rt, alloc, studio, config)?;
     let sink = UdpSink::bind(rt, &studio.networks().output, receiving.len(), config)?;
     Ok(Sockets { receiving, sink })

@@ -1,5 +1,5 @@
 //! The feeds of the paths, one for each socket that receives.
-ghost use Rattle.std.specs.Prelude.{◌≡◌, [], length, IfOk};
+ghost use Rattle.std.specs.Prelude.{◌≡◌, ◌<◌, ◌^◌, ℕ, [], Some, length, slice_get, IfOk, IfSome};
 ghost use Rattle.studio_io.specs.Answers.{IsWithin};
 ghost use Rattle.live_io.specs.HoldUps.{IsNoDatagram};
 
@@ -59,7 +59,10 @@ impl<'a, R: Clock> UdpFeed<'a, R> {
         period: RunPeriod,
         flags: FeedFlags<'a>,
         path_index: usize,
-    ) -> UdpFeed<'a, R> {
+    ) -> UdpFeed<'a, R>
+        ensures socket { result.retrying.socket ≡ receiver.entry }
+        ensures path { path_index < 2 ^ 32 → result.path_index ≡ path_index }
+    {
         let health = flags.health.paths().get(path_index);
         let ready = flags.ready.get(path_index);
         let PathReading { pause, hold_up } = receiver.reading;
@@ -151,8 +154,8 @@ impl<'a, R: Clock> UdpFeed<'a, R> {
     }
 }
 
-/// Returns a feed for each socket, in the order of the sockets. The feeds end by the run's clock or by their flags.
-/// Returns `AllocError` if an allocation fails.
+/// Returns a feed for each socket, in the order of the sockets. The place of a socket is its path's index. The feeds end
+/// by the run's clock or by their flags. Returns `AllocError` if an allocation fails.
 pub fn udp_feeds<'a, R: Clock>(
     rt: &'a R,
     alloc: Global,
@@ -160,7 +163,11 @@ pub fn udp_feeds<'a, R: Clock>(
     period: RunPeriod,
     flags: FeedFlags<'a>,
 ) -> Result<Vec<UdpFeed<'a, R>>, AllocError>
-    ensures { IfOk result (λ feeds. length feeds.items ≡ length receivers.entry.items) }
+    ensures count { IfOk result (λ feeds. length feeds.items ≡ length receivers.entry.items) }
+    ensures sockets { IfOk result (λ feeds. (place : ℕ) → IfSome (slice_get feeds.items place)
+        (λ feed. slice_get receivers.entry.items place ≡ Some feed.retrying.socket)) }
+    ensures paths { IfOk result (λ feeds. (place : ℕ) → IfSome (slice_get feeds.items place)
+        (λ feed. place < 2 ^ 32 → feed.path_index ≡ place)) }
 {
     let mut feeds = Vec::with_capacity(alloc, receivers.len())?;
     for receiver in receivers {

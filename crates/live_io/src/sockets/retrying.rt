@@ -1,5 +1,5 @@
 //! A socket that is read again and again: until it is empty, after each wait, and less often while it fails.
-ghost use Rattle.std.specs.Prelude.{◌≤◌, ℕ, length, IfOk, IfSome};
+ghost use Rattle.std.specs.Prelude.{◌≡◌, ◌≤◌, ℕ, length, IfOk, IfSome};
 ghost use Rattle.studio_io.specs.Answers.{IsWithin};
 
 use crate::clock::PauseClock;
@@ -59,7 +59,9 @@ impl<'a, S: DatagramSocket, C: PauseClock> RetryingSocket<'a, S, C> {
         pace: ReceivePace,
         health: Option<&'a SocketHealth>,
         ready: Option<&'a AtomicBool>,
-    ) -> RetryingSocket<'a, S, C> {
+    ) -> RetryingSocket<'a, S, C>
+        ensures { result.socket ≡ socket }
+    {
         RetryingSocket {
             socket,
             clock,
