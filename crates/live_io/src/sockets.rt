@@ -78,8 +78,8 @@ pub fn open_sockets<'a, R: Net>(
     studio: &StudioSpec,
     config: SocketConfig<'a>,
 ) -> io::Result<Sockets<'a>>
-    ensures { IfOk result (λ sockets. AreDestinations studio.now.networks.output config.entry.ports.now sockets.sink.a.to
-        sockets.sink.b.to) }
+    ensures { IfOk result (λ sockets.
+        AreDestinations studio.now.networks.output config.entry.ports.now sockets.sink.a.to sockets.sink.b.to) }
 {
     let receiving = open_receivers(rt, alloc, studio, config)?;
     let sink = UdpSink::bind(rt, &studio.networks().output, receiving.len(), config)?;

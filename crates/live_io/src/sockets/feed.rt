@@ -154,8 +154,8 @@ impl<'a, R: Clock> UdpFeed<'a, R> {
     }
 }
 
-/// Returns a feed for each socket, in the order of the sockets. The place of a socket is its path's index. The feeds end
-/// by the run's clock or by their flags. Returns `AllocError` if an allocation fails.
+/// Returns a feed for each socket, in the order of the sockets. The place of a socket is its path's index. The feeds
+/// end by the run's clock or by their flags. Returns `AllocError` if an allocation fails.
 pub fn udp_feeds<'a, R: Clock>(
     rt: &'a R,
     alloc: Global,
