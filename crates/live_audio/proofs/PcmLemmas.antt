@@ -1,21 +1,18 @@
 -- The blocks that were sent as raw PCM and those that were left out, with one more, and the octets that were written.
-use Rattle.std.proofs.Common.{◌≡◌, ◌≤◌, ◌<◌, ◌+◌, ◌-◌, ◌*◌, ◌/◌, ◌^◌, ℕ, min, Bool, true, false, List, [], ◌∷◌, ◌++◌, length, take, Option, Some, Result, Ok, Err, OnErr, refl, sym, ap, subst, ◌∙◌, arith, append_assoc, append-nil, length-append}
+use Rattle.std.proofs.Common.{◌≡◌, ◌≤◌, ◌+◌, ◌-◌, ◌*◌, ◌^◌, ℕ, min, Bool, true, false, List, [], ◌∷◌, ◌++◌, length, take, Option, Result, Ok, Err, OnErr, refl, sym, ap, subst, ◌∙◌, arith, append_assoc, append-nil, length-append}
 use Rattle.std.proofs.lemmas.List.{take_all}
 use Rattle.std.proofs.Math.Seq.{take-append-add}
-use Rattle.std.proofs.KnownBytes.{Appends-kept, Appends-nil, Appends-trans}
-use Rattle.std.specs.Io.KnownBytes.{Appends, Keeps}
+use Rattle.std.proofs.KnownBytes.{Appends-nil, Appends-trans}
+use Rattle.std.specs.Io.KnownBytes.{Appends}
 use Rattle.rtrb.specs.Ring.{received, sent}
-use Rattle.rtp_wire.specs.declared.encoding.Enc.{Enc}
-use Rattle.rtp_wire.specs.declared.encoding.Enc.TheVariants.{L16, L24}
 use Rattle.rtp_wire.specs.Sample.{octets_per_sample}
 use Rattle.mix_packets.specs.declared.out_spec.Output.{Output}
 use Rattle.wav_file.specs.Samples.{little_samples}
 use Rattle.wav_file.proofs.LiveLemmas.{samples_append, samples_none}
 use Rattle.live_audio.specs.PcmProducer.{HasProduced, LeavesOut, chosen_octets, left_out_of}
-use Rattle.live_audio.specs.PcmWriter.{HasPiped, HasPipedAll, IsFreshPcm, IsPiped, IsSamePcm, LacksPcmBlock, WritesPart}
+use Rattle.live_audio.specs.PcmWriter.{HasPiped, HasPipedAll, IsFreshPcm, IsSamePcm, WritesPart}
 use Rattle.live_audio.specs.declared.pcm_producer.PcmProducer.{PcmProducer}
 use Rattle.live_audio.specs.declared.pcm_writer.PcmWriter.{PcmWriter}
-use Rattle.live_audio.specs.declared.pcm_writer.PcmWritten.{PcmWritten}
 
 -- one block more, with its choice
 chosen_more : (blocks : List (List ℕ)) (choices : List Bool) (block : List ℕ) (choice : Bool) → length choices ≡ length blocks

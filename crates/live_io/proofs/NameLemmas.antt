@@ -1,10 +1,9 @@
 -- The names of sockets, octet by octet.
-use Rattle.std.proofs.Common.{◌≡◌, ◌≢◌, ◌<◌, ◌≤◌, ◌+◌, ◌-◌, ◌^◌, ◌/◌, ◌%◌, ℕ, List, [], ◌∷◌, ◌++◌, Bool, true, false, refl, ap, sym, ◌∙◌, arith}
+use Rattle.std.proofs.Common.{◌≡◌, ◌≢◌, ◌<◌, ◌≤◌, ◌+◌, ◌-◌, ◌/◌, ◌%◌, ℕ, List, [], ◌∷◌, ◌++◌, Bool, true, false, refl, ap, sym, ◌∙◌, arith}
 use Rattle.std.specs.Prelude.{IsTrue, bytes_eq, codes, decimal}
 use Rattle.std.specs.Cmp.Lexicographic.{other_text, same_text}
 use Rattle.std.proofs.lemmas.Fmt.{decimal_digit, decimal_step}
-use Rattle.live_io.specs.Names.{IsNoName, IsRole, name_of, path_name}
-use Rattle.live_io.specs.declared.sockets.names.SocketRole.{SocketRole}
+use Rattle.live_io.specs.Names.{IsNoName, path_name}
 use Rattle.live_io.specs.declared.sockets.names.SocketRole.TheVariants as role
 
 -- the name of a path of one of the first ten streams

@@ -1,5 +1,5 @@
 -- The hold-up of a feed, after which it leaves out what its socket has.
-use Rattle.std.specs.Prelude.{◌≡◌, ◌⊎◌, ℕ, ◌-◌, ◌/◌, min, max, Bool, true, ℤ, pos, ◌+ℤ◌, ◌<ℤ◌, Option, Some, None}
+use Rattle.std.specs.Prelude.{◌≡◌, ◌⊎◌, ℕ, ◌-◌, ◌/◌, min, max, true, ℤ, pos, ◌+ℤ◌, ◌<ℤ◌, Option, Some, None}
 use Rattle.rtp_stream.specs.declared.stream_spec.Stream.{Stream}
 use Rattle.studio_io.specs.declared.feed.FeedAnswer.{FeedAnswer}
 use Rattle.studio_io.specs.declared.feed.FeedAnswer.TheVariants.{Datagram, Nothing, Fault, Ended}

@@ -1,5 +1,5 @@
 -- The datagrams that a path takes.
-use Rattle.std.specs.Prelude.{◌≡◌, ◌≤◌, ℕ, List, ◌++◌, drop, length, Option, Some, None}
+use Rattle.std.specs.Prelude.{◌≡◌, ◌≤◌, ℕ, List, ◌++◌, drop, length, Option, Some}
 
 -- the greatest number of octets of a datagram
 abbrev pub most_octets : ℕ

@@ -1,5 +1,4 @@
-use Rattle.std.proofs.Common.{◌<◌, length, subst, arith}
-use Rattle.live_io.specs.RecordBlocks.{Sends, stream_blocks}
+use Rattle.std.proofs.Common.{◌<◌, length, arith}
 use Rattle.live_io.proofs.PutLemmas.{describes_more}
 use Rattle.live_io.proofs.record.observer.put_streams.Goals as goal
 

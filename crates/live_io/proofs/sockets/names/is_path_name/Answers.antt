@@ -1,4 +1,4 @@
-use Rattle.std.proofs.Common.{rules, ◌∙◌, sym}
+use Rattle.std.proofs.Common.{◌∙◌, sym}
 use Rattle.live_io.specs.Names.{path_name}
 use Rattle.live_io.proofs.NameLemmas.{is_text, name_one, name_two}
 use Rattle.live_io.proofs.sockets.names.is_path_name.Goals as goal
