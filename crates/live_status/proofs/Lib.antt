@@ -1,4 +1,6 @@
 pub mod Each
+pub mod SnapshotLines
+pub mod ShownSnapshots
 pub mod Outputs
 pub mod Conditions
 pub mod EngineStatusLemmas

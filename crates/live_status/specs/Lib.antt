@@ -13,4 +13,5 @@ pub mod Publisher
 pub mod EngineStatus
 pub mod Lines
 pub mod DriftLines
+pub mod SnapshotLines
 pub mod Health

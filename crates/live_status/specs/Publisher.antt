@@ -1,5 +1,5 @@
 -- The snapshots that a publisher sends.
-use Rattle.std.specs.Prelude.{◌≡◌, ◌≤◌, ℕ, ℤ, int_le, Bool, false, ◌||◌, List, length, replicate, Option, option_map, unwrap_or, IsNone, IsSomeAnd, MatchOption}
+use Rattle.std.specs.Prelude.{◌≡◌, ◌≤◌, ◌^◌, ◌-◌, ℕ, ℤ, pos, int_le, Bool, false, ◌||◌, List, length, replicate, Option, option_map, unwrap_or, IsNone, IsSomeAnd, MatchOption}
 use Rattle.rtrb.specs.declared.producer.Producer.{Producer}
 use Rattle.rtp_stats.specs.Channel.{Gives}
 use Rattle.status_page.specs.declared.snapshot.Snapshot.{Snapshot}
@@ -8,6 +8,7 @@ use Rattle.live_status.specs.Outputs.{blank_output}
 use Rattle.live_status.specs.StreamStatus.{IsBlankOf}
 use Rattle.live_status.specs.StreamWatch.{ShowsStreams}
 use Rattle.live_status.specs.declared.reception_watch.stream_watch.StreamWatch.{StreamWatch}
+use Rattle.live_status.specs.declared.count_lines.CountLines.{CountLines}
 use Rattle.live_status.specs.declared.publisher.StatusPublisher.{StatusPublisher}
 use Rattle.live_status.specs.declared.stream_status.StreamStatus.{StreamStatus}
 
@@ -28,6 +29,10 @@ GivesShown watches statuses now has_ended given old new = (shown : Snapshot) × 
 -- the snapshot goes through the page's ring, if there is a page and space; the page stays
 abbrev pub Shows : {A P : Type 0} → List StreamWatch → List StreamStatus → ℤ → Bool → Snapshot → Option (Producer Snapshot A P) → Option (Producer Snapshot A P) → Type 0
 Shows watches statuses now has_ended given old new = MatchOption old (IsNone new) (λ ring. IsSomeAnd new (GivesShown watches statuses now has_ended given ring))
+
+-- lines are wanted, and none are due any more, because a write failed
+abbrev pub HasStopped : Option CountLines → Type 0
+HasStopped lines = IsSomeAnd lines (λ schedule. schedule.next ≡ pos (2 ^ 63 - 1))
 
 module _ {E : Type 0} where
   -- a snapshot is due at this time, or lines are

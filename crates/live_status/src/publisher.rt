@@ -67,7 +67,8 @@ pub(crate) struct PublisherOutputs<E> {
 
 impl<E: Write + Drop> StatusPublisher<E> {
     ghost use Rattle.rtp_stats.specs.Channel.{Gives};
-    ghost use Rattle.live_status.specs.Publisher.{IsBlankSnapshot, Shows, is_due_at};
+    ghost use Rattle.live_status.specs.Publisher.{HasStopped, IsBlankSnapshot, IsShown, Shows, is_due_at};
+    ghost use Rattle.live_status.specs.SnapshotLines.{WritesLines, snapshot_lines};
 
     /// Returns the publisher of the status of these streams and this many output channels; channels past the eighth are
     /// ignored. `now` is in sampling instants. Allocates all its memory, and returns `AllocError` if that fails.
@@ -135,20 +136,38 @@ impl<E: Write + Drop> StatusPublisher<E> {
     pub fn publish(&mut self, now: i64, mut snapshot: Snapshot, have_ended: bool)
         ensures shown { Shows self.old.watches.items self.old.streams.items now have_ended snapshot
             self.old.page self.new.page }
+        ensures lines { (shown : Snapshot)
+            × IsShown self.old.watches.items self.old.streams.items now have_ended snapshot shown
+            × WritesLines (HasStopped self.new.lines)
+            (E.contents self.old.writer) (snapshot_lines now shown) (E.contents self.new.writer) }
         ensures streams { AreEach (Updates snapshot.streams.items now) self.old.streams.items self.new.streams.items }
         ensures next { self.new.next ≤ℤ (now +ℤ SNAPSHOT_INTERVAL) }
     {
         self.next = now.saturating_add(SNAPSHOT_INTERVAL);
-        let statuses = self.streams.as_mut_slice();
-        let watches = self.watches.as_mut_slice();
-        let streams = snapshot.streams.as_mut_slice();
-        set_streams(statuses, watches, now, streams, have_ended);
+        self.set_shown(now, &mut snapshot, have_ended);
         self.write_lines(now, &snapshot);
         self.show_page(snapshot);
     }
 
+    /// Sets the condition of each stream of a snapshot at the time `now`, and what its watch shows of it.
+    fn set_shown(&mut self, now: i64, snapshot: &mut Snapshot, have_ended: bool)
+        ensures shown { IsShown self.old.watches.items self.old.streams.items now have_ended
+            snapshot.old snapshot.new }
+        ensures streams { AreEach (Updates snapshot.old.streams.items now)
+            self.old.streams.items self.new.streams.items }
+        ensures lines { (self.new.lines ≡ self.old.lines) × (self.new.writer ≡ self.old.writer) }
+        ensures page { (self.new.page ≡ self.old.page) × (self.new.next ≡ self.old.next) }
+    {
+        let statuses = self.streams.as_mut_slice();
+        let watches = self.watches.as_mut_slice();
+        let streams = snapshot.streams.as_mut_slice();
+        set_streams(statuses, watches, now, streams, have_ended);
+    }
+
     /// Writes the lines that are due at the time `now`.
     fn write_lines(&mut self, now: i64, snapshot: &Snapshot)
+        ensures lines { WritesLines (HasStopped self.new.lines)
+            (E.contents self.old.writer) (snapshot_lines now snapshot.now) (E.contents self.new.writer) }
         ensures streams { self.new.streams ≡ self.old.streams }
         ensures page { (self.new.page ≡ self.old.page) × (self.new.next ≡ self.old.next) }
     {
@@ -163,6 +182,7 @@ impl<E: Write + Drop> StatusPublisher<E> {
     fn show_page(&mut self, snapshot: Snapshot)
         ensures shown { MatchOption self.old.page (IsNone self.new.page)
             (λ ring. IsSomeAnd self.new.page (Gives snapshot ring)) }
+        ensures lines { (self.new.lines ≡ self.old.lines) × (self.new.writer ≡ self.old.writer) }
         ensures streams { self.new.streams ≡ self.old.streams }
         ensures next { self.new.next ≡ self.old.next }
     {

@@ -1,36 +1,16 @@
 //! The lines of drift on standard error while a run goes on: of a stream's time left, and of a path.
-ghost use Rattle.std.specs.Prelude.{◌≡◌, ◌+◌, ◌≤◌, ◌++◌, length, OnOk, OnErr};
-ghost use Rattle.studio_run.specs.Buffer.{PassesOn, BreaksOff};
+ghost use Rattle.std.specs.Prelude.{◌≡◌, ◌+◌, ◌≤◌, ◌++◌, length};
 ghost use Rattle.live_status.specs.DriftLines.{change_text, drift_change, drift_flags, drift_line, drift_place};
 ghost use Rattle.live_status.specs.DriftLines.{left_line};
 
 use crate::lines::running::{flag_text, push_known};
 use rtp_stream::Path;
 use status_page::PathState;
-use std::io::Write;
-use studio_run::{TextBuffer, WriteFault};
+use studio_run::TextBuffer;
 
-/// Writes the line of a stream's time left at a clock reading, in sampling instants: the seconds until packets will be
+/// Adds the line of a stream's time left at a clock reading, in sampling instants: the seconds until packets will be
 /// late or too early. A time that is not known is a dash.
-pub(crate) fn write_time_left<W: Write>(
-    text: &mut TextBuffer,
-    writer: &mut W,
-    stream: u8,
-    time: i64,
-    left: Option<u64>,
-) -> Result<(), WriteFault>
-    ensures ok { OnOk result (PassesOn (W.contents writer.old) text.old (W.contents writer.new) text.new
-        (left_line stream time left)) }
-    ensures fault { OnErr result (BreaksOff (W.contents writer.old) text.old (W.contents writer.new)
-        (left_line stream time left)) }
-{
-    text.make_space(writer)?;
-    push_left_line(text, stream, time, left);
-    Ok(())
-}
-
-/// Adds the line of a stream's time left.
-fn push_left_line(text: &mut TextBuffer, stream: u8, time: i64, left: Option<u64>)
+pub(crate) fn push_left_line(text: &mut TextBuffer, stream: u8, time: i64, left: Option<u64>)
     requires { length text.old + 4096 ≤ 65536 }
     ensures { text.new ≡ text.old ++ left_line stream time left }
 {
@@ -43,27 +23,14 @@ fn push_left_line(text: &mut TextBuffer, stream: u8, time: i64, left: Option<u64
     text.push("\n");
 }
 
-/// Writes the line of a path's drift at a clock reading, in sampling instants. A drift that is not known is a dash.
-pub(crate) fn write_path_drift<W: Write>(
+/// Adds the line of a path's drift at a clock reading, in sampling instants. A drift that is not known is a dash.
+pub(crate) fn push_drift_line(
     text: &mut TextBuffer,
-    writer: &mut W,
     stream: u8,
     path: Path,
     time: i64,
     state: &PathState,
-) -> Result<(), WriteFault>
-    ensures ok { OnOk result (PassesOn (W.contents writer.old) text.old (W.contents writer.new) text.new
-        (drift_line stream path time state.now)) }
-    ensures fault { OnErr result (BreaksOff (W.contents writer.old) text.old (W.contents writer.new)
-        (drift_line stream path time state.now)) }
-{
-    text.make_space(writer)?;
-    push_drift_line(text, stream, path, time, state);
-    Ok(())
-}
-
-/// Adds the line of a path's drift.
-fn push_drift_line(text: &mut TextBuffer, stream: u8, path: Path, time: i64, state: &PathState)
+)
     requires { length text.old + 4096 ≤ 65536 }
     ensures { text.new ≡ text.old ++ drift_line stream path time state.now }
 {

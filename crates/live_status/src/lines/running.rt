@@ -1,7 +1,6 @@
 //! The lines on standard error while a run goes on: of a stream's counts, of a path's socket, and of the run itself.
-ghost use Rattle.std.specs.Prelude.{◌≡◌, ◌+◌, ◌*◌, ◌≤◌, ◌++◌, length, OnOk, OnErr};
+ghost use Rattle.std.specs.Prelude.{◌≡◌, ◌+◌, ◌*◌, ◌≤◌, ◌++◌, length};
 ghost use Rattle.rtp_stream.specs.Counts.{tally_of};
-ghost use Rattle.studio_run.specs.Buffer.{PassesOn, BreaksOff};
 ghost use Rattle.live_status.specs.Lines.{flag_text, known_text, running_line};
 ghost use Rattle.live_status.specs.Lines.{output_left_out, output_left_out_if, output_state, output_written};
 ghost use Rattle.live_status.specs.Lines.{run_failed, run_line, run_output, run_output_counts, run_outputs};
@@ -16,32 +15,18 @@ ghost use Rattle.live_status.specs.Lines.{
 
 use rtp_stream::{Counts, Path};
 use status_page::SocketState;
-use std::io::Write;
 use studio_io::{OUTPUT_KINDS, OutputKind, OutputState, OutputStates};
-use studio_run::{TextBuffer, WriteFault, push_tally};
+use studio_run::{TextBuffer, push_tally};
 
-/// Writes the line of a stream's counts at a clock reading, in sampling instants: each number after its word and `=`.
-/// The stream has `paths` paths.
-pub(crate) fn write_running_counts<W: Write>(
+/// Adds the line of a stream's counts at a clock reading, in sampling instants: each number after its word and `=`. The
+/// stream has `paths` paths.
+pub(crate) fn push_running_line(
     text: &mut TextBuffer,
-    writer: &mut W,
     stream: u8,
     paths: u8,
     time: i64,
     counts: &Counts,
-) -> Result<(), WriteFault>
-    ensures ok { OnOk result (PassesOn (W.contents writer.old) text.old (W.contents writer.new) text.new
-        (running_line stream paths time (tally_of counts.now))) }
-    ensures fault { OnErr result (BreaksOff (W.contents writer.old) text.old (W.contents writer.new)
-        (running_line stream paths time (tally_of counts.now))) }
-{
-    text.make_space(writer)?;
-    push_running_line(text, stream, paths, time, counts);
-    Ok(())
-}
-
-/// Adds the line of a stream's counts.
-fn push_running_line(text: &mut TextBuffer, stream: u8, paths: u8, time: i64, counts: &Counts)
+)
     requires { length text.old + 4096 ≤ 65536 }
     ensures { text.new ≡ text.old ++ running_line stream paths time (tally_of counts.now) }
 {
@@ -53,28 +38,15 @@ fn push_running_line(text: &mut TextBuffer, stream: u8, paths: u8, time: i64, co
     text.push("\n");
 }
 
-/// Writes the line of the state of a path's socket at a clock reading, in sampling instants. A number that is not known
+/// Adds the line of the state of a path's socket at a clock reading, in sampling instants. A number that is not known
 /// is a dash.
-pub(crate) fn write_socket_state<W: Write>(
+pub(crate) fn push_socket_line(
     text: &mut TextBuffer,
-    writer: &mut W,
     stream: u8,
     path: Path,
     time: i64,
     socket: &SocketState,
-) -> Result<(), WriteFault>
-    ensures ok { OnOk result (PassesOn (W.contents writer.old) text.old (W.contents writer.new) text.new
-        (socket_line stream path time socket.now)) }
-    ensures fault { OnErr result (BreaksOff (W.contents writer.old) text.old (W.contents writer.new)
-        (socket_line stream path time socket.now)) }
-{
-    text.make_space(writer)?;
-    push_socket_line(text, stream, path, time, socket);
-    Ok(())
-}
-
-/// Adds the line of the state of a path's socket.
-fn push_socket_line(text: &mut TextBuffer, stream: u8, path: Path, time: i64, socket: &SocketState)
+)
     requires { length text.old + 4096 ≤ 65536 }
     ensures { text.new ≡ text.old ++ socket_line stream path time socket.now }
 {
@@ -162,28 +134,15 @@ pub(crate) struct FailedSends {
     pub(crate) stale: u64,
 }
 
-/// Writes the line of a run at a clock reading, in sampling instants: the datagrams of each copy of the mix that were
-/// not sent, those that were stale, and the states of the run's outputs, each with its counts.
-pub(crate) fn write_run_state<W: Write>(
+/// Adds the line of a run at a clock reading, in sampling instants: the datagrams of each copy of the mix that were not
+/// sent, those that were stale, and the states of the run's outputs, each with its counts.
+// Each word is a function of its own, so that no proof has more than a few texts to compare.
+pub(crate) fn push_run_line(
     text: &mut TextBuffer,
-    writer: &mut W,
     time: i64,
     failed: FailedSends,
     outputs: &OutputStates,
-) -> Result<(), WriteFault>
-    ensures ok { OnOk result (PassesOn (W.contents writer.old) text.old (W.contents writer.new) text.new
-        (run_line time failed outputs.now)) }
-    ensures fault { OnErr result (BreaksOff (W.contents writer.old) text.old (W.contents writer.new)
-        (run_line time failed outputs.now)) }
-{
-    text.make_space(writer)?;
-    push_run_line(text, time, failed, outputs);
-    Ok(())
-}
-
-/// Adds the line of a run.
-// Each word is a function of its own, so that no proof has more than a few texts to compare.
-fn push_run_line(text: &mut TextBuffer, time: i64, failed: FailedSends, outputs: &OutputStates)
+)
     requires { length text.old + 4096 ≤ 65536 }
     ensures { text.new ≡ text.old ++ run_line time failed outputs.now }
 {
