@@ -3,3 +3,5 @@ pub mod RunResult
 pub mod LatestStats
 pub mod StreamStatus
 pub mod RunText
+pub mod PathPlace
+pub mod ShownHealth

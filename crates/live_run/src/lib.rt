@@ -11,7 +11,7 @@
 //!   a `RunContext`. `page_task` is the task of the thread that serves the page.
 //! - `status` opens the outputs of the status, and writes the line of addresses and how to end the
 //!   run, if that is not by a signal. `shown_health` reads what the status shows of sockets, sends
-//!   and outputs.
+//!   and outputs. `path_order` has the place of a path among the paths of all streams.
 //! - `workers` is the form with a thread for each path and stream and one for the mix,
 //!   `run_in_workers`. It passes its mix to the outputs.
 //! - `single_thread` is the form with an engine in one thread, `run_in_one_thread`. It waits by
@@ -32,6 +32,7 @@ mod fault;
 mod inputs;
 mod launch;
 mod page_task;
+mod path_order;
 mod report;
 mod run;
 mod shown_health;

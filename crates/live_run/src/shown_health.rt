@@ -1,5 +1,11 @@
 //! The health of a run as its status shows it: of its sockets, its sends and its outputs.
+ghost use Rattle.std.specs.Prelude.{◌≡◌, is_some};
+ghost use Rattle.studio_config.specs.Networks.{path_address};
+ghost use Rattle.live_status.specs.Health.{OfSocket};
+ghost use Rattle.live_run.specs.PathPlace.{path_place};
+ghost use Rattle.live_run.specs.ShownHealth.{IsSaidOf};
 
+use crate::path_order::path_place;
 use live_io::{RunHealth, UnexpectedSources};
 use live_status::HealthSource;
 use rtp_stream::Path;
@@ -17,50 +23,40 @@ pub(crate) struct ShownHealth<'a> {
 }
 
 impl ShownHealth<'_> {
-    /// Returns the index of a path among the paths of all streams, ordered by stream and then by path.
-    fn path_index(&self, stream: usize, path: usize) -> usize {
-        let mut index = path;
-        for (number, spec) in self.studio.streams().iter().enumerate() {
-            if number < stream {
-                index = index.saturating_add(usize::from(spec.paths()));
-            }
-        }
-        index
-    }
-
-    /// Returns true if only datagrams from one address are taken from a path.
-    fn has_source(&self, stream: usize, path: usize) -> bool {
-        let Ok(number) = u8::try_from(path) else {
-            return false;
-        };
-        match Path::new(number) {
-            Some(path) => self.studio.networks().source(stream, path).is_some(),
-            None => false,
-        }
-    }
-
-    /// Returns the number of datagrams from unexpected sources of the path at this index, or `None` if the path has no
-    /// source.
-    fn unexpected_at(&self, stream: usize, path: usize, index: usize) -> Option<u64> {
-        if self.has_source(stream, path) {
-            return Some(self.unexpected.count(index));
-        }
-        None
-    }
-}
-
-impl HealthSource for ShownHealth<'_> {
-    fn socket(&self, stream: usize, path: usize) -> Option<SocketState> {
-        let index = self.path_index(stream, path);
-        let health = self.health.paths().get(index)?;
+    /// Returns the state of the socket of a path, whose place among all paths is this one, or `None` if it has no
+    /// socket.
+    fn state_at(&self, stream: usize, path: Path, place: u32) -> Option<SocketState>
+        requires { place ≡ path_place self.now.studio.now.streams stream path }
+        ensures { IsSaidOf self.now.studio.now (OfSocket stream path result) }
+    {
+        let health = self.health.paths().get(place as usize)?;
         Some(SocketState {
             faults: health.faults(),
             has_ended: health.has_ended(),
             dropped: health.dropped(),
             too_long: health.too_long(),
             held_up: health.held_up(),
-            unexpected: self.unexpected_at(stream, path, index),
+            unexpected: self.unexpected_at(stream, path, place),
         })
+    }
+
+    /// Returns the number of datagrams from unexpected sources of a path, whose place among all paths is this one, or
+    /// `None` if the path has no source.
+    fn unexpected_at(&self, stream: usize, path: Path, place: u32) -> Option<u64>
+        requires { place ≡ path_place self.now.studio.now.streams stream path }
+        ensures { is_some result ≡ is_some (path_address self.now.studio.now.networks.sources stream path) }
+    {
+        self.studio.networks().source(stream, path)?;
+        Some(self.unexpected.count(place as usize))
+    }
+}
+
+impl HealthSource for ShownHealth<'_> {
+    ghost says = { λ shown said. IsSaidOf shown.studio.now said };
+
+    fn socket(&self, stream: usize, path: usize) -> Option<SocketState> {
+        let path = Path::new(u8::try_from(path).ok()?)?;
+        self.state_at(stream, path, path_place(self.studio, stream, path))
     }
 
     fn failed_sends(&self) -> [u64; 2] {

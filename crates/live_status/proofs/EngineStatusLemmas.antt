@@ -9,7 +9,7 @@ use Rattle.status_page.specs.declared.snapshot.StreamState.{StreamState}
 use Rattle.live_status.specs.Each.{AreEach}
 use Rattle.live_status.specs.Engine.{AreEngineCounts, AreStatsOf, HasEngineBefore, HasEngineCounts, HasEnginePathCounts, IsEnginePath}
 use Rattle.live_status.specs.FilledStreams.{FillsStream, HasCounts, with_counts}
-use Rattle.live_status.specs.Health.{KeepsPath, KeepsStream}
+use Rattle.live_status.specs.Health.{FillsSocket, FillsSockets, Said}
 use Rattle.rtp_stream.specs.declared.counts.Counts.{Counts}
 use Rattle.rtp_stream.specs.declared.stream_counts.PathCounts.{PathCounts}
 use Rattle.rtp_stream.specs.declared.stream_spec.Stream.{Stream}
@@ -158,13 +158,13 @@ streams-filled engine trackers statuses blanks news blank filled = record {
 }
 
 -- if only the sockets of paths changed, the paths still have the engine's numbers
-pub paths-kept : (engine : EngineState) (tracker : Option CopyTracker) (number : ℕ) (counts : Counts) (blanks olds news : List PathState) → AreEach (IsEnginePath engine tracker number counts) blanks olds → AreEach KeepsPath olds news → AreEach (IsEnginePath engine tracker number counts) blanks news
-paths-kept engine tracker number counts blanks olds news shown kept = record {
+pub paths-kept : (Says : Said → Type 0) (engine : EngineState) (tracker : Option CopyTracker) (number : ℕ) (counts : Counts) (blanks olds news : List PathState) → AreEach (IsEnginePath engine tracker number counts) blanks olds → AreEach (FillsSocket Says number) olds news → AreEach (IsEnginePath engine tracker number counts) blanks news
+paths-kept Says engine tracker number counts blanks olds news shown kept = record {
   length_is = kept.length_is ∙ shown.length_is;
   each = λ place blank new at_blank at_new.
       let at = slice_get-get_or olds place new (let within = slice_get_within blanks place blank at_blank in let same = shown.length_is in omega (arith, within, same)) in
       let was = shown.each place blank _ at_blank at in
-      let is = kept.each place _ new at at_new in
+      let is = (kept.each place _ new at at_new).0 in
       record {
         first = λ few. ap (λ (path : PathState). path.first) is ∙ was.first few;
         before = λ few. subst (λ (path : PathState). HasEngineBefore engine number place path.counts path.datagrams) (sym is) (was.before few);
@@ -173,8 +173,8 @@ paths-kept engine tracker number counts blanks olds news shown kept = record {
 }
 
 -- if only the sockets of streams changed, the streams still have the engine's numbers
-pub streams-kept : (engine : EngineState) (trackers : List CopyTracker) (statuses : List StreamStatus) (olds news : List StreamState) → AreEach (IsEngineStream engine trackers) statuses olds → AreEach KeepsStream olds news → AreEach (IsEngineStream engine trackers) statuses news
-streams-kept engine trackers statuses olds news shown kept = record {
+pub streams-kept : (Says : Said → Type 0) (engine : EngineState) (trackers : List CopyTracker) (statuses : List StreamStatus) (olds news : List StreamState) → AreEach (IsEngineStream engine trackers) statuses olds → AreEach (FillsSockets Says) olds news → AreEach (IsEngineStream engine trackers) statuses news
+streams-kept Says engine trackers statuses olds news shown kept = record {
   length_is = kept.length_is ∙ shown.length_is;
   each = λ place one new at_one at_new.
       let at = slice_get-get_or olds place new (let within = slice_get_within statuses place one at_one in let same = shown.length_is in omega (arith, within, same)) in
@@ -185,7 +185,7 @@ streams-kept engine trackers statuses olds news shown kept = record {
         latency_is = is.latency_is ∙ was.latency_is;
         counts = λ within. subst (λ (counts : Counts). HasEngineCounts engine place counts) (sym is.counts_are) (was.counts within);
         paths = λ within.
-            paths-kept engine (slice_get trackers place) place new.counts (replicate one.paths blank_path) (get_or olds place new).paths.items new.paths.items
+            paths-kept Says engine (slice_get trackers place) place new.counts (replicate one.paths blank_path) (get_or olds place new).paths.items new.paths.items
             (subst (λ (counts : Counts). AreEach (IsEnginePath engine (slice_get trackers place) place counts) (replicate one.paths blank_path) (get_or olds place new).paths.items) (sym is.counts_are) (was.paths within)) is.paths_are;
       };
 }

@@ -1,4 +1,5 @@
 pub mod Each
+pub mod FilledHealth
 pub mod SnapshotLines
 pub mod ShownSnapshots
 pub mod Outputs

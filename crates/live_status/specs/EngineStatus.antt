@@ -8,6 +8,7 @@ use Rattle.status_page.specs.declared.snapshot.Snapshot.{Snapshot}
 use Rattle.status_page.specs.declared.snapshot.StreamState.{StreamState}
 use Rattle.live_status.specs.Each.{AreEach}
 use Rattle.live_status.specs.Engine.{HasEngineCounts, IsEnginePath}
+use Rattle.live_status.specs.Health.{HasHealth, Said}
 use Rattle.live_status.specs.Outputs.{blank_output}
 use Rattle.live_status.specs.Publisher.{Shows}
 use Rattle.live_status.specs.declared.publisher.StatusPublisher.{StatusPublisher}
@@ -42,7 +43,7 @@ pub record IsOfEngine (engine : EngineState) (trackers : List CopyTracker) (stat
   pub outputs : AreEach (IsEngineOutput engine) (replicate channels blank_output) snapshot.outputs.items
 
 module _ {E : Type 0} where
-  -- a publisher shows a snapshot of an engine, at the engine's time
-  abbrev pub ShowsEngine : EngineState → List CopyTracker → Bool → StatusPublisher E → StatusPublisher E → Type 0
-  ShowsEngine engine trackers has_ended old new = (snapshot : Snapshot) × IsOfEngine engine trackers old.streams.items old.channels snapshot
+  -- a publisher shows a snapshot of an engine, at the engine's time, with the health that its source says
+  abbrev pub ShowsEngine : EngineState → List CopyTracker → (Said → Type 0) → Bool → StatusPublisher E → StatusPublisher E → Type 0
+  ShowsEngine engine trackers Says has_ended old new = (snapshot : Snapshot) × IsOfEngine engine trackers old.streams.items old.channels snapshot × HasHealth Says snapshot
       × Shows old.watches.items old.streams.items engine.time has_ended snapshot old.page new.page

@@ -87,7 +87,8 @@ impl<'a, E: Write + Drop, H: HealthSource> EngineStatus<'a, E, H> {
     /// Publishes the engine's status, if a snapshot or lines are due by the engine's time.
     pub fn publish_if_due(&mut self, engine: &Engine)
         ensures shown { MatchBool (is_due_at self.old.publisher engine.now.time)
-            (ShowsEngine engine.now self.old.trackers.items false self.old.publisher self.new.publisher)
+            (ShowsEngine engine.now self.old.trackers.items (H.says self.old.health) false
+            self.old.publisher self.new.publisher)
             (self.new.publisher ≡ self.old.publisher) }
         ensures trackers { self.new.trackers ≡ self.old.trackers }
     {
@@ -98,7 +99,8 @@ impl<'a, E: Write + Drop, H: HealthSource> EngineStatus<'a, E, H> {
 
     /// Publishes the status of an engine that was closed, as the last one.
     pub fn publish_last(&mut self, engine: &Engine)
-        ensures shown { ShowsEngine engine.now self.old.trackers.items true self.old.publisher self.new.publisher }
+        ensures shown { ShowsEngine engine.now self.old.trackers.items (H.says self.old.health) true
+            self.old.publisher self.new.publisher }
         ensures trackers { self.new.trackers ≡ self.old.trackers }
     {
         self.publish(engine, true);
@@ -106,7 +108,8 @@ impl<'a, E: Write + Drop, H: HealthSource> EngineStatus<'a, E, H> {
 
     /// Publishes the engine's status.
     fn publish(&mut self, engine: &Engine, has_ended: bool)
-        ensures shown { ShowsEngine engine.now self.old.trackers.items has_ended self.old.publisher self.new.publisher }
+        ensures shown { ShowsEngine engine.now self.old.trackers.items (H.says self.old.health) has_ended
+            self.old.publisher self.new.publisher }
         ensures trackers { self.new.trackers ≡ self.old.trackers }
     {
         let mut snapshot = self.publisher.blank_snapshot();
