@@ -3,7 +3,9 @@ ghost use Rattle.std.specs.Prelude.{◌≡◌, ℕ, [], ◌∷◌, None, IfOk};
 ghost use Rattle.mix_packets.specs.Block.{block_start};
 ghost use Rattle.engine_run.specs.Observers.{Came, Closed, Hears};
 ghost use Rattle.run_outputs.specs.Events.{arrival, taken_change};
+ghost use Rattle.live_run.specs.PathPlace.{path_place};
 
+use crate::path_order::path_place;
 use crate::shown_health::ShownHealth;
 use engine_run::RunObserver;
 use live_io::UdpFeed;
@@ -21,6 +23,8 @@ use studio_session::ArriveOutcome;
 /// The observer of a run in one thread, with the outputs that take its events, and its status if it is wanted.
 #[derive(Drop)]
 pub(crate) struct LiveObserver<'v, E, V> {
+    /// The studio of the run.
+    studio: &'v StudioSpec,
     outputs: V,
     status: Option<EngineStatus<'v, E, ShownHealth<'v>>>,
 }
@@ -30,12 +34,13 @@ impl<'v, E: Write + Drop, V: EventOutput> LiveObserver<'v, E, V> {
     /// returns `AllocError` if that fails.
     pub(crate) fn new(
         alloc: Global,
-        studio: &StudioSpec,
+        studio: &'v StudioSpec,
         outputs: V,
         status: StatusOutputs<'v, E>,
         health: ShownHealth<'v>,
     ) -> Result<LiveObserver<'v, E, V>, AllocError>
         ensures kept { IfOk result (λ observer. observer.outputs ≡ outputs) }
+        ensures studio { IfOk result (λ observer. observer.studio.now ≡ studio.now) }
     {
         let StatusOutputs { publisher, meter } = status;
         let status = match publisher {
@@ -48,7 +53,11 @@ impl<'v, E: Write + Drop, V: EventOutput> LiveObserver<'v, E, V> {
             )?),
             None => None,
         };
-        Ok(LiveObserver { outputs, status })
+        Ok(LiveObserver {
+            studio,
+            outputs,
+            status,
+        })
     }
 }
 
@@ -68,12 +77,19 @@ impl<'a, R: Clock, E: Write + Drop, V: EventOutput> RunObserver<UdpFeed<'a, R>>
         feed: &UdpFeed<'a, R>,
     )
         ensures arrived { (origin : DatagramOrigin)
+            × (origin.path_index ≡ path_place self.old.studio.now.streams stream path)
             × V.arrives self.old.outputs (arrival stream path origin engine.now.time octets.now) self.new.outputs }
+        ensures studio { self.new.studio ≡ self.old.studio }
     {
+        // The place by the stream and the path that the engine took the datagram for. The feed has the addresses.
+        let origin = DatagramOrigin {
+            path_index: path_place(self.studio, stream, path),
+            ..feed.origin()
+        };
         self.outputs.arrived(&ArrivedDatagram {
             stream,
             path,
-            origin: feed.origin(),
+            origin,
             time: engine.time(),
             octets,
         });
