@@ -2,7 +2,6 @@
 use Rattle.std.specs.Prelude.{◌≡◌, ◌⊎◌, ℕ, ◌+◌, ◌≤◌, List, [], ◌∷◌, ◌++◌, length, ℤ, ◌≤ℤ◌}
 use Rattle.rtp_stream.specs.declared.stream_spec.Stream.{Stream}
 use Rattle.rtp_stream.specs.Marks.{marks_of}
-use Rattle.rtp_stream.specs.History.{time_of}
 use Rattle.rtp_stream.specs.declared.packet.Packet.{Packet}
 use Rattle.rtp_stream.specs.declared.event.Event.{Event}
 use Rattle.rtp_stream.specs.declared.event.Event.TheVariants.{Tick}
@@ -27,15 +26,13 @@ abbrev pub StopsEarly : Stream → ℤ → ℕ → List Event → List Event →
 StopsEarly stream open_at places before turn =
     (length (marks_of stream open_at before) + 64 ≤ length (marks_of stream open_at (before ++ turn))) ⊎ (places ≤ length (marks_of stream open_at (before ++ turn)))
 
--- a turn takes at most 64 packets of each path, and none while the turns before it have not reached the last reading. It
--- ends in a clock reading of exactly this time, or stops early at a reading that is not after it. There may be one
--- reading before its packets
-pub record IsTurnAt (stream : Stream) (open_at : ℤ) (places : ℕ) (last time : ℤ) (before turn : List Event) : Type 0 where
+-- a turn takes at most 64 packets of each path, and ends in a clock reading of exactly this time, or stops early at a
+-- reading that is not after it. There may be one reading before its packets
+pub record IsTurnAt (stream : Stream) (open_at : ℤ) (places : ℕ) (time : ℤ) (before turn : List Event) : Type 0 where
   pub first : List Event
   pub early : IsFirst time first
   pub taken : List (List Packet)
   pub few : AreFew taken
-  pub punctual : (last ≤ℤ time_of open_at before) ⊎ (taken ≡ [])
   pub reached : ℤ
   pub ends : turn ≡ first ++ turn_events stream taken reached
   pub most : reached ≤ℤ time
@@ -47,5 +44,5 @@ abbrev pub GoByClock : Stream → ℤ → ℕ → ℤ → List ℤ → List Even
 GoByClock stream open_at places time told before [] = Unit {0}
 GoByClock stream open_at places time [] before (turn ∷ turns) = Unit {0}
 GoByClock stream open_at places time (answer ∷ told) before (turn ∷ turns) =
-    IsTurnAt stream open_at places time (time_with time answer) before turn
+    IsTurnAt stream open_at places (time_with time answer) before turn
     × GoByClock stream open_at places (time_with time answer) told (before ++ turn) turns
