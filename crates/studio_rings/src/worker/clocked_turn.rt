@@ -15,8 +15,9 @@ use studio_io::Clock;
 const MOST_BETWEEN: i64 = 480;
 
 /// The longest time that packets wait after a hold-up, in sampling instants: 50 ms.
-// The mixer takes what a second has left in less. A stream whose latency is shorter than another's is always behind its
-// clock, since the mixer takes its marks only when it needs them: its packets must not wait for longer.
+// Enough for what a stop of 200 ms leaves of a stream with packets of 125 microseconds. A stream whose latency is
+// shorter than another's can always be behind its clock, since the mixer takes its marks only when it needs them: its
+// packets must not wait for longer.
 const LONGEST_WAIT: i64 = 2_400;
 
 /// Makes a turn at a reading that no clock fault refuses.
