@@ -51,7 +51,7 @@ module _ {F C K T : Type 0} (feed_told : F → List Answer) (clock_told : C → 
       → Hears (observer_heard old.observer) [] (observer_heard observer) → HasTakenChanges studio engine (events_by studio.open_at h.rounds) h.datagrams a b
       → IsUnderWayWith feed_told clock_told sink_handed observer_heard studio all clock before earlier (record old { engine = engine; observer = observer }) a b
   run-asked old engine observer a b h same none t =
-      let told = heard_by studio.open_at (events_by studio.open_at h.rounds) in
+      let told = heard_by studio.streams studio.open_at [] (events_by studio.open_at h.rounds) in
       record {
         changes = t.changes;
         taken = t.taken;

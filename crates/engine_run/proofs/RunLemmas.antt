@@ -92,9 +92,9 @@ module _ {F C K T : Type 0} (feed_told : F → List Answer) (clock_told : C → 
           given = subst (λ l. HaveGiven feed_told all new.readers.items l (h.rounds ++ round ∷ [])) events (subst (λ l. HaveGiven feed_told all l turn (h.rounds ++ round ∷ [])) (sym readers) (given-turned feed_told all old.readers.items old.engine.time now before_it h.rounds answer h.given));
           count = count-more old.counts.blocks new.counts.blocks h.datagrams sent.more h.count sent.count;
           handed = adds_more before (sink_handed old.sink) (sink_handed new.sink) h.datagrams sent.more h.handed sent.handed;
-          heard = subst (λ l. Hears earlier (heard_by studio.open_at l) (observer_heard new.observer)) events
-              (subst (λ (t : T). Hears earlier (heard_by studio.open_at turn) (observer_heard t)) (sym observer)
-              (subst (λ l. Hears earlier l (observer_heard old.observer)) (sym (heard_turned studio.open_at old.engine.time now before_it)) h.heard));
+          heard = subst (λ l. Hears earlier (heard_by studio.streams studio.open_at [] l) (observer_heard new.observer)) events
+              (subst (λ (t : T). Hears earlier (heard_by studio.streams studio.open_at [] turn) (observer_heard t)) (sym observer)
+              (subst (λ l. Hears earlier l (observer_heard old.observer)) (sym (heard_turned studio.streams studio.open_at old.engine.time now before_it)) h.heard));
         };
         front = h.rounds;
         answer = answer;
@@ -106,7 +106,7 @@ module _ {F C K T : Type 0} (feed_told : F → List Answer) (clock_told : C → 
       → IsTurned feed_told clock_told sink_handed observer_heard studio all clock before earlier (record old { observer = observer })
   looked old observer h none =
       let run = h.run in
-      let told = heard_by studio.open_at (events_by studio.open_at run.rounds) in
+      let told = heard_by studio.streams studio.open_at [] (events_by studio.open_at run.rounds) in
       record {
         run = record {
           rounds = run.rounds;
@@ -150,8 +150,8 @@ module _ {F C K T : Type 0} (feed_told : F → List Answer) (clock_told : C → 
             (subst (HaveGiven feed_told all olds before_it) h.last (subst (λ l. HaveGiven feed_told all l before_it run.rounds) olds_is run.given)) t));
         count = λ few. ap (λ counts. counts.blocks) counts_is ∙ run.count few;
         handed = subst (λ (k : K). Hands before run.datagrams (sink_handed k)) (sym sink_is) run.handed;
-        heard = subst (λ l. Hears earlier (heard_by studio.open_at l) (observer_heard new.observer)) events
-            (hears_on studio.open_at before_it earlier (observer_heard old.observer) (observer_heard new.observer) t.arrivals run.heard t.heard);
+        heard = subst (λ l. Hears earlier (heard_by studio.streams studio.open_at [] l) (observer_heard new.observer)) events
+            (hears_on studio.streams studio.open_at before_it earlier (observer_heard old.observer) (observer_heard new.observer) t.arrivals run.heard t.heard);
       }
 
   -- a run that was closed, and whose datagrams were all sent, has come to its end
@@ -183,7 +183,7 @@ module _ {F C K T : Type 0} (feed_told : F → List Answer) (clock_told : C → 
             subst (λ b. GivesByRounds stream path (until_end 0 told) h.rounds (left_by b reader.0.state.in_a_row (feed_told reader.0.feed))) over (reader.3 whole).1;
         count = count-more old.counts.blocks new.counts.blocks h.datagrams sent.more h.count sent.count;
         handed = adds_more before (sink_handed old.sink) (sink_handed new.sink) h.datagrams sent.more h.handed sent.handed;
-        heard = hears_close studio.open_at (events_by studio.open_at h.rounds) earlier (observer_heard old.observer) (observer_heard new.observer) mid.time closed.time h.heard told;
+        heard = hears_close studio.streams studio.open_at (events_by studio.open_at h.rounds) earlier (observer_heard old.observer) (observer_heard new.observer) mid.time closed.time h.heard told;
       }
 
   -- the report of a run that has come to its end
@@ -202,5 +202,5 @@ module _ {F C K T : Type 0} (feed_told : F → List Answer) (clock_told : C → 
     counts = counts;
     count = λ few. blocks ∙ d.count few;
     handed = subst (Hands before d.datagrams) (sym after_is) d.handed;
-    heard = subst (Hears earlier (heard_by studio.open_at (events_of studio d.rounds))) (sym later_is) d.heard;
+    heard = subst (Hears earlier (heard_by studio.streams studio.open_at [] (events_of studio d.rounds))) (sym later_is) d.heard;
   }

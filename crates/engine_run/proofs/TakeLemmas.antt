@@ -9,7 +9,6 @@ use Rattle.std.proofs.lemmas.Option.{get_or_from_slice_get, slice_get_read, slic
 use Rattle.rtp_stream.specs.declared.stream_spec.Stream.{Stream}
 use Rattle.studio_config.specs.Studio.{Studio}
 use Rattle.studio_session.specs.Event.{TraceEvent, Arrival}
-use Rattle.studio_session.specs.Fault.{time_at}
 use Rattle.studio_session.proofs.PlayLemmas.{set_here}
 use Rattle.studio_engine.specs.Engine.{EngineState}
 use Rattle.studio_engine.specs.Session.{HasSession, turned}
@@ -105,9 +104,9 @@ module _ {F : Type 0} (feed_told : F → List Answer) where
     stands_more = subst (λ l. HasSession studio new l datagrams)
         (append_assoc events (arrivals_on stream path t.given) (arrivals_on stream path one.given) ∙ ap (λ l. events ++ l) (sym (arrivals-more stream path t.given one.given))) one.stands
 
-    heard_more : Hears o (heard_by (time_at studio.open_at events) (arrivals_on stream path (t.given ++ one.given))) q
-    heard_more = subst (λ l. Hears o (heard_by (time_at studio.open_at events) l) q) (sym (arrivals-more stream path t.given one.given))
-        (hears_more studio.open_at events o p q (arrivals_on stream path t.given) (arrivals_on stream path one.given) t.heard one.heard)
+    heard_more : Hears o (heard_by studio.streams studio.open_at events (arrivals_on stream path (t.given ++ one.given))) q
+    heard_more = subst (λ l. Hears o (heard_by studio.streams studio.open_at events l) q) (sym (arrivals-more stream path t.given one.given))
+        (hears_more studio.streams studio.open_at events o p q (arrivals_on stream path t.given) (arrivals_on stream path one.given) t.heard one.heard)
 
     -- one more call returned a datagram, as each call before it did
     pub takes-more : length one.given ≡ 1 → (s : Takes feed_told studio new events datagrams stream path a c o q (k + 1)) × (length s.given ≡ k + 1)
@@ -163,7 +162,7 @@ module _ {F : Type 0} (feed_told : F → List Answer) where
     stream-more = record {
       arrivals = before.arrivals ++ arrivals_on stream i t.given;
       stands = subst (λ l. HasSession studio new l datagrams) (append_assoc events before.arrivals (arrivals_on stream i t.given)) t.stands;
-      heard = hears_more studio.open_at events o p q before.arrivals (arrivals_on stream i t.given) before.heard t.heard;
+      heard = hears_more studio.streams studio.open_at events o p q before.arrivals (arrivals_on stream i t.given) before.heard t.heard;
       arrive = arrivals-append before.arrivals (arrivals_on stream i t.given) before.arrive (are_arrivals stream i t.given);
       few = λ path. elim (cases_eq path i) [
         | inl e ↦ let f = t.few in let g = ap length (here path e) in omega (arith, f, g)
@@ -215,7 +214,7 @@ module _ {F : Type 0} (feed_told : F → List Answer) where
     all-more = record {
       arrivals = before.arrivals ++ t.arrivals;
       stands = subst (λ l. HasSession studio new l datagrams) (append_assoc events before.arrivals t.arrivals) t.stands;
-      heard = hears_more studio.open_at events o p q before.arrivals t.arrivals before.heard t.heard;
+      heard = hears_more studio.streams studio.open_at events o p q before.arrivals t.arrivals before.heard t.heard;
       arrive = arrivals-append before.arrivals t.arrivals before.arrive t.arrive;
       few = λ stream path. elim (cases_eq stream i) [
         | inl e ↦ let f = t.few path in let g = ap length (own stream path e) in omega (arith, f, g)

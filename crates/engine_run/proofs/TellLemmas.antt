@@ -1,11 +1,14 @@
 -- The contents of a sink and of an observer, one call further.
-use Rattle.std.proofs.Common.{◌≡◌, ℕ, Bool, true, false, List, [], ◌∷◌, ◌++◌, ℤ, Option, Some, None, if◌then◌else◌, refl, sym, ap, subst, ◌∙◌, append_assoc, append-nil}
+use Rattle.std.proofs.Common.{◌≡◌, ℕ, Bool, true, false, List, [], ◌∷◌, ◌++◌, ℤ, Option, Some, None, slice_get, if◌then◌else◌, refl, sym, ap, subst, ◌∙◌, append_assoc, append-nil}
 use Rattle.std.specs.Prelude.{IfSome, IsSomeAnd}
 use Rattle.std.specs.Ordering.{int_eq}
+use Rattle.rtp_stream.specs.declared.stream_spec.Stream.{Stream}
 use Rattle.studio_session.specs.Event.{TraceEvent, Arrival, Tick, Closing}
-use Rattle.studio_session.specs.Fault.{time_after, time_at}
+use Rattle.studio_session.specs.Fault.{path_fault, time_after, time_at}
+use Rattle.studio_session.specs.ArriveOutcome.{outcome_of}
+use Rattle.studio_session.specs.declared.arrive_outcome.ArriveOutcome.{ArriveOutcome}
 use Rattle.studio_engine.specs.Session.{turned}
-use Rattle.engine_run.specs.Observers.{Came, Closed, HasNotedTaken, Heard, Hears, heard_by, heard_of}
+use Rattle.engine_run.specs.Observers.{Came, Closed, HasNotedTaken, Heard, Hears, came_of, heard_by, heard_of}
 
 module _ {X : Type 0} where
   -- if a list is known afterwards, it was known before, and exactly these elements were added in between
@@ -43,38 +46,48 @@ time-append time [] ys = refl
 time-append time (x ∷ xs) ys = time-append (time_after time x) xs ys
 
 -- the notifications of the events of two lists
-heard-append : (time : ℤ) (xs ys : List TraceEvent) → heard_by time (xs ++ ys) ≡ heard_by time xs ++ heard_by (time_at time xs) ys
-heard-append time [] ys = refl
-heard-append time (x ∷ xs) ys =
-    let later = time_after time x in
-    ap (λ l. heard_of time x ++ l) (heard-append later xs ys) ∙ sym (append_assoc (heard_of time x) (heard_by later xs) (heard_by (time_at later xs) ys))
+heard-append : (streams : List Stream) (open_at : ℤ) (before xs ys : List TraceEvent) → heard_by streams open_at before (xs ++ ys) ≡ heard_by streams open_at before xs ++ heard_by streams open_at (before ++ xs) ys
+heard-append streams open_at before [] ys = ap (λ l. heard_by streams open_at l ys) (sym (append-nil before))
+heard-append streams open_at before (x ∷ xs) ys =
+    let later = before ++ x ∷ [] in
+    let one = heard_of streams open_at before x in
+    let some = heard_by streams open_at later xs in
+    ap (λ l. one ++ l) (heard-append streams open_at later xs ys)
+    ∙ (sym (append_assoc one some (heard_by streams open_at (later ++ xs) ys)) ∙ ap (λ l. (one ++ some) ++ heard_by streams open_at l ys) (append_assoc before (x ∷ []) xs))
 
 -- a clock reading has no notification
-pub heard_turned : (open_at old new : ℤ) (events : List TraceEvent) → heard_by open_at (turned old new events) ≡ heard_by open_at events
-heard_turned open_at old new events = by_test (int_eq old new)
+pub heard_turned : (streams : List Stream) (open_at old new : ℤ) (events : List TraceEvent) → heard_by streams open_at [] (turned old new events) ≡ heard_by streams open_at [] events
+heard_turned streams open_at old new events = by_test (int_eq old new)
   where
-    by_test : (b : Bool) → heard_by open_at (if b then events else events ++ Tick new ∷ []) ≡ heard_by open_at events
+    by_test : (b : Bool) → heard_by streams open_at [] (if b then events else events ++ Tick new ∷ []) ≡ heard_by streams open_at [] events
     by_test true = refl
-    by_test false = heard-append open_at events (Tick new ∷ []) ∙ append-nil (heard_by open_at events)
+    by_test false = heard-append streams open_at [] events (Tick new ∷ []) ∙ append-nil (heard_by streams open_at [] events)
 
--- the notification of an arrival has the time after the arrival
-pub hears_one : (open_at : ℤ) (events : List TraceEvent) (o p : Option (List Heard)) (stream path : ℕ) (time : ℤ) (octets : List ℕ)
-    → time ≡ time_at open_at (events ++ Arrival stream path octets ∷ []) → Hears o (Came stream path time octets ∷ []) p → Hears o (heard_by (time_at open_at events) (Arrival stream path octets ∷ [])) p
-hears_one open_at events o p stream path time octets is h =
-    subst (λ t. Hears o (Came stream path t octets ∷ []) p) (is ∙ time-append open_at events (Arrival stream path octets ∷ [])) h
+-- a datagram that has no fault is one of a stream
+pub stream_of : (found : Option Stream) (place path : ℕ) → path_fault place found path ≡ None → (spec : Stream) × (found ≡ Some spec)
+stream_of None place path fine = absurd (cc)
+stream_of (Some spec) place path fine = (spec, refl)
 
-module _ (open_at : ℤ) (events : List TraceEvent) (o p q : Option (List Heard)) where
+-- the notification of an arrival has the time after the arrival, and its outcome
+pub hears_one : (streams : List Stream) (open_at : ℤ) (events : List TraceEvent) (o p : Option (List Heard)) (stream path : ℕ) (time : ℤ) (octets : List ℕ) (spec : Stream) (outcome : ArriveOutcome)
+    → slice_get streams stream ≡ Some spec → outcome ≡ outcome_of spec stream open_at events path octets → time ≡ time_at open_at (events ++ Arrival stream path octets ∷ [])
+    → Hears o (Came stream path time octets outcome ∷ []) p → Hears o (heard_by streams open_at events (Arrival stream path octets ∷ [])) p
+hears_one streams open_at events o p stream path time octets spec outcome at outcome_is is h =
+    subst (λ found. Hears o (came_of found open_at events stream path octets ++ []) p) (sym at)
+    (subst (λ x. Hears o (Came stream path (time_at open_at events) octets x ∷ []) p) outcome_is
+    (subst (λ t. Hears o (Came stream path t octets outcome ∷ []) p) (is ∙ time-append open_at events (Arrival stream path octets ∷ [])) h))
+
+module _ (streams : List Stream) (open_at : ℤ) (events : List TraceEvent) (o p q : Option (List Heard)) where
   -- an observer that was notified of all events, and then of more
-  pub hears_on : (more : List TraceEvent) → Hears o (heard_by open_at events) p → Hears p (heard_by (time_at open_at events) more) q → Hears o (heard_by open_at (events ++ more)) q
-  hears_on more h k = subst (λ l. Hears o l q) (sym (heard-append open_at events more)) (adds_more o p q (heard_by open_at events) (heard_by (time_at open_at events) more) h k)
+  pub hears_on : (more : List TraceEvent) → Hears o (heard_by streams open_at [] events) p → Hears p (heard_by streams open_at events more) q → Hears o (heard_by streams open_at [] (events ++ more)) q
+  hears_on more h k = subst (λ l. Hears o l q) (sym (heard-append streams open_at [] events more)) (adds_more o p q (heard_by streams open_at [] events) (heard_by streams open_at events more) h k)
 
   -- an observer that was notified of the events `xs` after all others, and then of more
-  pub hears_more : (xs ys : List TraceEvent) → Hears o (heard_by (time_at open_at events) xs) p → Hears p (heard_by (time_at open_at (events ++ xs)) ys) q → Hears o (heard_by (time_at open_at events) (xs ++ ys)) q
+  pub hears_more : (xs ys : List TraceEvent) → Hears o (heard_by streams open_at events xs) p → Hears p (heard_by streams open_at (events ++ xs) ys) q → Hears o (heard_by streams open_at events (xs ++ ys)) q
   hears_more xs ys h k =
-      let t = time_at open_at events in
-      subst (λ l. Hears o l q) (sym (heard-append t xs ys))
-      (adds_more o p q (heard_by t xs) (heard_by (time_at t xs) ys) h (subst (λ u. Hears p (heard_by u ys) q) (time-append open_at events xs) k))
+      subst (λ l. Hears o l q) (sym (heard-append streams open_at events xs ys))
+      (adds_more o p q (heard_by streams open_at events xs) (heard_by streams open_at (events ++ xs) ys) h k)
 
   -- an observer that was notified of all events, and then of the close
-  pub hears_close : (time : ℤ) → time ≡ time_at open_at (events ++ Closing ∷ []) → Hears o (heard_by open_at events) p → Hears p (Closed time ∷ []) q → Hears o (heard_by open_at (events ++ Closing ∷ [])) q
+  pub hears_close : (time : ℤ) → time ≡ time_at open_at (events ++ Closing ∷ []) → Hears o (heard_by streams open_at [] events) p → Hears p (Closed time ∷ []) q → Hears o (heard_by streams open_at [] (events ++ Closing ∷ [])) q
   hears_close time is h k = hears_on (Closing ∷ []) h (subst (λ t. Hears p (Closed t ∷ []) q) (is ∙ time-append open_at events (Closing ∷ [])) k)

@@ -5,7 +5,6 @@ use Rattle.std.specs.declared.alloc.Global.{Global}
 use Rattle.rtp_stream.specs.declared.stream_spec.Stream.{Stream}
 use Rattle.studio_config.specs.Studio.{Studio}
 use Rattle.studio_session.specs.Event.{TraceEvent}
-use Rattle.studio_session.specs.Fault.{time_at}
 use Rattle.studio_engine.specs.Engine.{EngineState}
 use Rattle.studio_engine.specs.Session.{HasSession}
 use Rattle.studio_io.specs.Answers.{Answer, reaches_end, told_datagrams}
@@ -84,7 +83,7 @@ module _ {F : Type 0} where
     pub given : List (List ℕ)
     pub few : length given ≤ most
     pub stands : HasSession studio engine (events ++ arrivals_on stream path given) datagrams
-    pub heard : Hears before (heard_by (time_at studio.open_at events) (arrivals_on stream path given)) after
+    pub heard : Hears before (heard_by studio.streams studio.open_at events (arrivals_on stream path given)) after
     pub goes_on : GoesOn feed_told old new given
     pub asks : Asks feed_told most old new given
 
@@ -93,7 +92,7 @@ module _ {F : Type 0} where
   pub record TakesStream (feed_told : F → List Answer) (studio : Studio) (engine : EngineState) (events : List TraceEvent) (datagrams : List (List ℕ)) (stream : ℕ) (olds news : List (FeedReader F)) (before after : Option (List Heard)) (count : ℕ) : Type 0 where
     pub arrivals : List TraceEvent
     pub stands : HasSession studio engine (events ++ arrivals) datagrams
-    pub heard : Hears before (heard_by (time_at studio.open_at events) arrivals) after
+    pub heard : Hears before (heard_by studio.streams studio.open_at events arrivals) after
     pub arrive : AreArrivals arrivals
     pub few : (path : ℕ) → length (datagrams_on stream path arrivals) ≤ 64
     pub later : (path : ℕ) → count ≤ path → datagrams_on stream path arrivals ≡ []
@@ -108,7 +107,7 @@ module _ {F : Type 0} where
   pub record TakesAll (feed_told : F → List Answer) (studio : Studio) (engine : EngineState) (events : List TraceEvent) (datagrams : List (List ℕ)) (olds news : List (Vec (FeedReader F) Global)) (before after : Option (List Heard)) (count : ℕ) : Type 0 where
     pub arrivals : List TraceEvent
     pub stands : HasSession studio engine (events ++ arrivals) datagrams
-    pub heard : Hears before (heard_by (time_at studio.open_at events) arrivals) after
+    pub heard : Hears before (heard_by studio.streams studio.open_at events arrivals) after
     pub arrive : AreArrivals arrivals
     pub few : (stream path : ℕ) → length (datagrams_on stream path arrivals) ≤ 64
     pub later : (stream path : ℕ) → count ≤ stream → datagrams_on stream path arrivals ≡ []

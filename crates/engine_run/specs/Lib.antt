@@ -10,6 +10,7 @@ pub use Rattle.mix_packets.specs.OutSpec
 pub use Rattle.path_merge.specs.Clock
 pub use Rattle.studio_config.specs.Studio
 pub use Rattle.studio_session.specs.Event
+pub use Rattle.studio_session.specs.ArriveOutcome
 pub use Rattle.studio_session.specs.Report
 pub use Rattle.studio_engine.specs.Engine
 pub use Rattle.studio_engine.specs.Session

@@ -1,23 +1,33 @@
 -- The events of a run that its observer is called with, and the changes of gains.
-use Rattle.std.specs.Prelude.{◌≡◌, ℕ, List, [], ◌∷◌, ◌++◌, ℤ, Option, IfSome, IsSomeAnd}
+use Rattle.std.specs.Prelude.{◌≡◌, ℕ, List, [], ◌∷◌, ◌++◌, ℤ, Option, None, Some, IfSome, IsSomeAnd, slice_get}
+use Rattle.rtp_stream.specs.declared.stream_spec.Stream.{Stream}
 use Rattle.studio_session.specs.Event.{TraceEvent, Arrival, Tick, Closing}
-use Rattle.studio_session.specs.Fault.{time_after}
+use Rattle.studio_session.specs.Fault.{time_at}
+use Rattle.studio_session.specs.ArriveOutcome.{outcome_of}
+use Rattle.studio_session.specs.declared.arrive_outcome.ArriveOutcome.{ArriveOutcome}
 
--- a notification: a datagram came on a path of a stream at a time, or the engine was closed at a time
+-- a notification: a datagram came on a path of a stream at a time, with an outcome, or the engine was closed at a time
 pub data Heard : Type 0 where
-  Came : ℕ → ℕ → ℤ → List ℕ → Heard
+  Came : ℕ → ℕ → ℤ → List ℕ → ArriveOutcome → Heard
   Closed : ℤ → Heard
 
--- the notification of an event at this time: a clock reading has none
-abbrev pub heard_of : ℤ → TraceEvent → List Heard
-heard_of time (Arrival stream path octets) = Came stream path time octets ∷ []
-heard_of time (Tick later) = []
-heard_of time Closing = Closed time ∷ []
+-- the notification of a datagram that came after these events, if there is its stream: it has the last reading before
+-- it, and the outcome that the stream's history gives it
+abbrev pub came_of : Option Stream → ℤ → List TraceEvent → ℕ → ℕ → List ℕ → List Heard
+came_of None open_at before stream path octets = []
+came_of (Some spec) open_at before stream path octets = Came stream path (time_at open_at before) octets (outcome_of spec stream open_at before path octets) ∷ []
 
--- the notifications of events from this time on: one of each arrival and of each close, with the last reading before it
-abbrev pub heard_by : ℤ → List TraceEvent → List Heard
-heard_by time [] = []
-heard_by time (event ∷ events) = heard_of time event ++ heard_by (time_after time event) events
+-- the notification of an event that came after these: a clock reading has none
+abbrev pub heard_of : List Stream → ℤ → List TraceEvent → TraceEvent → List Heard
+heard_of streams open_at before (Arrival stream path octets) = came_of (slice_get streams stream) open_at before stream path octets
+heard_of streams open_at before (Tick later) = []
+heard_of streams open_at before Closing = Closed (time_at open_at before) ∷ []
+
+-- the notifications of events that came after the events `before`: one of each arrival and of each close, with the last
+-- reading before it
+abbrev pub heard_by : List Stream → ℤ → List TraceEvent → List TraceEvent → List Heard
+heard_by streams open_at before [] = []
+heard_by streams open_at before (event ∷ events) = heard_of streams open_at before event ++ heard_by streams open_at (before ++ event ∷ []) events
 
 -- if the notifications that an observer got are known afterwards, they were known before, and exactly these came in
 -- between

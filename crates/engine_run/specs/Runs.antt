@@ -40,7 +40,7 @@ module _ {F C K T : Type 0} where
     pub given : HaveGiven feed_told all state.readers.items (events_by studio.open_at rounds) rounds
     pub count : length datagrams < 2 ^ 64 → state.counts.blocks ≡ length datagrams
     pub handed : Hands before datagrams (sink_handed state.sink)
-    pub heard : Hears earlier (heard_by studio.open_at (events_by studio.open_at rounds)) (observer_heard state.observer)
+    pub heard : Hears earlier (heard_by studio.streams studio.open_at [] (events_by studio.open_at rounds)) (observer_heard state.observer)
 
   -- a run is under way, of the studio with exactly the changes of gains that its source took from `first` to `last`
   pub record IsUnderWayWith (feed_told : F → List Answer) (clock_told : C → List ℤ) (sink_handed : K → Option (List (List ℕ))) (observer_heard : T → Option (List Heard)) (studio : Studio) (all : List (List (List Answer))) (clock : List ℤ) (before : Option (List (List ℕ))) (earlier : Option (List Heard)) (state : RunState F C K T) (first last : List (ℤ × List ℤ)) : Type 0 where
@@ -68,13 +68,13 @@ module _ {F C K T : Type 0} where
     pub taken : AreTakenByRounds all rounds
     pub count : length datagrams < 2 ^ 64 → state.counts.blocks ≡ length datagrams
     pub handed : Hands before datagrams (sink_handed state.sink)
-    pub heard : Hears earlier (heard_by studio.open_at (events_of studio rounds)) (observer_heard state.observer)
+    pub heard : Hears earlier (heard_by studio.streams studio.open_at [] (events_of studio rounds)) (observer_heard state.observer)
 
 -- the result of a settled run, whose feeds are ordered by stream and then by path. Its rounds have the clock readings
 -- that were known, and all datagrams of the feeds that are known to their end, round by round. None of their events has
 -- a fault. The report has the counts of `run_studio` for these events. If the contents of the sink are known at the
 -- end, it was passed the datagrams of `run_studio`, in order. If the observer's notifications are known at the end, it
--- was notified of each arrival, with the reading before it, and of the close
+-- was notified of each arrival, with the reading before it and its outcome, and of the close
 pub record IsSettledRun (studio : Studio) (all : List (List Answer)) (clock : List ℤ) (report : WorkReport) (before after : Option (List (List ℕ))) (earlier later : Option (List Heard)) : Type 0 where
   pub rounds : List Round
   pub bounded : AreRounds rounds
@@ -87,7 +87,7 @@ pub record IsSettledRun (studio : Studio) (all : List (List Answer)) (clock : Li
   pub counts : AreCounts studio (events_of studio rounds) report.streams.items
   pub count : length datagrams < 2 ^ 64 → report.blocks ≡ length datagrams
   pub handed : Hands before datagrams after
-  pub heard : Hears earlier (heard_by studio.open_at (events_of studio rounds)) later
+  pub heard : Hears earlier (heard_by studio.streams studio.open_at [] (events_of studio rounds)) later
 
 -- a settled run that began with this studio, and ran the studio with exactly the changes of gains that its source took
 pub record IsSettledRunWith (studio : Studio) (all : List (List Answer)) (clock : List ℤ) (report : WorkReport) (before after : Option (List (List ℕ))) (earlier later : Option (List Heard)) (first last : List (ℤ × List ℤ)) : Type 0 where

@@ -29,7 +29,8 @@ pub trait RunObserver<F>: Drop {
         outcome: ArriveOutcome,
         feed: &F,
     )
-        ensures heard { Hears (heard self.old) (Came stream path engine.now.time octets.now ∷ []) (heard self.new) }
+        ensures heard { Hears (heard self.old) (Came stream path engine.now.time octets.now outcome ∷ [])
+            (heard self.new) }
         ensures noted { noted self.new ≡ noted self.old };
 
     /// Notes a change of gains, which the engine just took at its time: from `at` on these gains are in force, row by

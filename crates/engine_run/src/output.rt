@@ -5,6 +5,7 @@ ghost use Rattle.studio_config.specs.Studio.{Studio};
 ghost use Rattle.studio_session.specs.Event.{TraceEvent};
 ghost use Rattle.studio_engine.specs.Session.{HasSession, turned};
 ghost use Rattle.studio_io.specs.Answers.{Answer};
+ghost use Rattle.studio_io.specs.SendSums.{KeepsSums};
 ghost use Rattle.engine_run.specs.Output.{HasSent};
 ghost use Rattle.engine_run.specs.Runs.{IsDone, IsUnderWay};
 ghost use Rattle.engine_run.specs.Intake.{AllEnded};
@@ -32,6 +33,7 @@ pub(crate) fn send_due<K: Sink>(
     ensures there { OnOk result ((studio : Studio) (events : List TraceEvent) (datagrams : List (List ℕ))
         → HasSession studio engine.old events datagrams
         → engine.new.time ≡ now) }
+    ensures sums { KeepsSums counts.old (K.answered sink.old) counts.new (K.answered sink.new) }
 {
     let mut out = [0u8; MAX_OUTPUT_OCTETS];
     // Called for its contract: a datagram has at most `MAX_OUTPUT_OCTETS` octets, so it fits `out`.
@@ -50,6 +52,7 @@ pub(crate) fn send_rest<K: Sink>(engine: &mut Engine, sink: &mut K, counts: &mut
         → HasSent studio engine.new events datagrams (K.handed sink.old)
         (K.handed sink.new) counts.old.blocks counts.new.blocks }
     ensures settled { engine.new.settled ≡ engine.old.closed }
+    ensures sums { KeepsSums counts.old (K.answered sink.old) counts.new (K.answered sink.new) }
 {
     let mut out = [0u8; MAX_OUTPUT_OCTETS];
     // Called for its contract: a datagram has at most `MAX_OUTPUT_OCTETS` octets, so it fits `out`.
@@ -71,6 +74,7 @@ pub(crate) fn settle<F: Feed, C: Clock, K: Sink, T: RunObserver<F>>(
         → IsUnderWay F.told C.told K.handed T.heard studio all clock before earlier state.old
         → IsDone K.handed T.heard studio all clock before earlier state.new }
     ensures noted { T.noted state.new.observer ≡ T.noted state.old.observer }
+    ensures sums { KeepsSums state.old.counts (K.answered state.old.sink) state.new.counts (K.answered state.new.sink) }
 {
     if state.engine.close().is_err() {
         return false;

@@ -9,6 +9,7 @@ ghost use Rattle.studio_session.specs.Report.{AreCounts, AreCountsOf};
 ghost use Rattle.studio_engine.specs.Engine.{HasAllMarks};
 ghost use Rattle.studio_engine.specs.Session.{HasSession};
 ghost use Rattle.studio_io.specs.Balances.{Balances};
+ghost use Rattle.studio_io.specs.SendSums.{count_tally, report_tally};
 ghost use Rattle.engine_run.specs.Intake.{fault_number, fault_numbers};
 
 use crate::feed_reader::FeedReader;
@@ -149,6 +150,7 @@ pub(crate) fn work_report<F: Drop, C: Drop, K: Drop, T: Drop>(
     ensures balance { IfOk result (λ r. Balances r.0.blocks r.0.sent_a r.0.fault_a r.0.sent_b r.0.fault_b) }
     ensures settled { IfOk result (λ r. r.0.settled ≡ settled) }
     ensures blocks { IfOk result (λ r. r.0.blocks ≡ state.counts.blocks) }
+    ensures numbers { IfOk result (λ r. report_tally r.0 ≡ count_tally state.counts) }
     ensures sink { IfOk result (λ r. r.1 ≡ state.sink) }
     ensures observer { IfOk result (λ r. r.2 ≡ state.observer) }
     ensures faults { IfOk result (λ r. r.0.feed_faults.items ≡ fault_numbers state.readers.items) }

@@ -3,6 +3,7 @@ ghost use Rattle.std.specs.Prelude.{◌≡◌, ℕ, ℤ, List, Option, true, len
 ghost use Rattle.studio_config.specs.Studio.{Studio};
 ghost use Rattle.studio_io.specs.Answers.{Answer};
 ghost use Rattle.studio_io.specs.Balances.{Balances};
+ghost use Rattle.studio_io.specs.SendSums.{KeepsSums, ReportsAnswers};
 ghost use Rattle.engine_run.specs.Runs.{IsDone, IsSettledRunWith, IsUnderWay, IsUnderWayWith};
 ghost use Rattle.engine_run.specs.Intake.{AllEnded};
 ghost use Rattle.engine_run.specs.Grouping.{path_total};
@@ -72,6 +73,7 @@ pub fn run_engine<
     devices: RunDevices<F, C, K, T, P, G>,
 ) -> Result<(WorkReport, K, T, G), AllocError>
     ensures balance { IfOk result (λ r. Balances r.0.blocks r.0.sent_a r.0.fault_a r.0.sent_b r.0.fault_b) }
+    ensures sums { IfOk result (λ r. ReportsAnswers (K.answered devices.sink) r.0 (K.answered r.1)) }
     ensures settled { IfOk result (λ r. r.0.settled ≡ true
         → IsSettledRunWith studio.now (map F.told devices.feeds.items) (C.told devices.clock) r.0
         (K.handed devices.sink) (K.handed r.1) (T.heard devices.observer) (T.heard r.2)
@@ -125,6 +127,7 @@ fn run_rounds<R: Wait, F: Feed, C: Clock, K: Sink, T: RunObserver<F>, P: IdleWai
     ensures ended { result ≡ true → AllEnded state.new.readers.items }
     ensures noted { HasNotedTaken (G.taken gains.old) (G.taken gains.new)
         (T.noted state.old.observer) (T.noted state.new.observer) }
+    ensures sums { KeepsSums state.old.counts (K.answered state.old.sink) state.new.counts (K.answered state.new.sink) }
 {
     // The first round does not pause: no feed was called yet.
     let mut most = 0;

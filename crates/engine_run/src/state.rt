@@ -3,6 +3,7 @@ ghost use Rattle.std.specs.Prelude.{◌≡◌, ◌≤ℤ◌, pos, ◌^◌, ℕ, 
 ghost use Rattle.studio_config.specs.Studio.{Studio};
 ghost use Rattle.studio_io.specs.Answers.{Answer};
 ghost use Rattle.studio_io.specs.Clocks.{time_with};
+ghost use Rattle.studio_io.specs.SendSums.{KeepsSums};
 ghost use Rattle.engine_run.specs.Runs.{IsTurned, IsUnderWay, IsUnderWayWith};
 ghost use Rattle.engine_run.specs.Intake.{AllEnded};
 ghost use Rattle.engine_run.specs.Observers.{HasNotedTaken, Heard};
@@ -58,6 +59,7 @@ impl<F: Feed, C: Clock, K: Sink, T: RunObserver<F>> RunState<F, C, K, T> {
             (G.taken source.old) (G.taken source.new) }
         ensures noted { HasNotedTaken (G.taken source.old) (G.taken source.new)
             (T.noted self.old.observer) (T.noted self.new.observer) }
+        ensures sums { KeepsSums self.old.counts (K.answered self.old.sink) self.new.counts (K.answered self.new.sink) }
     {
         ask_source(&mut self.engine, source, &mut self.observer, buffer);
     }
@@ -69,6 +71,7 @@ impl<F: Feed, C: Clock, K: Sink, T: RunObserver<F>> RunState<F, C, K, T> {
             → IsUnderWay F.told C.told K.handed T.heard studio all clock before earlier self.old
             → IsTurned F.told C.told K.handed T.heard studio all clock before earlier self.new) }
         ensures observer { self.new.observer ≡ self.old.observer }
+        ensures sums { KeepsSums self.old.counts (K.answered self.old.sink) self.new.counts (K.answered self.new.sink) }
     {
         let answer = self.clock.now();
         let now = greatest(self.engine.time(), answer);
@@ -83,6 +86,7 @@ impl<F: Feed, C: Clock, K: Sink, T: RunObserver<F>> RunState<F, C, K, T> {
             → IsTurned F.told C.told K.handed T.heard studio all clock before earlier self.old
             → IsTurned F.told C.told K.handed T.heard studio all clock before earlier self.new) }
         ensures observer { self.new.observer ≡ self.old.observer }
+        ensures sums { KeepsSums self.old.counts (K.answered self.old.sink) self.new.counts (K.answered self.new.sink) }
     {
         if is_new {
             return Ok(());
@@ -98,6 +102,7 @@ impl<F: Feed, C: Clock, K: Sink, T: RunObserver<F>> RunState<F, C, K, T> {
             → IsTurned F.told C.told K.handed T.heard studio all clock before earlier self.new }
         ensures readers { self.new.readers ≡ self.old.readers }
         ensures noted { T.noted self.new.observer ≡ T.noted self.old.observer }
+        ensures sums { KeepsSums self.old.counts (K.answered self.old.sink) self.new.counts (K.answered self.new.sink) }
     {
         self.observer.before_wait(&self.engine);
     }
@@ -111,6 +116,7 @@ impl<F: Feed, C: Clock, K: Sink, T: RunObserver<F>> RunState<F, C, K, T> {
             → IsTurned F.told C.told K.handed T.heard studio all clock before earlier self.old
             → IsUnderWay F.told C.told K.handed T.heard studio all clock before earlier self.new) }
         ensures noted { T.noted self.new.observer ≡ T.noted self.old.observer }
+        ensures sums { KeepsSums self.old.counts (K.answered self.old.sink) self.new.counts (K.answered self.new.sink) }
     {
         let most = take_all(
             &mut self.engine,
@@ -144,6 +150,7 @@ impl<F: Feed, C: Clock, K: Sink, T: RunObserver<F>> RunState<F, C, K, T> {
         ensures ended { IfOk result (λ most. most ≡ None → AllEnded self.new.readers.items) }
         ensures noted { HasNotedTaken (G.taken source.old) (G.taken source.new)
             (T.noted self.old.observer) (T.noted self.new.observer) }
+        ensures sums { KeepsSums self.old.counts (K.answered self.old.sink) self.new.counts (K.answered self.new.sink) }
     {
         // Before the clock is read: a change that is asked for now is in force from the first block that this round
         // sends.

@@ -40,7 +40,7 @@ pub use sockets::feed::{FeedFlags, UdpFeed, udp_feeds};
 pub use sockets::health::{RunHealth, SendHealth, SocketHealth};
 pub use sockets::hold_up::HoldUp;
 pub use sockets::inherited::{InheritedSocketFault, InheritedSockets};
-pub use sockets::mix_times::{MixDue, MixProgress, MixTimes};
+pub use sockets::mix_times::{MixDue, MixProgress, MixTimes, greatest_latency};
 pub use sockets::pace::{ReceivePace, ReceiveWait, common_pause};
 pub use sockets::ports::LivePorts;
 pub use sockets::receiver::Receiver;

@@ -1,6 +1,6 @@
 //! The outputs that take the mix of a run, and the sink that passes it to them.
 ghost use Rattle.std.specs.Prelude.{◌≡◌, ◌∷◌, [], ℕ, ℤ, List};
-ghost use Rattle.studio_io.specs.Sinks.{Hands};
+ghost use Rattle.studio_io.specs.Sinks.{Hands, Returns};
 ghost use Rattle.run_outputs.specs.Events.{Arrived, Changed, TakesIf};
 
 use crate::events::{ArrivedDatagram, EventOutput, TakenChange};
@@ -86,8 +86,11 @@ impl<K: Sink, M: MixOutput> OutputSink<K, M> {
 impl<K: Sink, M: MixOutput> Sink for OutputSink<K, M> {
     ghost handed = { λ sink. K.handed sink.sink };
 
+    ghost answered = { λ sink. K.answered sink.sink };
+
     fn send(&mut self, datagram: &[u8]) -> SendAnswer
         ensures handed { Hands (K.handed self.old.sink) (datagram.now ∷ []) (K.handed self.new.sink) }
+        ensures answered { Returns (K.answered self.old.sink) (result ∷ []) (K.answered self.new.sink) }
         ensures mixed { M.mixes self.old.output datagram.now self.new.output }
     {
         // After it was sent, so that the outputs do not delay the datagram.

@@ -1,2 +1,4 @@
 pub mod AnswerLemmas
 pub mod GainLemmas
+pub mod SumLemmas
+mod SendSumsCases

@@ -2,6 +2,7 @@ pub mod Answers
 pub mod FeedStates
 pub mod Clocks
 pub mod Sinks
+pub mod SendSums
 pub mod Balances
 pub mod Memory
 pub mod Gains

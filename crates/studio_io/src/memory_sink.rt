@@ -1,6 +1,6 @@
 //! A sink that keeps datagrams in memory.
 ghost use Rattle.std.specs.Prelude.{◌≡◌, [], ◌∷◌, ◌++◌, Some, is_some, OnOk, IfSome};
-ghost use Rattle.studio_io.specs.Memory.{octets_of};
+ghost use Rattle.studio_io.specs.Memory.{octets_of, taken_by_both};
 
 use crate::sink::{SendAnswer, Sink};
 use std::alloc::{AllocError, Global};
@@ -63,6 +63,8 @@ fn keep(alloc: Global, kept: &mut Vec<Vec<u8>>, datagram: &[u8]) -> Result<(), A
 
 impl Sink for MemorySink {
     ghost handed = { λ sink. sink };
+
+    ghost answered = { λ sink. taken_by_both sink };
 
     fn send(&mut self, datagram: &[u8]) -> SendAnswer {
         // A sink has no other way to report an allocation failure than the addresses that it did not reach.

@@ -1,6 +1,7 @@
 //! The sink of a run, which takes the datagrams of the mix, and the counts of its results.
 ghost use Rattle.std.specs.Prelude.{◌≡◌, ◌+◌, ◌<◌, ◌^◌, List, ℕ, [], ◌∷◌, Option, if◌then◌else◌};
-ghost use Rattle.studio_io.specs.Sinks.{Hands};
+ghost use Rattle.studio_io.specs.Sinks.{Hands, Returns};
+ghost use Rattle.studio_io.specs.declared.sink.SendAnswer.{SendAnswer};
 
 /// The result of `Sink::send` for each of the two addresses: true if it took the datagram.
 #[derive(Clone, Copy, PartialEq, Eq)]
@@ -17,9 +18,14 @@ pub trait Sink: Drop {
     /// never are again.
     ghost handed: { Self → Option (List (List ℕ)) };
 
+    /// All results that the sink returned, in order; `None` if they are not known. Once they are not known they never
+    /// are again.
+    ghost answered: { Self → Option (List SendAnswer) };
+
     /// Sends one datagram to both addresses, and returns the result for each.
     fn send(&mut self, datagram: &[u8]) -> SendAnswer
-        ensures handed { Hands (handed self.old) (datagram.now ∷ []) (handed self.new) };
+        ensures handed { Hands (handed self.old) (datagram.now ∷ []) (handed self.new) }
+        ensures answered { Returns (answered self.old) (result ∷ []) (answered self.new) };
 }
 
 /// The numbers of datagrams that a sink was passed. At each address the sent and the failed ones add up to all of them.

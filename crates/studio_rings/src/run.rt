@@ -7,6 +7,7 @@ ghost use Rattle.studio_mix.specs.Blocks.{AreBlocks};
 ghost use Rattle.studio_ends.specs.Datagrams.{AreAllGiven};
 ghost use Rattle.studio_ends.specs.FreshEnds.{AllFreshStreams};
 ghost use Rattle.studio_io.specs.Balances.{Balances};
+ghost use Rattle.studio_io.specs.SendSums.{ReportsAnswers, count_tally, report_tally};
 ghost use Rattle.studio_rings.specs.Runs.{IsSettledRun, IsSettledRunWith};
 ghost use Rattle.studio_rings.specs.StreamTokens.{AllGiveTokens, AreAllDrained, AreTokensOf, AreTold};
 ghost use Rattle.studio_rings.specs.Jobs.{AreJobsOf, HaveCapacity};
@@ -108,6 +109,7 @@ fn report<K: Drop>(mixed: MixResult<K>, parts: RunResults) -> (WorkReport, K)
     ensures streams { result.0.streams ≡ parts.streams }
     ensures faults { result.0.feed_faults ≡ parts.feed_faults }
     ensures blocks { result.0.blocks ≡ mixed.counts.blocks }
+    ensures numbers { report_tally result.0 ≡ count_tally mixed.counts }
     ensures sink { result.1 ≡ mixed.sink }
     ensures exactly { IsTrue result.0.settled ↔ AreAllDrained parts.dones.items mixed.end.sides.items }
     ensures given { result.0.settled ≡ true → AllGiveTokens parts.dones.items }
@@ -157,6 +159,7 @@ pub fn run_workers<R: Threads + Wait + Sync, F: Feed + Send, C: Clock + Send, K:
     requires feeds { length feeds.items ≡ length ends.paths.items }
     requires clocks { length clocks.items ≡ length ends.streams.items }
     ensures balance { IfOk result (λ r. Balances r.0.blocks r.0.sent_a r.0.fault_a r.0.sent_b r.0.fault_b) }
+    ensures sums { IfOk result (λ r. ReportsAnswers (K.answered sink) r.0 (K.answered r.1)) }
     ensures faults { IfOk result (λ r. length r.0.feed_faults.items ≡ length feeds.items) }
     ensures settled { IfOk result (λ r. r.0.settled ≡ true → (studio : Studio) (places : ℕ)
         → AreOpenedTogether studio places ends
@@ -187,6 +190,7 @@ impl<F: Feed + Send, C: Clock + Send, K: Sink, G: GainSource> WorkerDevices<F, C
         requires feeds { length self.feeds.items ≡ length ends.paths.items }
         requires clocks { length self.clocks.items ≡ length ends.streams.items }
         ensures balance { IfOk result (λ r. Balances r.0.blocks r.0.sent_a r.0.fault_a r.0.sent_b r.0.fault_b) }
+        ensures sums { IfOk result (λ r. ReportsAnswers (K.answered self.sink) r.0 (K.answered r.1)) }
         ensures faults { IfOk result (λ r. length r.0.feed_faults.items ≡ length self.feeds.items) }
         ensures settled { IfOk result (λ r. r.0.settled ≡ true → (studio : Studio) (places : ℕ)
             → AreOpenedTogether studio places ends

@@ -100,7 +100,7 @@ impl MixTimes {
 }
 
 /// Returns the greatest latency of streams, in sampling instants.
-fn greatest_latency(streams: &[StreamSpec]) -> u32
+pub fn greatest_latency(streams: &[StreamSpec]) -> u32
     ensures { result ≡ greatest_latency streams.now }
 {
     let mut most = 0;

@@ -1,6 +1,6 @@
 //! The sink of the mix's datagrams: two addresses, each with a socket of its own (SMPTE ST 2022-7).
 ghost use Rattle.std.specs.Prelude.{◌≡◌, ◌∷◌, [], ℕ, Bool, List, Option, None, IfOk};
-ghost use Rattle.studio_io.specs.Sinks.{Hands};
+ghost use Rattle.studio_io.specs.Sinks.{Hands, Returns};
 ghost use Rattle.live_io.specs.Sending.{AreDestinations, Attempts, IsDestination};
 
 use crate::sockets::SocketConfig;
@@ -157,8 +157,11 @@ impl<'a, S: SendingSocket> UdpSink<'a, S> {
 impl<S: SendingSocket> Sink for UdpSink<'_, S> {
     ghost handed = { λ sink. None };
 
+    ghost answered = { λ sink. None };
+
     fn send(&mut self, datagram: &[u8]) -> SendAnswer
         ensures handed { Hands None (datagram.now ∷ []) None }
+        ensures answered { Returns None (result ∷ []) None }
         ensures first { Attempts (S.sends self.old.a) datagram.now result.a (S.sends self.new.a) }
         ensures second { Attempts (S.sends self.old.b) datagram.now result.b (S.sends self.new.b) }
     {

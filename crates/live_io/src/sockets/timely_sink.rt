@@ -75,6 +75,8 @@ impl<'a, K: Sink, C: Clock> TimelySink<'a, K, C> {
 impl<K: Sink, C: Clock> Sink for TimelySink<'_, K, C> {
     ghost handed = { λ sink. None };
 
+    ghost answered = { λ sink. None };
+
     fn send(&mut self, datagram: &[u8]) -> SendAnswer {
         let now = self.clock.now();
         self.send_at(now, datagram)

@@ -52,6 +52,8 @@ struct MeteredSink<'a, K> {
 impl<K: Sink> Sink for MeteredSink<'_, K> {
     ghost handed = { λ sink. K.handed sink.sink };
 
+    ghost answered = { λ sink. K.answered sink.sink };
+
     fn send(&mut self, datagram: &[u8]) -> SendAnswer {
         // Measured after it was sent, so that the meter does not delay the datagram.
         let answer = self.sink.send(datagram);

@@ -1,5 +1,6 @@
 //! The worker of the mixer: turns of its end, and each datagram to the sink.
 ghost use Rattle.std.specs.Prelude.{true};
+ghost use Rattle.studio_io.specs.SendSums.{CountsAnswers, KeepsSums};
 ghost use Rattle.studio_rings.specs.MixWorker.{Mixes, MixesWith};
 
 use crate::worker::Backoff;
@@ -46,7 +47,8 @@ pub(crate) struct MixWorker<K, G> {
 
 impl<K: Sink, G: GainSource> MixTask for MixWorker<K, G> {
     ghost mixed = { λ s t. MixesWith K.handed s.mixed.end s.mixed.sink 0 true
-        t.mixed.end t.mixed.sink t.mixed.counts.blocks (G.taken s.gains) (G.taken t.gains) };
+        t.mixed.end t.mixed.sink t.mixed.counts.blocks (G.taken s.gains) (G.taken t.gains)
+        × CountsAnswers (K.answered s.mixed.sink) t.mixed.counts (K.answered t.mixed.sink) };
 
     fn mix<R: Wait>(self, rt: &R, ended: &[AtomicBool], stop: &AtomicBool) -> MixWorker<K, G> {
         let MixWorker { mixed, gains } = self;
@@ -63,7 +65,8 @@ impl<K: Sink, G: GainSource> MixTask for MixWorker<K, G> {
 /// Makes one turn of the mixer and sends the datagram that it writes, once. Returns true if the turn took no mark and
 /// wrote no datagram.
 fn mix_once<K: Sink>(end: &mut MixEnd, sink: &mut K, counts: &mut SendCounts) -> bool
-    ensures { Mixes K.handed end.old sink.old counts.old.blocks result end.new sink.new counts.new.blocks }
+    ensures mixes { Mixes K.handed end.old sink.old counts.old.blocks result end.new sink.new counts.new.blocks }
+    ensures sums { KeepsSums counts.old (K.answered sink.old) counts.new (K.answered sink.new) }
 {
     let mut out = [0u8; MAX_OUTPUT_OCTETS];
     let len = end.datagram_len();
@@ -86,7 +89,8 @@ pub fn run_mixer<R: Wait, K: Sink>(
     ended: &[AtomicBool],
     stop: &AtomicBool,
 ) -> MixResult<K>
-    ensures { Mixes K.handed end sink 0 true result.end result.sink result.counts.blocks }
+    ensures mixes { Mixes K.handed end sink 0 true result.end result.sink result.counts.blocks }
+    ensures sums { CountsAnswers (K.answered sink) result.counts (K.answered result.sink) }
 {
     let (mixed, _) = run_mixer_with_gains(rt, end, sink, NoGains, ended, stop);
     mixed
@@ -102,8 +106,9 @@ pub fn run_mixer_with_gains<R: Wait, K: Sink, G: GainSource>(
     ended: &[AtomicBool],
     stop: &AtomicBool,
 ) -> (MixResult<K>, G)
-    ensures { MixesWith K.handed end sink 0 true result.0.end result.0.sink result.0.counts.blocks
+    ensures mixes { MixesWith K.handed end sink 0 true result.0.end result.0.sink result.0.counts.blocks
         (G.taken gains) (G.taken result.1) }
+    ensures sums { CountsAnswers (K.answered sink) result.0.counts (K.answered result.0.sink) }
 {
     let mut end = end;
     let mut sink = sink;

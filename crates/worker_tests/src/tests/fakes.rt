@@ -68,6 +68,8 @@ impl<'a, R: Abort> FailingSink<'a, R> {
 impl<'a, R: Abort> Sink for FailingSink<'a, R> {
     ghost handed = { λ sink. Some (map (λ datagram. datagram.items) sink.handed.items) };
 
+    ghost answered = { λ sink. None };
+
     fn send(&mut self, datagram: &[u8]) -> SendAnswer {
         let b = self.handed.len() < self.by_b;
         let Ok(copy) = Vec::from_slice(self.alloc, datagram) else {

@@ -186,6 +186,8 @@ impl<'a, R: Wait> HoldingSink<'a, R> {
 impl<'a, R: Wait> Sink for HoldingSink<'a, R> {
     ghost handed = { λ sink. None };
 
+    ghost answered = { λ sink. None };
+
     fn send(&mut self, datagram: &[u8]) -> SendAnswer {
         let before = self.asked.load(Ordering::SeqCst);
         for _ in 0..WAITS {

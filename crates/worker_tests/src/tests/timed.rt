@@ -66,6 +66,8 @@ pub(super) struct TimedSink<'a> {
 impl Sink for TimedSink<'_> {
     ghost handed = { λ sink. None };
 
+    ghost answered = { λ sink. None };
+
     fn send(&mut self, _datagram: &[u8]) -> SendAnswer {
         let kept = self.times.push(self.time.load(Ordering::SeqCst)).is_ok();
         SendAnswer { a: kept, b: kept }

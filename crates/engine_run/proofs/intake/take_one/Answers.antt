@@ -1,10 +1,11 @@
 use Rattle.std.proofs.lemmas.Grind.{elements}
-use Rattle.std.proofs.Common.{[], ◌∷◌, take, refl, arith}
+use Rattle.std.proofs.Common.{[], ◌∷◌, slice_get, take, refl, arith}
 use Rattle.studio_io.specs.declared.feed.FeedAnswer.TheVariants.{Datagram, Nothing, Fault, Ended}
 use Rattle.engine_run.proofs.AnswerLemmas.{goes-answer, goes-nowhere}
 use Rattle.engine_run.proofs.AskLemmas.{asks-answer, asks-ended}
 use Rattle.engine_run.proofs.TakeLemmas.{takes-none}
-use Rattle.engine_run.proofs.TellLemmas.{hears_one}
+use Rattle.studio_engine.proofs.EngineLemmas.{taken_arrival}
+use Rattle.engine_run.proofs.TellLemmas.{hears_one, stream_of}
 use Rattle.engine_run.proofs.intake.take_one.Goals as goal
 
 pub returns-then-reader-clause-takes : goal.returns-then-reader-clause-takes
@@ -12,13 +13,15 @@ returns-then-reader-clause-takes g c = λ studio events datagrams s. takes-none 
 
 pub returns-in_ok-outcome-in-Datagram-clause-takes : goal.returns-in_ok-outcome-in-Datagram-clause-takes
 returns-in_ok-outcome-in-Datagram-clause-takes g c = λ studio events datagrams s.
-    let stands = c.in_ok-outcome-in-Datagram.ensures.stands studio events datagrams s in (
+    let stands = c.in_ok-outcome-in-Datagram.ensures.stands studio events datagrams s in
+    let octets = take c.in-Datagram.count c.next-answer.new.buf in
+    let known = stream_of (slice_get studio.streams c.args.stream) 0 c.args.path (taken_arrival studio c.args.engine.now events datagrams c.args.stream c.args.path octets s c.in_ok-outcome-in-Datagram.ensures.fine 0) in (
       record {
         given = take c.in-Datagram.count c.next-answer.new.buf ∷ [];
         few = omega arith;
         stands = stands;
-        heard = hears_one studio.open_at events (g.T.RunObserver.heard c.args.observer.now) (g.T.RunObserver.heard c.arrived.new.self) c.args.stream c.args.path c.arrive.new.self.time (take c.in-Datagram.count c.next-answer.new.buf)
-            stands.time c.arrived.ensures.heard;
+        heard = hears_one studio.streams studio.open_at events (g.T.RunObserver.heard c.args.observer.now) (g.T.RunObserver.heard c.arrived.new.self) c.args.stream c.args.path c.arrive.new.self.time octets known.0 _
+            known.1 (c.in_ok-outcome-in-Datagram.ensures.outcome studio events datagrams known.0 s known.1) stands.time c.arrived.ensures.heard;
         goes_on = goes-answer g.F.Feed.told c.args.reader.now (record { feed = c.next-answer.new.self; state = c.note.new.self }) c.next-answer.new.buf _ (Datagram c.in-Datagram.count) c.in-Datagram.is c.if-reader.false c.note.ensures.noted (c.next-answer.ensures.tells c.requires.space);
         asks = asks-answer g.F.Feed.told c.args.reader.now (record { feed = c.next-answer.new.self; state = c.note.new.self }) c.next-answer.new.buf _ (Datagram c.in-Datagram.count) c.in-Datagram.is c.if-reader.false c.note.ensures.noted (c.next-answer.ensures.tells c.requires.space);
       },

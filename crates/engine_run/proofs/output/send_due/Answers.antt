@@ -5,6 +5,7 @@ use Rattle.mix_packets.specs.OutSpec.{datagram_length}
 use Rattle.studio_engine.specs.Session.{Gives, HasGivenReady, turned}
 use Rattle.studio_engine.proofs.EngineLemmas.{turned_same}
 use Rattle.engine_run.specs.Output.{HasSent}
+use Rattle.studio_io.proofs.SumLemmas.{sums-answer}
 use Rattle.engine_run.proofs.SendLemmas.{sent_more, sent_none, time_twice, turned_twice}
 use Rattle.engine_run.proofs.output.send_due.Goals as goal
 
@@ -18,6 +19,7 @@ loop-len-init g c = record {
       let count = c.args.counts.now.blocks in
       subst (λ l. HasSent studio c.args.engine.now l datagrams handed handed count count) (turned_same c.args.engine.now.time c.args.engine.now.time events refl)
       (sent_none studio c.args.engine.now events datagrams handed count s);
+  sums = λ first h. h;
 }
 
 pub loop-len-preserved : goal.loop-len-preserved
@@ -45,6 +47,7 @@ loop-len-preserved g c =
           (subst (λ l. Gives studio c.turn.new.self l (datagrams ++ before.more) c.loop-len.out c.turn.new.out c.in-Some.len) (turned_twice now first mid last events inv.time c.in_ok-len.ensures.time)
           (gives studio (turned first mid events) (datagrams ++ before.more) before.stands))
           c.send-answer.ensures.handed c.add.ensures.blocks;
+      sums = λ first h. sums-answer c.loop-len.counts c.add.new.self c.send-answer.result c.add.ensures.blocks c.add.ensures.sent_a c.add.ensures.sent_b _ _ c.send-answer.ensures.answered first (inv.sums first h);
     }
 
 pub returns-clause-sent : goal.returns-clause-sent
@@ -76,3 +79,9 @@ slice_bounds-send-end c = grind (arith, elements)
 
 pub loop-len-smaller : goal.loop-len-smaller
 loop-len-smaller c = grind (arith, elements)
+
+pub returns-clause-sums : goal.returns-clause-sums
+returns-clause-sums g c = c.loop-len.invariant.sums
+
+pub returns-in_err-len-clause-sums : goal.returns-in_err-len-clause-sums
+returns-in_err-len-clause-sums g c = c.loop-len.invariant.sums

@@ -1,6 +1,7 @@
 use Rattle.std.proofs.lemmas.Grind.{elements}
 use Rattle.std.proofs.Common.{◌≡◌, ◌≤◌, ◌++◌, length, refl, sym, ap, subst, ◌∙◌, arith}
 use Rattle.mix_packets.specs.OutSpec.{datagram_length}
+use Rattle.studio_io.proofs.SumLemmas.{sums-answer}
 use Rattle.engine_run.proofs.SendLemmas.{sent_more, sent_none}
 use Rattle.engine_run.proofs.output.send_rest.Goals as goal
 
@@ -10,6 +11,7 @@ loop-len-init g c = record {
   space = refl;
   short = subst (λ n. n ≤ 1452) (c.datagram_len-short.ensures.value ∙ ap datagram_length c.output.ensures) c.datagram_len-short.ensures.short;
   sent = λ studio events datagrams s. sent_none studio c.args.engine.now events datagrams (g.K.Sink.handed c.args.sink.now) c.args.counts.now.blocks s;
+  sums = λ first h. h;
 }
 
 pub loop-len-preserved : goal.loop-len-preserved
@@ -32,6 +34,7 @@ loop-len-preserved g c =
           c.loop-len.out c.drain.new.out c.in-Some.len same within before
           (gives studio events (datagrams ++ before.more) before.stands)
           c.send-answer.ensures.handed c.add.ensures.blocks;
+      sums = λ first h. sums-answer c.loop-len.counts c.add.new.self c.send-answer.result c.add.ensures.blocks c.add.ensures.sent_a c.add.ensures.sent_b _ _ c.send-answer.ensures.answered first (inv.sums first h);
     }
 
 pub returns-clause-sent : goal.returns-clause-sent
@@ -41,3 +44,6 @@ returns-clause-sent g c = λ studio events datagrams s.
 
 pub slice_bounds-send-end : goal.slice_bounds-send-end
 slice_bounds-send-end c = grind (arith, elements)
+
+pub returns-clause-sums : goal.returns-clause-sums
+returns-clause-sums g c = c.loop-len.invariant.sums

@@ -15,3 +15,9 @@ returns-clause-done g c = λ e studio all clock before earlier ended h.
 
 pub returns-then-is_err-clause-done : goal.returns-then-is_err-clause-done
 returns-then-is_err-clause-done c = grind (arith, elements)
+
+pub returns-clause-sums : goal.returns-clause-sums
+returns-clause-sums g c = c.send_rest.ensures.sums
+
+pub returns-then-is_err-clause-sums : goal.returns-then-is_err-clause-sums
+returns-then-is_err-clause-sums g c = λ first h. h

@@ -1,6 +1,7 @@
 use Rattle.std.proofs.Common.{◌≡◌, true, List, length, map, refl, sym, ap, subst, ◌∙◌}
 use Rattle.std.proofs.lemmas.Bool.{false≢true}
 use Rattle.rtp_stream.specs.declared.stream_spec.Stream.{Stream}
+use Rattle.studio_io.proofs.SumLemmas.{sums-none, sums-reported}
 use Rattle.studio_mix.specs.Changed.{with_changes}
 use Rattle.engine_run.specs.Grouping.{grouped, path_total}
 use Rattle.engine_run.specs.Rounds.{events_of}
@@ -51,3 +52,10 @@ returns-clause-feeds g c whole =
 
 pub returns-clause-noted : goal.returns-clause-noted
 returns-clause-noted g c = noted_same _ _ _ _ _ c.run_rounds-ended.ensures.noted (ap g.T.RunObserver.noted c.in_ok-report.ensures.observer ∙ c.settle.ensures.noted)
+
+pub returns-clause-sums : goal.returns-clause-sums
+returns-clause-sums g c =
+    let answered = g.K.Sink.answered in
+    let before = answered c.args.devices.sink in
+    sums-reported answered before c.settle.new.state.counts c.in_ok-report.report c.settle.new.state.sink c.in_ok-report.sink c.in_ok-report.ensures.numbers c.in_ok-report.ensures.sink
+    (c.settle.ensures.sums before (c.run_rounds-ended.ensures.sums before (sums-none c.new-3.result before c.new-3.ensures)))

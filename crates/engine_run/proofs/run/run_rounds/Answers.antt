@@ -10,6 +10,7 @@ loop-init g c = record {
   gains = refl;
   on = λ studio all clock before earlier h. run-as-it-was g.F.Feed.told g.C.Clock.told g.K.Sink.handed g.T.RunObserver.heard studio all clock before earlier _ _ h;
   noted = noted_none (g.G.GainSource.taken c.args.gains.now) (g.T.RunObserver.noted c.args.state.now.observer);
+  sums = λ first h. h;
 }
 
 pub returns-in-Ok-None-clause-on : goal.returns-in-Ok-None-clause-on
@@ -30,6 +31,7 @@ loop-preserved g c = record {
       run-took-more g.F.Feed.told g.C.Clock.told g.K.Sink.handed g.T.RunObserver.heard studio all clock before earlier _ _ _ _ _ first
       (c.in-Ok-Some.ensures.on (with_changes studio first.changes) all clock before earlier first.run);
   noted = noted_more _ _ _ _ _ _ c.loop.invariant.noted c.round.ensures.noted;
+  sums = λ first h. c.round.ensures.sums first (c.loop.invariant.sums first h);
 }
 
 pub returns-in-Ok-None-clause-noted : goal.returns-in-Ok-None-clause-noted
@@ -37,3 +39,9 @@ returns-in-Ok-None-clause-noted g c = noted_more _ _ _ _ _ _ c.loop.invariant.no
 
 pub returns-in-Err-clause-noted : goal.returns-in-Err-clause-noted
 returns-in-Err-clause-noted g c = noted_more _ _ _ _ _ _ c.loop.invariant.noted c.round.ensures.noted
+
+pub returns-in-Ok-None-clause-sums : goal.returns-in-Ok-None-clause-sums
+returns-in-Ok-None-clause-sums g c = λ first h. c.round.ensures.sums first (c.loop.invariant.sums first h)
+
+pub returns-in-Err-clause-sums : goal.returns-in-Err-clause-sums
+returns-in-Err-clause-sums g c = λ first h. c.round.ensures.sums first (c.loop.invariant.sums first h)

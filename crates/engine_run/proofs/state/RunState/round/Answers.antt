@@ -20,3 +20,20 @@ returns-clause-on g c = λ studio all clock before earlier h.
 pub returns-clause-noted : goal.returns-clause-noted
 returns-clause-noted g c = noted_same _ _ _ _ _ c.ask.ensures.noted
     (c.take.ensures.noted ∙ (ap g.T.RunObserver.noted c.turn_if_stale.ensures.observer ∙ (c.notify_before_wait.ensures.noted ∙ ap g.T.RunObserver.noted c.turn.ensures.observer)))
+
+pub returns-then-have_all_ended-clause-sums : goal.returns-then-have_all_ended-clause-sums
+returns-then-have_all_ended-clause-sums g c = λ first h. c.turn.ensures.sums first (c.ask.ensures.sums first h)
+
+pub returns-clause-sums : goal.returns-clause-sums
+returns-clause-sums g c = λ first h.
+    c.take.ensures.sums first (c.turn_if_stale.ensures.sums first (c.notify_before_wait.ensures.sums first (c.turn.ensures.sums first (c.ask.ensures.sums first h))))
+
+pub returns-in_err-turn-clause-sums : goal.returns-in_err-turn-clause-sums
+returns-in_err-turn-clause-sums g c = λ first h. c.turn.ensures.sums first (c.ask.ensures.sums first h)
+
+pub returns-in_err-turn_if_stale-clause-sums : goal.returns-in_err-turn_if_stale-clause-sums
+returns-in_err-turn_if_stale-clause-sums g c = λ first h. c.turn_if_stale.ensures.sums first (c.notify_before_wait.ensures.sums first (c.turn.ensures.sums first (c.ask.ensures.sums first h)))
+
+pub returns-in_err-most-clause-sums : goal.returns-in_err-most-clause-sums
+returns-in_err-most-clause-sums g c = λ first h.
+    c.take.ensures.sums first (c.turn_if_stale.ensures.sums first (c.notify_before_wait.ensures.sums first (c.turn.ensures.sums first (c.ask.ensures.sums first h))))

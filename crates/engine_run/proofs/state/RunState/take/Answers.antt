@@ -12,3 +12,9 @@ returns-clause-on g c = λ studio all clock before earlier h.
     take-more g.F.Feed.told g.C.Clock.told g.K.Sink.handed g.T.RunObserver.heard studio all clock before earlier old _ h lent c.take_all.new.streams (length lent) refl
     (sym c.as_mut_slice.ensures.value) kept refl refl refl
     (c.in_ok-most.ensures.takes studio (events_by studio.open_at h.run.rounds) h.run.datagrams h.run.stands)
+
+pub returns-clause-sums : goal.returns-clause-sums
+returns-clause-sums g c = λ first h. h
+
+pub returns-in_err-most-clause-sums : goal.returns-in_err-most-clause-sums
+returns-in_err-most-clause-sums g c = λ first h. h

@@ -16,3 +16,9 @@ returns-clause-on g c = λ studio all clock before earlier h.
     there ∙ c.greatest-now.ensures ∙ ap (λ t. time_with t (to_z w64 (of_z w64 c.now-answer.result))) (time ∙ c.time.ensures.value) ∙ ap (time_with old.engine.time) answer in
     turn-more g.F.Feed.told g.C.Clock.told g.K.Sink.handed g.T.RunObserver.heard studio all clock before earlier old _ h c.now-answer.result now
     now_is c.now-answer.ensures.tells (c.in_ok-send_due.ensures.sent studio events h.datagrams h.stands) (c.in_ok-send_due.ensures.there studio events h.datagrams h.stands) refl refl
+
+pub returns-clause-sums : goal.returns-clause-sums
+returns-clause-sums g c = c.send_due.ensures.sums
+
+pub returns-in_err-send_due-clause-sums : goal.returns-in_err-send_due-clause-sums
+returns-in_err-send_due-clause-sums g c = c.send_due.ensures.sums
