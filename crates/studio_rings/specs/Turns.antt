@@ -1,11 +1,12 @@
 -- The turns of a stream's worker.
-use Rattle.std.specs.Prelude.{◌≡◌, ◌⊎◌, ℕ, suc, ◌+◌, ◌≤◌, true, false, List, [], ◌∷◌, ◌++◌, length, ℤ, ◌≤ℤ◌, IfSome}
+use Rattle.std.specs.Prelude.{◌≡◌, ◌⊎◌, ℕ, suc, ◌+◌, ◌≤◌, true, false, List, [], ◌∷◌, ◌++◌, length, ℤ, pos, ◌≤ℤ◌, ◌<ℤ◌, ◌+ℤ◌, IfSome}
 use Rattle.rtrb.specs.Ring.{all_sent, known_free, sent, producer_capacity, SameConsumer, SameProducer}
 use Rattle.rtp_stream.specs.declared.stream_spec.Stream.{Stream}
 use Rattle.rtp_stream.specs.declared.packet.Packet.{Packet}
 use Rattle.rtp_stream.specs.declared.event.Event.{Event}
 use Rattle.rtp_stream.specs.declared.event.Event.TheVariants.{Close}
 use Rattle.studio_ends.specs.Fitting.{fitting}
+use Rattle.studio_ends.specs.StreamTurns.{AllTakePackets}
 use Rattle.studio_ends.specs.Streams.{StreamHasHistory, packets_by}
 use Rattle.studio_ends.specs.declared.rings.TokenConsumer.{TokenConsumer}
 use Rattle.studio_ends.specs.declared.stream_end.StreamEnd.{StreamEnd}
@@ -60,6 +61,20 @@ pub record ReadsFirst (s : StreamEnd) (now : ℤ) (t : StreamEnd) : Type 0 where
 -- a turn reached the time, or sent at least 64 marks, or no free place in its ring is known at its end
 abbrev pub CatchesUp : StreamEnd → ℤ → StreamEnd → Type 0
 CatchesUp s time t = (t.merge.time ≡ time) ⊎ ((length (sent s.marks) + 64 ≤ length (sent t.marks)) ⊎ (known_free t.marks ≡ 0))
+
+-- until when packets wait after a clock reading: for 50 ms from it, if it comes more than 10 ms after the last one and the
+-- end had come to the last one by then; else as before
+pub record WaitsAfter (until time last now new_until : ℤ) : Type 0 where
+  pub begins : last ≤ℤ time → (last +ℤ pos 480) <ℤ now → new_until ≡ (now +ℤ pos 2400)
+  pub goes_on : (last ≤ℤ time → (last +ℤ pos 480) <ℤ now → ⊥) → new_until ≡ until
+
+-- packets wait at a reading before that time, if the end has not come to the last reading
+abbrev pub IsWaiting : ℤ → ℤ → ℤ → ℤ → Type 0
+IsWaiting time last now until = (time <ℤ last) × (now <ℤ until)
+
+-- of each path at least the packets that are known to be in its ring were taken, but at most 64
+abbrev pub TakesOfEach : StreamEnd → StreamEnd → Type 0
+TakesOfEach s t = (taken : List (List Packet)) × AllTakePackets s.sides.items t.sides.items taken
 
 -- a clock was read once, and the new time is the greatest so far, with this reading included
 pub record ReadsClockOnce {C : Type 0} (told : C → List ℤ) (clock : C) (time : ℤ) (later : C) (new_time : ℤ) : Type 0 where

@@ -1,7 +1,17 @@
 //! The turns of a stream at its clock's readings, and its close.
-ghost use Rattle.std.specs.Prelude.{◌≡◌, ◌↔◌, ◌^◌, ◌≤ℤ◌, ◌<ℤ◌, pos, false, IfOk, IfErr, IsTrue};
+ghost use Rattle.std.specs.Prelude.{◌≡◌, ◌↔◌, ◌^◌, ◌≤ℤ◌, pos, false, IfOk, IfErr, IsTrue};
 ghost use Rattle.studio_ends.specs.Streams.{ReadsClock, TakesTurn};
-ghost use Rattle.studio_rings.specs.Turns.{CatchesUp, Closes, GoesOn, KeepsTokens, ReadsClockOnce, ReadsFirst};
+ghost use Rattle.studio_rings.specs.Turns.{
+  CatchesUp,
+  Closes,
+  GoesOn,
+  IsWaiting,
+  KeepsTokens,
+  ReadsClockOnce,
+  ReadsFirst,
+  TakesOfEach,
+  WaitsAfter,
+};
 
 use crate::worker::Backoff;
 use crate::worker::clocked_stream::ClockedStream;
@@ -15,9 +25,8 @@ use studio_io::Clock;
 const MOST_BETWEEN: i64 = 480;
 
 /// The longest time that packets wait after a hold-up, in sampling instants: 50 ms.
-// Enough for what a stop of 200 ms leaves of a stream with packets of 125 microseconds. A stream whose latency is
-// shorter than another's can always be behind its clock, since the mixer takes its marks only when it needs them: its
-// packets must not wait for longer.
+// Enough for what a stop of 200 ms leaves of a stream with packets of 125 microseconds. A stream can be behind its
+// clock for another reason, as a mixer that takes no marks: its packets must not wait for longer.
 const LONGEST_WAIT: i64 = 2_400;
 
 /// Makes a turn at a reading that no clock fault refuses.
@@ -74,18 +83,24 @@ fn snooze_after<R: Wait>(rt: &R, pause: &mut Backoff, now: i64, note: &TurnNote)
     }
 }
 
-/// Returns the time until which packets wait after a reading, if the last one was at another time: a new one after a
-/// hold-up.
-fn wait_after(until: i64, last: i64, now: i64) -> i64 {
-    if now.saturating_sub(last) > MOST_BETWEEN {
-        return now.saturating_add(LONGEST_WAIT);
+/// Returns the time until which packets wait after a reading. `until` is the one before it, `time` that to which the
+/// end has come, and `last` the reading before.
+// A wait begins only if the end had come to the last reading. Else an end that stays behind would begin one at each
+// reading of a busy machine, and take no packet any more.
+fn wait_after(until: i64, time: i64, last: i64, now: i64) -> i64
+    requires last_high { last ≤ℤ pos (2 ^ 60) }
+    requires high { now ≤ℤ pos (2 ^ 60) }
+    ensures { WaitsAfter until time last now result }
+{
+    if last <= time && last + MOST_BETWEEN < now {
+        return now + LONGEST_WAIT;
     }
     until
 }
 
-/// Returns true if packets wait at a reading, since the end has not reached the last one.
+/// Returns true if packets wait at a reading, since the end has not come to the last one.
 fn must_wait(end: &StreamEnd, last: i64, now: i64, until: i64) -> bool
-    ensures { IsTrue result ↔ ((end.now.merge.time <ℤ last) × (now <ℤ until)) }
+    ensures { IsTrue result ↔ IsWaiting end.now.merge.time last now until }
 {
     end.time() < last && now < until
 }
@@ -109,14 +124,18 @@ impl<C: Clock> ClockedStream<C> {
         ensures later { GoesOn C.told self.old self.new }
         ensures time { ReadsClockOnce C.told self.old.clock self.old.now self.new.clock self.new.now }
         ensures caught_up { CatchesUp self.old.end self.new.now self.new.end }
-        ensures punctual { self.old.end.merge.time <ℤ self.old.now → self.new.now <ℤ self.new.waits_until
+        ensures waits { WaitsAfter self.old.waits_until self.old.end.merge.time self.old.now self.new.now
+            self.new.waits_until }
+        ensures punctual { IsWaiting self.old.end.merge.time self.old.now self.new.now self.new.waits_until
             → self.new.end.sides ≡ self.old.end.sides }
+        ensures takes { (IsWaiting self.old.end.merge.time self.old.now self.new.now self.new.waits_until → ⊥)
+            → TakesOfEach self.old.end self.new.end }
         ensures tokens { KeepsTokens self.old.end.sides.items self.new.end.sides.items }
     {
         let last = self.now;
         // A reading before the last one or after 2^60 would be a clock fault, whatever the clock returns.
         self.now = self.clock.now().clamp(self.now, MAX_TIME);
-        self.waits_until = wait_after(self.waits_until, last, self.now);
+        self.waits_until = wait_after(self.waits_until, self.end.time(), last, self.now);
         if must_wait(&self.end, last, self.now, self.waits_until) {
             let why = read_at(&mut self.end, self.now);
             snooze_without_room(rt, &mut self.pause, self.now, why);

@@ -1,4 +1,4 @@
-use Rattle.std.proofs.Common.{◌≡◌, ◌∙◌, to_z, of_z, w64, rules, ap}
+use Rattle.std.proofs.Common.{◌≡◌, ◌∙◌, ◌<ℤ◌, true, false, to_z, of_z, w64, rules, ap, refl, subst, sym}
 use Rattle.studio_rings.proofs.StreamTurnLemmas.{catches-up, goes-reading, goes-turn, reads-up, tokens-taken, took-first}
 use Rattle.studio_rings.proofs.worker.clocked_stream.ClockedStream.turn.Goals as goal
 
@@ -53,3 +53,27 @@ returns-then-must_wait-clause-time g c =
       tells = c.now.ensures.tells;
       time_is = at ∙ (rw (was, answer) at c.clamp-self.ensures.value);
     }
+
+pub returns-clause-takes : goal.returns-clause-takes
+returns-clause-takes g c =
+    let n = c.turn_at-note.ensures in
+    λ free. (n.taken, took-first c.args.self.now.end c.read_first.new.end c.turn_at-note.new.end n.taken c.read_first.ensures.sides n.took)
+
+pub returns-then-must_wait-clause-takes : goal.returns-then-must_wait-clause-takes
+returns-then-must_wait-clause-takes g c =
+    let was : to_z w64 (of_z w64 c.args.self.now.now) ≡ c.args.self.now.now = search rules in
+    let at : to_z w64 (of_z w64 c.clamp-self.result) ≡ c.clamp-self.result = search rules in
+    let until : to_z w64 (of_z w64 c.wait_after-self.result) ≡ c.wait_after-self.result = search rules in
+    λ free. absurd (free (rw (was, ap (λ z. to_z w64 (of_z w64 z)) at, ap (λ z. to_z w64 (of_z w64 z)) until) at (c.if-must_wait.ensures.0 refl)))
+
+pub returns-clause-punctual : goal.returns-clause-punctual
+returns-clause-punctual g c =
+    let was : to_z w64 (of_z w64 c.args.self.now.now) ≡ c.args.self.now.now = search rules in
+    let at : to_z w64 (of_z w64 c.clamp-self.result) ≡ c.clamp-self.result = search rules in
+    let until : to_z w64 (of_z w64 c.wait_after-self.result) ≡ c.wait_after-self.result = search rules in
+    λ waiting.
+    let behind = subst (λ last. c.args.self.now.end.merge.time <ℤ last) (sym was) waiting.0 in
+    let sooner = subst (λ now. now <ℤ to_z w64 (of_z w64 c.wait_after-self.result)) (sym (ap (λ z. to_z w64 (of_z w64 z)) at)) waiting.1 in
+    let both = subst (λ u. to_z w64 (of_z w64 (to_z w64 (of_z w64 c.clamp-self.result))) <ℤ u) (sym (ap (λ z. to_z w64 (of_z w64 z)) until)) sooner in
+    let waits : false ≡ true = c.if-must_wait.ensures.1 (behind, both) in
+    absurd (cc)
