@@ -69,7 +69,7 @@ program := crates/studio_main/out/studio_main
 scripts := memory/check tests/captures tests/sdp tests/package tests/library diff/run $(addprefix examples/,check faults statuses blocks wav chart)
 # Live runs wait for most of their time, so three of them leave a processor free. The longest begin first. What a busy machine would
 # disturb all the same, because other programs send or listen, runs alone behind them.
-live := loopback page numbers desk library control files sockets faders ends demo
+live := loopback page numbers desk library control files sockets latencies faders ends demo
 
 try:
 	@gate/try
@@ -84,7 +84,7 @@ test:
 	gate/tries tests/senders $(program)
 	gate/tries tests/holdups $(program)
 	@cat bin/gate-time
-	@echo "gate: pages, proofs, edits, tests, examples, faults, statuses, blocks, WAV files, charts, captures, SDP files, package, library, engine, memory, live runs, their files, pages, numbers, faders, control, a desk, the demo, networks, senders and hold-ups passed in $$(( ($$(date +%s) - $$(cat bin/gate-begun)) / 60 )) minutes"
+	@echo "gate: pages, proofs, edits, tests, examples, faults, statuses, blocks, WAV files, charts, captures, SDP files, package, library, engine, memory, live runs, their files, pages, numbers, latencies, faders, control, a desk, the demo, networks, senders and hold-ups passed in $$(( ($$(date +%s) - $$(cat bin/gate-begun)) / 60 )) minutes"
 
 %.ran:
 	$* $(program)

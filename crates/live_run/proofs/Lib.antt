@@ -3,3 +3,4 @@ pub mod ReportLemmas
 pub mod LatestStatsLemmas
 pub mod StreamStatusLemmas
 pub mod RunLemmas
+mod RingPlacesCases

@@ -8,11 +8,12 @@ use Rattle.studio_io.specs.declared.report.WorkReport.{WorkReport}
 use Rattle.live_run.specs.RunText.{BreaksOffRun, FailsRun}
 use Rattle.live_run.specs.RunResult.{IsEarly, IsRunOf, IsRunWith, IsSettledIf, IsSettledIn, IsSettledWith}
 use Rattle.live_run.specs.declared.fault.LiveFault.{LiveFault}
-use Rattle.live_run.specs.declared.fault.LiveFault.TheVariants.{Memory, Socket, Page, Thread, OutputExists, Output, Unsettled, Write}
+use Rattle.live_run.specs.declared.fault.LiveFault.TheVariants.{Memory, Socket, Latencies, Page, Thread, OutputExists, Output, Unsettled, Write}
 
 early_writes_nothing : (one controlled : Bool) (studio : Studio) (written : Option (List ℕ)) (fault : LiveFault) → IsEarly fault → FailsRun one controlled studio written written fault
 early_writes_nothing one controlled studio written Memory early = refl
 early_writes_nothing one controlled studio written Socket early = refl
+early_writes_nothing one controlled studio written Latencies early = refl
 early_writes_nothing one controlled studio written Page early = refl
 early_writes_nothing one controlled studio written (OutputExists kind) early = refl
 early_writes_nothing one controlled studio written (Output kind) early = refl

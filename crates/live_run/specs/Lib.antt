@@ -5,3 +5,4 @@ pub mod StreamStatus
 pub mod RunText
 pub mod PathPlace
 pub mod ShownHealth
+pub mod RingPlaces

@@ -8,7 +8,7 @@ use Rattle.engine_run.specs.Grouping.{path_total}
 use Rattle.engine_run.specs.Runs.{IsSettledRun as IsSettledAlone, IsSettledRunWith as IsSettledAloneWith}
 use Rattle.studio_io.specs.declared.report.WorkReport.{WorkReport}
 use Rattle.live_run.specs.declared.fault.LiveFault.{LiveFault}
-use Rattle.live_run.specs.declared.fault.LiveFault.TheVariants.{Memory, Socket, Page, Thread, OutputExists, Output, Unsettled, Write}
+use Rattle.live_run.specs.declared.fault.LiveFault.TheVariants.{Memory, Socket, Latencies, Page, Thread, OutputExists, Output, Unsettled, Write}
 
 -- there is a feed for each path, which returns these answers
 abbrev pub HasFeeds : Studio → List (List Answer) → Type 0
@@ -45,6 +45,7 @@ pub record IsRunWith (one_thread : Bool) (studio : Studio) (report : WorkReport)
 abbrev pub IsEarly : LiveFault → Type 0
 IsEarly Memory = Unit {0}
 IsEarly Socket = Unit {0}
+IsEarly Latencies = Unit {0}
 IsEarly Page = Unit {0}
 IsEarly Thread = Unit {0}
 IsEarly (OutputExists kind) = Unit {0}

@@ -7,7 +7,7 @@ use Rattle.studio_io.specs.declared.report.WorkReport.{WorkReport}
 use Rattle.live_run.specs.Report.{report_text}
 use Rattle.live_run.specs.RunResult.{IsRunOf}
 use Rattle.live_run.specs.declared.fault.LiveFault.{LiveFault}
-use Rattle.live_run.specs.declared.fault.LiveFault.TheVariants.{Memory, Socket, Page, Thread, OutputExists, Output, Unsettled, Write}
+use Rattle.live_run.specs.declared.fault.LiveFault.TheVariants.{Memory, Socket, Latencies, Page, Thread, OutputExists, Output, Unsettled, Write}
 
 -- the report of a run was written, settled or not
 pub record WritesRun (one_thread controlled : Bool) (studio : Studio) (settled : Bool) (written written_then : Option (List ℕ)) : Type 0 where
@@ -26,6 +26,7 @@ pub record BreaksOffRun (one_thread controlled : Bool) (studio : Studio) (writte
 abbrev pub FailsRun : Bool → Bool → Studio → Option (List ℕ) → Option (List ℕ) → LiveFault → Type 0
 FailsRun one_thread controlled studio written written_then Memory = written_then ≡ written
 FailsRun one_thread controlled studio written written_then Socket = written_then ≡ written
+FailsRun one_thread controlled studio written written_then Latencies = written_then ≡ written
 FailsRun one_thread controlled studio written written_then Page = written_then ≡ written
 FailsRun one_thread controlled studio written written_then (OutputExists kind) = written_then ≡ written
 FailsRun one_thread controlled studio written written_then (Output kind) = written_then ≡ written

@@ -22,6 +22,9 @@ pub enum LiveFault {
     /// A socket could not be opened, bound or configured, or there is not one for each path.
     #[error("device: socket")]
     Socket,
+    /// The latencies of the streams differ by more than the rings between workers hold.
+    #[error("live: latencies")]
+    Latencies,
     /// The port of the page could not be bound.
     #[error("device: socket page")]
     Page,

@@ -4,6 +4,7 @@
 ghost use Rattle.std.specs.Prelude.{◌≡◌, false, is_some, length, IfOk, IfErr};
 ghost use Rattle.std.specs.Thread.{IsSync};
 ghost use Rattle.studio_rings.specs.StreamResults.{AreOpenedTogether};
+ghost use Rattle.live_run.specs.RingPlaces.{ring_places};
 ghost use Rattle.live_run.specs.RunResult.{IsEarly, IsRunOf};
 
 use crate::context::RunContext;
@@ -87,7 +88,7 @@ pub(crate) fn run_in_workers<
         start,
         move || -> Result<WorkReport, LiveFault>
             requires sync { IsSync R.row }
-            requires opened { AreOpenedTogether studio.now 256 workers.ends }
+            requires opened { AreOpenedTogether studio.now (ring_places studio.now) workers.ends }
             requires feeds { length workers.feeds.items ≡ length workers.ends.paths.items }
             requires clocks { length workers.clocks.items ≡ length workers.ends.streams.items }
             ensures run { IfOk result (IsRunOf false (is_some gains.entry) studio.entry.now) }

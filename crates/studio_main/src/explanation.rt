@@ -20,6 +20,10 @@ const CLOCK: &str =
 /// The explanation of a thread that could not be started.
 const THREAD: &str = "the system has no room for another thread (ulimit -u, TasksMax)";
 
+/// The explanation of latencies that differ too much for a run by workers.
+const LATENCIES: &str =
+    "by workers, latencies may differ by at most 65280 packets of the stream with the shorter one: use --one-thread";
+
 /// The explanation of raw PCM that would go to a terminal.
 pub(crate) const TERMINAL: &str =
     "standard output is a terminal, which is no reader of samples: pass them on through a pipe, or name a FIFO or a file";
@@ -115,6 +119,7 @@ fn explanation_of<R: Net, H: SystemErrors>(
         }
         LiveFault::Page => Ok(args.options.page.map(|port| page_explanation(rt, port))),
         LiveFault::Thread => Ok(Some(Explanation::Text(THREAD))),
+        LiveFault::Latencies => Ok(Some(Explanation::Text(LATENCIES))),
         LiveFault::Memory | LiveFault::Socket | LiveFault::Unsettled | LiveFault::Write => Ok(None),
     }
 }

@@ -1,6 +1,7 @@
 //! The ends of the rings, the feeds, the clocks and the sink of a run's workers.
 ghost use Rattle.std.specs.Prelude.{◌≡◌, [], false, is_some, length, IfOk, IfErr};
 ghost use Rattle.studio_rings.specs.StreamResults.{AreOpenedTogether};
+ghost use Rattle.live_run.specs.RingPlaces.{ring_places};
 ghost use Rattle.live_run.specs.RunResult.{IsEarly, IsRunOf, IsRunWith};
 
 use crate::fault::LiveFault;
@@ -78,7 +79,7 @@ pub(crate) fn run_controlled<'a, R: Threads + Wait + Sync + Clock, M: MixOutput>
     workers: WorkerRun<'a, R, M>,
     gains: Option<RunGains<'a, R>>,
 ) -> Result<WorkReport, LiveFault>
-    requires opened { AreOpenedTogether studio.now 256 workers.ends }
+    requires opened { AreOpenedTogether studio.now (ring_places studio.now) workers.ends }
     requires feeds { length workers.feeds.items ≡ length workers.ends.paths.items }
     requires clocks { length workers.clocks.items ≡ length workers.ends.streams.items }
     ensures run { IfOk result (IsRunOf false (is_some gains.entry) studio.now) }
@@ -100,7 +101,7 @@ impl<R: Threads + Wait + Sync + Clock, M: MixOutput> WorkerRun<'_, R, M> {
         studio: &StudioSpec,
         gains: G,
     ) -> Result<WorkReport, LiveFault>
-        requires opened { AreOpenedTogether studio.now 256 self.ends }
+        requires opened { AreOpenedTogether studio.now (ring_places studio.now) self.ends }
         requires feeds { length self.feeds.items ≡ length self.ends.paths.items }
         requires clocks { length self.clocks.items ≡ length self.ends.streams.items }
         ensures run { IfOk result (λ report. (after : G)
