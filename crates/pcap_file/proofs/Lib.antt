@@ -8,6 +8,7 @@ pub mod BlockParserLemmas
 pub mod SectionLemmas
 mod ReadBufferLemmas
 mod ReaderLemmas
+mod DescribedLemmas
 pub mod ReaderEntryLemmas
 mod PiecesLemmas
 mod OverwritesLemmas

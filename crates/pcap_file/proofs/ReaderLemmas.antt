@@ -103,7 +103,7 @@ left_of len held rest within =
     ∙ ap (λ l. l ++ rest) (sym (drop-append-le len (take 983040 held) (drop 983040 held) within) ∙ ap (drop len) (take-append-drop 983040 held))
 
 -- what holds of the octets of `front` holds of all that the buffer has
-lent_as : {X : Type 0} (f : List ℕ → X) (x : List ℕ → X) (parts : BlockParser) (held rest : List ℕ) (ended : Bool) (front : List ℕ) → front ≡ take 983040 held → IsFilled parts held ended → (ended ≡ true → rest ≡ [])
+pub lent_as : {X : Type 0} (f : List ℕ → X) (x : List ℕ → X) (parts : BlockParser) (held rest : List ℕ) (ended : Bool) (front : List ℕ) → front ≡ take 983040 held → IsFilled parts held ended → (ended ≡ true → rest ≡ [])
     → ((rest : List ℕ) → (is_cut_in parts front ≡ false) ⊎ (rest ≡ []) → f (front ++ rest) ≡ x rest) → f (held ++ rest) ≡ x (drop 983040 held ++ rest)
 lent_as f x parts held rest ended front is filled end says =
     let next : (rest : List ℕ) → (is_cut_in parts (take 983040 held) ≡ false) ⊎ (rest ≡ []) → f (take 983040 held ++ rest) ≡ x rest =

@@ -15,6 +15,7 @@ pub mod BlockParser
 pub mod Entries
 pub mod ReadBuffer
 pub mod Reader
+pub mod Described
 pub mod Overwrites
 pub mod RecordedDatagram
 pub mod RecordedChange

@@ -13,6 +13,7 @@ ghost use Rattle.std.specs.Prelude.{
   [],
   false,
   drop,
+  take,
   length,
   option_map,
   IfOk,
@@ -24,6 +25,7 @@ ghost use Rattle.pcap_file.specs.Capture.{HasRead, packets_of, with_packet};
 ghost use Rattle.pcap_file.specs.Packet.{packet_view};
 ghost use Rattle.pcap_file.specs.InterfaceTexts.{texts_as, texts_view};
 ghost use Rattle.pcap_file.specs.Entries.{entries_at, entries_in, entries_of};
+ghost use Rattle.pcap_file.specs.Described.{interfaces_of, texts_at, texts_with};
 ghost use Rattle.pcap_file.specs.BlockParser.{IsEnough, is_cut_in, items_at, state_at};
 
 use crate::capture::is_pcapng;
@@ -63,6 +65,8 @@ impl BlockParser {
             → packets_of (front.now ++ rest) ≡ items_at parts (drop parts.place (front.now ++ rest))) }
         ensures entries { IfOk result (λ parts. (rest : List ℕ) → IsEnough front.now rest
             → entries_of (front.now ++ rest) ≡ entries_at parts (drop parts.place (front.now ++ rest))) }
+        ensures texts { IfOk result (λ parts. (rest : List ℕ) → IsEnough front.now rest
+            → interfaces_of (front.now ++ rest) ≡ texts_at parts (drop parts.place (front.now ++ rest))) }
         ensures place { IfOk result (λ parts. parts.place ≤ length front.now) }
         ensures fault { IfErr result (λ fault. (rest : List ℕ) → IsEnough front.now rest
             → packets_of (front.now ++ rest) ≡ Err fault ∷ []) }
@@ -136,12 +140,19 @@ impl BlockParser {
             → entries_at self.old (front.now ++ rest)
             ≡ entries_in (option_map packet_view part.packet) part.mark
             ++ entries_at self.new (drop part.len front.now ++ rest)) }
+        ensures texts { IfOk result (λ part. (rest : List ℕ) → (is_cut_in self.old front.now ≡ false) ⊎ (rest ≡ [])
+            → texts_at self.old (front.now ++ rest)
+            ≡ texts_with (option_map packet_view part.packet)
+            (texts_as self.new.format self.new.section.order (take part.len front.now))
+            (texts_at self.new (drop part.len front.now ++ rest))) }
         ensures len { IfOk result (λ part. (1 ≤ part.len) × (part.len ≤ length front.now)
             × (self.new.place ≡ self.old.place + part.len)) }
         ensures fault { IfErr result (λ fault. (rest : List ℕ) → (is_cut_in self.old front.now ≡ false) ⊎ (rest ≡ [])
             → items_at self.old (front.now ++ rest) ≡ Err fault ∷ []) }
         ensures no_entry { OnErr result ((rest : List ℕ) → (is_cut_in self.old front.now ≡ false) ⊎ (rest ≡ [])
             → entries_at self.old (front.now ++ rest) ≡ []) }
+        ensures no_text { OnErr result ((rest : List ℕ) → (is_cut_in self.old front.now ≡ false) ⊎ (rest ≡ [])
+            → texts_at self.old (front.now ++ rest) ≡ []) }
     {
         match self.read(front) {
             Ok(part) => {

@@ -18,12 +18,16 @@ ghost use Rattle.std.specs.Prelude.{
   IfOk,
   IfErr,
   OnOk,
+  OnErr,
   IfSome,
   Some,
+  option_map,
 };
 ghost use Rattle.pcap_file.specs.Entries.{Entry};
 ghost use Rattle.pcap_file.specs.ReadBuffer.{octets_of, Reads};
-ghost use Rattle.pcap_file.specs.InterfaceTexts.{texts_as, texts_view};
+ghost use Rattle.pcap_file.specs.Described.{DescribesNext, HasDescribed, interfaces_of};
+ghost use Rattle.pcap_file.specs.InterfaceTexts.{TextsView, texts_as, texts_view};
+ghost use Rattle.pcap_file.specs.Packet.{packet_view};
 ghost use Rattle.pcap_file.specs.Reader.{
   EndsWith,
   HasEntries,
@@ -65,6 +69,8 @@ pub fn open_reader<R: Read>(
 ) -> Result<(ReadBuffer, BlockParser), ReaderFault>
     ensures returned { IfOk result (λ opened. IfSome (R.remaining reader.old) (λ file.
         HasReturned file [] (R.remaining reader.new) opened.1 (octets_of opened.0) opened.0.ended)) }
+    ensures described { IfOk result (λ opened. IfSome (R.remaining reader.old) (λ file.
+        HasDescribed file [] (R.remaining reader.new) opened.1 (octets_of opened.0) opened.0.ended)) }
     ensures fault { IfErr result (λ fault. IfSome (R.remaining reader.old) (λ file. IsOpenFault file fault)) }
 {
     let mut window = ReadBuffer::new(alloc)?;
@@ -109,10 +115,16 @@ pub fn has_block<R: Read>(
     ensures returned { OnOk result ((file : List ℕ) (entries : List Entry)
         → HasReturned file entries (R.remaining reader.old) parts.now (octets_of window.old) window.old.ended
         → HasReturned file entries (R.remaining reader.new) parts.now (octets_of window.new) window.new.ended) }
+    ensures described { OnOk result ((file : List ℕ) (texts : List TextsView)
+        → HasDescribed file texts (R.remaining reader.old) parts.now (octets_of window.old) window.old.ended
+        → HasDescribed file texts (R.remaining reader.new) parts.now (octets_of window.new) window.new.ended) }
     ensures next { IfOk result (λ some. some ≡ true → IsNext parts.now (octets_of window.new) window.new.ended) }
     ensures end { IfOk result (λ some. some ≡ false → (file : List ℕ) (entries : List Entry)
         → HasReturned file entries (R.remaining reader.old) parts.now (octets_of window.old) window.old.ended
         → HasEntries file entries) }
+    ensures all { IfOk result (λ some. some ≡ false → (file : List ℕ) (texts : List TextsView)
+        → HasDescribed file texts (R.remaining reader.old) parts.now (octets_of window.old) window.old.ended
+        → interfaces_of file ≡ texts) }
     ensures none { IfOk result (λ some. some ≡ false → octets_of window.new ≡ []) }
     ensures fault { IfErr result (λ fault. IsLong fault) }
 {
@@ -170,13 +182,16 @@ pub fn cut_fault(parts: &BlockParser, window: &ReadBuffer) -> Option<CaptureFaul
 
 /// Returns the name and the description of an interface, if the block of `len` octets that `next_block` returned
 /// describes one.
+#[tactic(auto, using(crate::proofs::DescribedLemmas::block_front))]
 pub fn interface_texts<'a>(
     parts: &BlockParser,
     window: &'a ReadBuffer,
     len: usize,
 ) -> Option<InterfaceTexts<'a>>
-    ensures { IfSome result (λ texts. Some (texts_view texts)
+    ensures texts { IfSome result (λ texts. Some (texts_view texts)
         ≡ texts_as parts.now.format parts.now.section.order (take len (take 983040 (octets_of window.now)))) }
+    ensures block { len ≤ length (take 983040 (octets_of window.now)) → option_map texts_view result
+        ≡ texts_as parts.now.format parts.now.section.order (take len (octets_of window.now)) }
 {
     parts.interface_texts(window.front().get(..len)?)
 }
@@ -190,6 +205,9 @@ fn fill<R: Read>(
     ensures returned { OnOk result ((file : List ℕ) (entries : List Entry)
         → HasReturned file entries (R.remaining reader.old) parts.now (octets_of window.old) window.old.ended
         → HasReturned file entries (R.remaining reader.new) parts.now (octets_of window.new) window.new.ended) }
+    ensures described { OnOk result ((file : List ℕ) (texts : List TextsView)
+        → HasDescribed file texts (R.remaining reader.old) parts.now (octets_of window.old) window.old.ended
+        → HasDescribed file texts (R.remaining reader.new) parts.now (octets_of window.new) window.new.ended) }
     ensures filled { OnOk result (IsFilled parts.now (octets_of window.new) window.new.ended) }
     ensures fault { IfErr result (λ fault. IsLong fault) }
 {
@@ -218,13 +236,21 @@ pub fn next_block<'a>(
 ) -> Result<CaptureBlock<'a>, CaptureFault>
     requires { IsNext parts.old (octets_of window.now) window.now.ended }
     ensures len { IfOk result (λ part. part.len ≤ length (octets_of window.now)) }
+    ensures front { IfOk result (λ part. part.len ≤ length (take 983040 (octets_of window.now))) }
     ensures returned { IfOk result (λ part. (file : List ℕ) (entries : List Entry) (left : Option (List ℕ))
         → HasReturned file entries left parts.old (octets_of window.now) window.now.ended
         → HasReturned file (entries ++ part_entries part) left parts.new
         (drop part.len (octets_of window.now)) window.now.ended) }
+    ensures described { IfOk result (λ part. (file : List ℕ) (texts : List TextsView) (left : Option (List ℕ))
+        → HasDescribed file texts left parts.old (octets_of window.now) window.now.ended
+        → DescribesNext file texts left parts.new (octets_of window.now) window.now.ended part.len
+        (option_map packet_view part.packet)) }
     ensures fault { IfErr result (λ fault. (file : List ℕ) (entries : List Entry) (left : Option (List ℕ))
         → HasReturned file entries left parts.old (octets_of window.now) window.now.ended
         → IsFaultBehind file entries fault) }
+    ensures all { OnErr result ((file : List ℕ) (texts : List TextsView) (left : Option (List ℕ))
+        → HasDescribed file texts left parts.old (octets_of window.now) window.now.ended
+        → interfaces_of file ≡ texts) }
 {
     parts.next(window.front())
 }

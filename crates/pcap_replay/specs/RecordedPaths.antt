@@ -4,6 +4,7 @@ use Rattle.rtp_wire.specs.declared.encoding.Enc.{Enc}
 use Rattle.rtp_wire.specs.declared.encoding.Enc.TheVariants.{L16, L24}
 use Rattle.rtp_stream.specs.declared.stream_spec.Stream.{Stream}
 use Rattle.pcap_file.specs.Blocks.{interface_text}
+use Rattle.pcap_file.specs.InterfaceTexts.{TextsView}
 use Rattle.pcap_file.specs.RecordedStream.{description_of}
 use Rattle.pcap_file.specs.declared.encode.recorded_stream.RecordedStream.{RecordedStream}
 use Rattle.pcap_replay.specs.declared.recording.RecordedPath.{RecordedPath}
@@ -11,6 +12,10 @@ use Rattle.pcap_replay.specs.declared.recording.RecordedPath.{RecordedPath}
 abbrev pub bits_of : Enc → ℕ
 bits_of L16 = 16
 bits_of L24 = 24
+
+-- the texts of a path's interface
+abbrev pub texts_of : RecordedPath → TextsView
+texts_of path = record { name = path.name.items; description = path.description.items }
 
 -- the configuration of a stream in a record
 abbrev pub recorded_of : Stream → RecordedStream

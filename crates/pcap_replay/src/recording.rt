@@ -3,9 +3,15 @@ ghost use Rattle.std.specs.Prelude.{
   ◌≡◌,
   ◌≤◌,
   ◌+◌,
+  ◌++◌,
   ◌↔◌,
+  ℕ,
   List,
+  Option,
+  drop,
   length,
+  map,
+  option_map,
   IfOk,
   IfSome,
   IsOk,
@@ -14,8 +20,11 @@ ghost use Rattle.std.specs.Prelude.{
   None,
   OnOk,
 };
+ghost use Rattle.std.specs.Option.{option_to_list};
 ghost use Rattle.pcap_file.specs.ReadBuffer.{octets_of};
 ghost use Rattle.pcap_file.specs.Reader.{IsNext};
+ghost use Rattle.pcap_file.specs.Described.{HasDescribed, interfaces_of};
+ghost use Rattle.pcap_file.specs.InterfaceTexts.{texts_view};
 ghost use Rattle.pcap_file.specs.Blocks.{interface_text};
 ghost use Rattle.pcap_replay.specs.RecordedPaths.{
   ArePathsOf,
@@ -25,11 +34,12 @@ ghost use Rattle.pcap_replay.specs.RecordedPaths.{
   IsOfGains,
   IsPathOf,
   recorded_of,
+  texts_of,
 };
 
 use pcap_file::{
-    BlockParser, InterfaceTexts, ReadBuffer, ReaderFault, RecordedStream, has_whole_block,
-    interface_name, interface_texts, next_block, open_reader,
+    BlockParser, InterfaceTexts, ReadBuffer, ReaderFault, RecordedStream, has_block,
+    has_whole_block, interface_name, interface_texts, next_block, open_reader,
 };
 use rtp_stream::StreamSpec;
 use rtp_wire::Enc;
@@ -71,7 +81,9 @@ pub enum RecordingFault {
 
 impl RecordedPath {
     /// Returns a copy of the texts of a path's interface. Returns `AllocError` if an allocation fails.
-    fn of(alloc: Global, texts: &InterfaceTexts<'_>) -> Result<RecordedPath, AllocError> {
+    fn of(alloc: Global, texts: &InterfaceTexts<'_>) -> Result<RecordedPath, AllocError>
+        ensures { IfOk result (λ path. texts_of path ≡ texts_view texts.now) }
+    {
         Ok(RecordedPath {
             name: copy_of(alloc, texts.name)?,
             description: copy_of(alloc, texts.description)?,
@@ -122,11 +134,11 @@ impl RecordedPath {
 }
 
 /// Returns a copy of some octets. Returns `AllocError` if an allocation fails.
-fn copy_of(alloc: Global, octets: &[u8]) -> Result<Vec<u8>, AllocError> {
+fn copy_of(alloc: Global, octets: &[u8]) -> Result<Vec<u8>, AllocError>
+    ensures { IfOk result (λ copy. copy.items ≡ octets.now) }
+{
     let mut copy = Vec::with_capacity(alloc, octets.len())?;
-    for octet in octets {
-        copy.push(*octet)?;
-    }
+    copy.extend_from_slice(octets)?;
     Ok(copy)
 }
 
@@ -135,19 +147,40 @@ fn copy_of(alloc: Global, octets: &[u8]) -> Result<Vec<u8>, AllocError> {
 pub fn recorded_paths<R: Read>(
     alloc: Global,
     reader: &mut R,
-) -> Result<Vec<RecordedPath>, ReaderFault> {
-    let mut paths = Vec::new(alloc);
+) -> Result<Vec<RecordedPath>, ReaderFault>
+    ensures { IfOk result (λ paths. IfSome (R.remaining reader.old) (λ file. map texts_of paths.items
+        ≡ interfaces_of file)) }
+{
     let (mut window, mut parts) = open_reader(alloc, reader)?;
-    for _ in 0..u64::MAX {
-        if !has_whole_block(&parts, &mut window, reader)? {
-            return Ok(paths);
+    let mut paths = Vec::new(alloc);
+    add_paths(alloc, &mut paths, &mut parts, &mut window, reader)?;
+    Ok(paths)
+}
+
+/// Adds the paths that the rest of a capture describes before its first packet, its end or its fault.
+fn add_paths<R: Read>(
+    alloc: Global,
+    paths: &mut Vec<RecordedPath>,
+    parts: &mut BlockParser,
+    window: &mut ReadBuffer,
+    reader: &mut R,
+) -> Result<(), ReaderFault>
+    ensures { OnOk result ((file : List ℕ)
+        → HasDescribed file (map texts_of paths.old.items) (R.remaining reader.old) parts.old
+        (octets_of window.old) window.old.ended
+        → map texts_of paths.new.items ≡ interfaces_of file) }
+{
+    // The label names the loop in its proof.
+    'parts: for _ in 0..u64::MAX {
+        if !has_block(parts, window, reader)? {
+            return Ok(());
         }
-        match add_path(alloc, &mut paths, &mut parts, &window)? {
+        match add_path(alloc, paths, parts, window)? {
             Some(len) => window.consume(len),
-            None => return Ok(paths),
+            None => return Ok(()),
         }
     }
-    Ok(paths)
+    Err(ReaderFault::ReadFailed)
 }
 
 /// Adds the path that the next block describes, if it does, and returns the block's length. Returns `None` at a packet
@@ -159,19 +192,41 @@ fn add_path(
     window: &ReadBuffer,
 ) -> Result<Option<usize>, AllocError>
     requires { IsNext parts.old (octets_of window.now) window.now.ended }
-    ensures { IfOk result (λ given. IfSome given (λ len. len ≤ length (octets_of window.now))) }
+    ensures len { IfOk result (λ given. IfSome given (λ len. len ≤ length (octets_of window.now))) }
+    ensures described { IfOk result (λ given. IfSome given (λ len. (file : List ℕ) (left : Option (List ℕ))
+        → HasDescribed file (map texts_of paths.old.items) left parts.old (octets_of window.now) window.now.ended
+        → HasDescribed file (map texts_of paths.new.items) left parts.new (drop len (octets_of window.now))
+        window.now.ended)) }
+    ensures all { IfOk result (λ given. given ≡ None → (file : List ℕ) (left : Option (List ℕ))
+        → HasDescribed file (map texts_of paths.old.items) left parts.old (octets_of window.now) window.now.ended
+        → map texts_of paths.new.items ≡ interfaces_of file) }
 {
-    // A fault is left to the replay, which returns it behind the report.
-    let Ok(part) = next_block(parts, window) else {
-        return Ok(None);
-    };
-    if part.packet.is_some() {
-        return Ok(None);
+    match next_block(parts, window) {
+        Ok(part) => {
+            if part.packet.is_some() {
+                return Ok(None);
+            }
+            add_texts(alloc, paths, interface_texts(parts, window, part.len))?;
+            Ok(Some(part.len))
+        }
+        // A fault is left to the replay, which returns it behind the report.
+        Err(_fault) => Ok(None),
     }
-    if let Some(texts) = interface_texts(parts, window, part.len) {
+}
+
+/// Adds a path with the texts of an interface, if there are some.
+fn add_texts(
+    alloc: Global,
+    paths: &mut Vec<RecordedPath>,
+    texts: Option<InterfaceTexts<'_>>,
+) -> Result<(), AllocError>
+    ensures { OnOk result (map texts_of paths.new.items
+        ≡ map texts_of paths.old.items ++ option_to_list (option_map texts_view texts.entry)) }
+{
+    if let Some(texts) = texts {
         paths.push(RecordedPath::of(alloc, &texts)?)?;
     }
-    Ok(Some(part.len))
+    Ok(())
 }
 
 /// Returns true if a capture's first packet or first fault is among its first octets. What follows these then changes
