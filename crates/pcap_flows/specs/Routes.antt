@@ -46,6 +46,10 @@ is_earlier path other = (other.first == path.first) && nat_lt other.place path.p
 abbrev pub leads : List FlowPath → FlowPath → Bool
 leads chosen path = not (list_any (is_earlier path) chosen)
 
+-- the number of chosen streams
+abbrev pub stream_count : List FlowPath → ℕ
+stream_count chosen = length (filter (leads chosen) chosen)
+
 -- the number of chosen streams that begin before a place
 abbrev pub streams_before : List FlowPath → ℕ → ℕ
 streams_before chosen first = length (filter (λ path. nat_lt path.first first && leads chosen path) chosen)
@@ -74,3 +78,7 @@ routes_of_paths chosen = map (route_of_path chosen) chosen
 -- the routes of a capture's flows to these addresses, or of all streams with a format if there are none
 abbrev pub routes_of : TableView → List SocketAddrV4 → List Route
 routes_of t names = routes_of_paths (chosen_paths t names)
+
+-- the number of flows that are no chosen path
+abbrev pub left_out_of : TableView → List SocketAddrV4 → ℕ
+left_out_of t names = length (filter (λ path. not (is_chosen t names (paths_of t) path)) (paths_of t))

@@ -1,5 +1,5 @@
 //! The routes of a capture's flows.
-ghost use Rattle.std.specs.Prelude.{◌≡◌, ◌++◌, ◌∷◌, [], filter, IfOk, OnOk};
+ghost use Rattle.std.specs.Prelude.{◌≡◌, ◌≤◌, ◌++◌, ◌∷◌, [], filter, IfOk, OnOk};
 ghost use Rattle.std.specs.List.{list_any};
 ghost use Rattle.pcap_flows.specs.FlowTable.{table_view};
 ghost use Rattle.pcap_flows.specs.Routes as spec;
@@ -55,19 +55,25 @@ pub fn routes_of(
     table: &FlowTable,
     names: &[SocketAddrV4],
 ) -> Result<Routes, ImportFault>
-    ensures { IfOk result (λ routes. routes.list.items ≡ spec.routes_of (table_view table.now) names.now) }
+    ensures routes { IfOk result (λ routes. routes.list.items ≡ spec.routes_of (table_view table.now) names.now) }
+    ensures streams { IfOk result (λ routes. routes.streams
+        ≡ spec.stream_count (spec.chosen_paths (table_view table.now) names.now)) }
+    ensures left_out { IfOk result (λ routes. routes.left_out ≡ spec.left_out_of (table_view table.now) names.now) }
 {
     check_names(table, names)?;
     let chosen = chosen_paths(alloc, table, names)?;
+    let streams = streams_among(chosen.as_slice());
+    if streams > MAX_STREAMS {
+        return Err(ImportFault::Streams);
+    }
     let list = routes_for(alloc, chosen.as_slice())?;
     if list.is_empty() {
         return Err(ImportFault::NoFlow);
     }
     let left_out = table.flows().len().saturating_sub(list.len());
-    let streams = streams_among(chosen.as_slice());
     Ok(Routes {
         list,
-        streams: streams.min(MAX_STREAMS) as u8,
+        streams: streams as u8,
         left_out,
     })
 }
@@ -154,40 +160,30 @@ fn has_format_at(table: &FlowTable, place: usize) -> bool
     }
 }
 
-/// Returns the routes of the paths that are taken. Returns `Streams` if there are more than 16 streams.
-fn routes_for(alloc: Global, chosen: &[FlowPath]) -> Result<Vec<Route>, ImportFault>
+/// Returns the routes of the paths that are taken, of at most 16 streams.
+fn routes_for(alloc: Global, chosen: &[FlowPath]) -> Result<Vec<Route>, AllocError>
+    requires few { spec.stream_count chosen.now ≤ 16 }
     ensures { IfOk result (λ routes. routes.items ≡ spec.routes_of_paths chosen.now) }
 {
     let mut routes = Vec::new(alloc);
     for place in 0..chosen.len() {
-        let route = route_of_path(chosen, &chosen[place])?;
-        push_route(&mut routes, route)?;
+        routes.push(route_of_path(chosen, &chosen[place]))?;
     }
     Ok(routes)
 }
 
-/// Appends a route.
-fn push_route(routes: &mut Vec<Route>, route: Route) -> Result<(), AllocError>
-    ensures { OnOk result (routes.new.items ≡ routes.old.items ++ route ∷ []) }
-{
-    routes.push(route)?;
-    Ok(())
-}
-
 /// Returns the route of a chosen path. Streams are numbered in the order of their first flows, and the paths of each in
-/// the order of their flows. Returns `Streams` if 16 streams come before.
-fn route_of_path(chosen: &[FlowPath], path: &FlowPath) -> Result<Route, ImportFault>
-    ensures { IfOk result (λ route. route ≡ spec.route_of_path chosen.now path.now) }
+/// the order of their flows.
+#[tactic(auto, using(crate::proofs::RouteLemmas::before_within))]
+fn route_of_path(chosen: &[FlowPath], path: &FlowPath) -> Route
+    requires few { spec.stream_count chosen.now ≤ 16 }
+    ensures { result ≡ spec.route_of_path chosen.now path.now }
 {
-    let stream = streams_before(chosen, path.first);
-    if stream >= MAX_STREAMS {
-        return Err(ImportFault::Streams);
-    }
-    Ok(Route {
+    Route {
         key: path.key,
-        stream: stream as u8,
+        stream: streams_before(chosen, path.first) as u8,
         letter: letter_of(paths_before(chosen, path)),
-    })
+    }
 }
 
 /// Returns the letter of the path with a number.
@@ -198,7 +194,9 @@ fn letter_of(number: usize) -> u8
 }
 
 /// Returns the number of streams with a chosen path.
-fn streams_among(chosen: &[FlowPath]) -> usize {
+fn streams_among(chosen: &[FlowPath]) -> usize
+    ensures { result ≡ spec.stream_count chosen.now }
+{
     chosen.iter().filter(|path| leads(chosen, path)).count()
 }
 
