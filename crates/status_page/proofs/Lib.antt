@@ -1,3 +1,4 @@
 pub mod ConnectionsLemmas
 pub mod IntegerLemmas
 pub mod BodyLemmas
+pub mod ShownLemmas

@@ -17,3 +17,4 @@ pub mod Times
 pub mod Token
 pub mod Unanswered
 pub mod Verdicts
+pub mod Shown

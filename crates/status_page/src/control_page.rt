@@ -212,6 +212,8 @@ fn show_page(response: &mut Response) -> Result<(), AllocError>
 }
 
 impl<D: GainRequester> ServedPage for ControlPage<D> {
+    ghost shown = { λ page. page.page };
+
     fn connection(&self, alloc: Global, keys: RandomState) -> Connection {
         new_control_connection(alloc, keys)
     }

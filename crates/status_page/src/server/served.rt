@@ -1,4 +1,6 @@
 //! The pages that a server serves.
+ghost use Rattle.std.specs.Prelude.{◌≡◌};
+
 use crate::page::Page;
 use crate::server::client::new_connection;
 use crate::snapshot::Snapshot;
@@ -22,11 +24,17 @@ pub enum GainsAnswer {
 
 /// A page that a `PageServer` serves: a `Page`, or the `ControlPage` of a run whose gains can be changed.
 pub trait ServedPage: Drop {
+    ghost use Rattle.status_page.specs.declared.snapshot.Snapshot.{Snapshot as Shown};
+
+    /// The snapshot from which the page responds.
+    ghost shown: { Self → Shown };
+
     /// Returns the connection of a new client, from which nothing was read yet, with the limits of this page.
     fn connection(&self, alloc: Global, keys: RandomState) -> Connection;
 
     /// Responds from a newer snapshot from now on.
-    fn show(&mut self, snapshot: Snapshot);
+    fn show(&mut self, snapshot: Snapshot)
+        ensures { shown self.new ≡ snapshot };
 
     /// Responds to the requests that were read from a client, and returns the part of the gains in the last answer.
     /// `now` is the reading of a monotonic clock.
@@ -34,6 +42,8 @@ pub trait ServedPage: Drop {
 }
 
 impl ServedPage for Page {
+    ghost shown = { λ page. page };
+
     fn connection(&self, alloc: Global, keys: RandomState) -> Connection {
         new_connection(alloc, keys)
     }

@@ -1,4 +1,7 @@
 //! The source of a page's snapshots, and the loop of the page's thread.
+ghost use Rattle.rtrb.specs.Ring.{received};
+ghost use Rattle.status_page.specs.Shown.{ShowsLast};
+
 use crate::server::PageServer;
 use crate::server::served::ServedPage;
 use crate::snapshot::Snapshot;
@@ -30,15 +33,27 @@ impl RingSource {
     }
 
     /// Updates a page if there is a newer snapshot. Returns false once the run has ended. It does not wait.
-    fn update<P: ServedPage>(&mut self, page: &mut P) -> bool {
+    #[tactic(auto, using(crate::proofs::ShownLemmas::shows_same))]
+    fn update<P: ServedPage>(&mut self, page: &mut P) -> bool
+        ensures { ShowsLast (received self.old.ring) (received self.new.ring) (P.shown page.old) (P.shown page.new) }
+    {
         let is_over = self.ring.is_abandoned();
         // As many as are in the ring now, so that it ends even if snapshots are pushed all the time.
-        for _ in 0..self.ring.slots() {
-            if let Ok(newer) = self.ring.pop() {
-                page.show(newer);
-            }
+        // The label names the loop in its proof.
+        'turns: for _ in 0..self.ring.slots() {
+            self.show_next(page);
         }
         !is_over
+    }
+
+    /// Updates a page with the next snapshot of the ring, if there is one.
+    #[tactic(auto, using(crate::proofs::ShownLemmas::shows_same, crate::proofs::ShownLemmas::shows_one))]
+    fn show_next<P: ServedPage>(&mut self, page: &mut P)
+        ensures { ShowsLast (received self.old.ring) (received self.new.ring) (P.shown page.old) (P.shown page.new) }
+    {
+        if let Ok(newer) = self.ring.pop() {
+            page.show(newer);
+        }
     }
 }
 
