@@ -227,11 +227,12 @@ def exports_of(crate: str) -> set[str]:
 def public_calls_of(crate: str) -> list[Call]:
     """Each call that a library gives out, to crates or to C, with its contract."""
     exports = exports_of(crate)
-    return [
-        call
-        for call in calls_of(crate)
-        if call.public and ((call.owner or call.name) in exports or TO_C in call.attributes)
-    ]
+    return [call for call in calls_of(crate) if is_given_out(call, exports)]
+
+
+def is_given_out(call: Call, exports: set[str]) -> bool:
+    """Whether a library with these exports gives out the call, to crates or to C."""
+    return call.public and ((call.owner or call.name) in exports or TO_C in call.attributes)
 
 
 def tests_of(crate: str) -> list[Call]:

@@ -1,7 +1,7 @@
 """The record of the wrong bodies that the prover refused: `refused.txt`, a line for each crate that has any.
 
 A line holds the crate, how many edits it has, how many of them were refused, the date, and two checksums: of the crate,
-and of what the crates below it show to it. While both hold, no edit of the crate can have become provable.
+and of what it may use of the crates below it. While both hold, no edit of the crate can have become provable.
 """
 import fcntl
 import hashlib
@@ -17,9 +17,12 @@ import sources
 
 FILE = Path(__file__).resolve().parent / "refused.txt"
 TOKEN = re.compile(r"[\w']+|[^\w\s]")
+WORD = re.compile(r"\w+")
+DEFINED = re.compile(r"(\w+) \. specs \. (\w+)")
+BROUGHT = re.compile(r"^ *ghost use [^;]*;", re.MULTILINE)
 HEAD = (
-    "# crate, edits, refused, date, checksum of the crate, checksum of what the crates below show: written by make"
-    " mutants"
+    "# crate, edits, refused, date, checksum of the crate, checksum of what it uses of the crates below: written by"
+    " make mutants"
 )
 
 
@@ -52,36 +55,69 @@ def edit(text):
     return "\n".join(line for line in text.splitlines() if line.startswith(("file:", "old:", "new:")))
 
 
+def files_of(crate: str) -> list[Path]:
+    """The files of a crate's sources, specs and proofs."""
+    home = sources.ROOT / "crates" / crate
+    folders = [home / folder for folder in ("src", "specs", "proofs")]
+    return [file for folder in folders for file in sorted(folder.rglob("*")) if file.suffix in (".rt", ".antt")]
+
+
 @cache
 def own_sum(crate: str) -> str:
     """The checksum of a crate's sources, specs, proofs and edits."""
     home, parts = sources.ROOT / "crates" / crate, []
-    for folder in ("src", "specs", "proofs"):
-        for file in sorted(it for it in (home / folder).rglob("*") if it.suffix in (".rt", ".antt")):
-            parts += [str(file.relative_to(home)), code(file.read_text())]
+    for file in files_of(crate):
+        parts += [str(file.relative_to(home)), code(file.read_text())]
     for file in sorted(sources.edit_files(crate), key=lambda file: file.name):
         parts += [file.name, edit(file.read_text())]
     return sum_of(parts)
 
 
+class Part(NamedTuple):
+    """A piece of what a crate shows to those above: a file of definitions, a public call with its clauses, or a public
+    type. A text that has all its names may use it."""
+
+    crate: str
+    names: frozenset[str]
+    code: str
+
+
 @cache
-def interface_sum(crate):
-    """The checksum of what a crate shows to those above: its definitions, its public calls with their clauses, its
-    public types."""
-    parts, exports = [crate], sources.exports_of(crate)
+def parts_of(crate: str) -> list[Part]:
+    """What a crate shows to those above."""
+    parts, exports = [], sources.exports_of(crate)
     for file in sorted((sources.ROOT / "crates" / crate / "specs").rglob("*.antt")):
-        parts += [file.name, code(file.read_text())]
-    for call in sources.public_calls_of(crate):
-        parts += [call.path(), code(call.head)]
-    for owner in (owner for text in sources.code_of(crate) for owner in sources.owners_in(text)):
-        if owner.kind in ("struct", "enum") and owner.name in exports:
-            parts += [owner.name, code(owner.body)]
-    return sum_of(parts)
+        parts.append(Part(crate, frozenset({f"{crate}.specs.{file.stem}"}), code(file.read_text())))
+    for text in sources.code_of(crate):
+        # The definitions that clauses name are those that the file brings in.
+        brought = code("\n".join(BROUGHT.findall(text)))
+        for call in sources.calls_in(text):
+            if sources.is_given_out(call, exports):
+                parts.append(Part(crate, frozenset({call.owner, call.name} - {""}), f"{code(call.head)} {brought}"))
+        for owner in sources.owners_in(text):
+            if owner.kind != "impl" and owner.name in exports:
+                parts.append(Part(crate, frozenset({owner.name}), f"{code(owner.body)} {brought}"))
+    return parts
 
 
+def names_in(text: str) -> set[str]:
+    """The words of a text, and the files of definitions that it names, as `studio_io.specs.Clocks`."""
+    return {*WORD.findall(text), *(f"{crate}.specs.{name}" for crate, name in DEFINED.findall(text))}
+
+
+@cache
 def below_sum(crate: str) -> str:
-    """The checksum of what all crates below a crate show to it."""
-    return sum_of([interface_sum(name) for name in sorted(sources.below(crate))])
+    """The checksum of what a crate may use of those below it: of each part whose names it has, or a part that it may
+    use. What a crate can't name changes none of its proofs."""
+    names = names_in(" ".join(code(file.read_text()) for file in files_of(crate)))
+    names |= names_in(" ".join(edit(file.read_text()) for file in sources.edit_files(crate)))
+    left = [part for name in sorted(sources.below(crate)) for part in parts_of(name)]
+    used: list[Part] = []
+    while reached := [part for part in left if part.names <= names]:
+        left = [part for part in left if not part.names <= names]
+        used += reached
+        names = names.union(*(names_in(part.code) for part in reached))
+    return sum_of(sorted(f"{part.crate} {' '.join(sorted(part.names))} {part.code}" for part in used))
 
 
 def read():
