@@ -2,3 +2,5 @@ pub mod AnswerLemmas
 pub mod GainLemmas
 pub mod SumLemmas
 mod SendSumsCases
+pub mod FaultLemmas
+mod FaultCases

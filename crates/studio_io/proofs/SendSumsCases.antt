@@ -1,5 +1,5 @@
 -- Worked cases of the sums of a sink's answers, computed.
-use Rattle.std.specs.Prelude.{◌≡◌, true, false, List, [], ◌∷◌, refl}
+use Rattle.std.specs.Prelude.{◌≡◌, true, false, [], ◌∷◌, refl}
 use Rattle.studio_io.specs.SendSums.{answer_tally}
 use Rattle.studio_io.specs.declared.sink.SendAnswer.{SendAnswer}
 

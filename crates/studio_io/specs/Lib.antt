@@ -13,3 +13,4 @@ pub use Rattle.rtp_stream.specs.Marks
 pub use Rattle.gain_mix.specs.Gain
 pub use Rattle.gain_mix.specs.Changes
 pub use Rattle.gain_mix.specs.LiveSchedule
+pub mod FaultCounts
