@@ -1,12 +1,12 @@
 //! The end of a ring into which the samples of the mix are put for raw PCM: a block as a whole, or it is left out.
-ghost use Rattle.std.specs.Prelude.{◌≡◌, ◌∷◌, ◌++◌, [], ℕ, List, drop, false, true};
+ghost use Rattle.std.specs.Prelude.{◌≡◌, ◌∷◌, ◌++◌, [], ℕ, List, drop, false, true, None};
 ghost use Rattle.rtrb.specs.Ring.{sent};
 ghost use Rattle.live_audio.specs.PcmProducer.{HasProduced, LeavesOut, Takes};
 
 use crate::producer::samples_of;
 use rtrb::Producer;
 use run_outputs::MixOutput;
-use studio_io::OutputProgress;
+use studio_io::{OutputEnd, OutputKind, OutputProgress};
 
 /// The end of a ring in the run's thread, into which the samples of each datagram are put. It never waits.
 #[derive(Drop)]
@@ -92,7 +92,14 @@ impl<'r> PcmProducer<'r> {
 impl MixOutput for PcmProducer<'_> {
     ghost mixes = { λ old datagram new. Takes old (drop 12 datagram) new };
 
+    ghost ended = { λ producer kind. None };
+
     fn mixed(&mut self, datagram: &[u8]) {
         self.put(datagram);
+    }
+
+    // Blocks that have no space are left out, and the output goes on. It ends in its writer alone.
+    fn end_of(&self, _kind: OutputKind) -> Option<OutputEnd> {
+        None
     }
 }

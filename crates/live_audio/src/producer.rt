@@ -1,10 +1,10 @@
 //! The end of a ring into which the samples of the mix are put, a block as a whole or not at all.
 ghost use Rattle.std.specs.Prelude.{◌≡◌, ◌≤◌, drop, length, None};
-ghost use Rattle.live_audio.specs.Producer.{Puts, StaysEnded};
+ghost use Rattle.live_audio.specs.Producer.{Puts, StaysEnded, wav_end};
 
 use rtrb::Producer;
 use run_outputs::MixOutput;
-use studio_io::{OutputEnd, OutputProgress};
+use studio_io::{OutputEnd, OutputKind, OutputProgress};
 
 /// The end of a ring in the run's thread, into which the samples of each datagram are put. It never waits.
 #[derive(Drop)]
@@ -61,8 +61,17 @@ impl<'r> AudioProducer<'r> {
 impl MixOutput for AudioProducer<'_> {
     ghost mixes = { λ old datagram new. Puts old (drop 12 datagram) new × StaysEnded old new };
 
+    ghost ended = { λ producer kind. wav_end kind producer };
+
     fn mixed(&mut self, datagram: &[u8]) {
         self.put(datagram);
+    }
+
+    fn end_of(&self, kind: OutputKind) -> Option<OutputEnd> {
+        match kind {
+            OutputKind::Wav => self.end,
+            OutputKind::Record | OutputKind::Pcm => None,
+        }
     }
 }
 

@@ -16,6 +16,8 @@ use Rattle.studio_config.specs.Studio.{Studio}
 use Rattle.live_io.specs.declared.record.block_producer.BlockProducer.{BlockProducer}
 use Rattle.live_io.specs.declared.record.observer.RecordObserver.{RecordObserver}
 use Rattle.run_outputs.specs.declared.events.DatagramOrigin.{DatagramOrigin}
+use Rattle.studio_io.specs.declared.output_kind.OutputKind.{OutputKind}
+use Rattle.studio_io.specs.declared.output_kind.OutputKind.TheVariants.{Record, Wav, Pcm}
 use Rattle.studio_io.specs.declared.output_state.OutputEnd.{OutputEnd}
 use Rattle.studio_io.specs.declared.output_state.OutputEnd.TheVariants.{Slow, Unfit}
 
@@ -26,6 +28,12 @@ Ends reason old new = (new.end ≡ Some reason) × (sent new.ring ≡ sent old.r
 -- a record that has ended stays so, for the same reason, and nothing more is sent to the ring
 abbrev pub StaysEnded : BlockProducer → BlockProducer → Type 0
 StaysEnded old new = (reason : OutputEnd) → old.end ≡ Some reason → (new.end ≡ Some reason) × (new.ring ≡ old.ring)
+
+-- the end of the output of a kind, as the record's producer knows it: of the record alone
+abbrev pub record_end : OutputKind → BlockProducer → Option OutputEnd
+record_end Record producer = producer.end
+record_end Wav producer = None
+record_end Pcm producer = None
 
 -- if the record had not ended: the whole block was sent; or the record ends as too slow, because the ring was not known to
 -- have space for the block

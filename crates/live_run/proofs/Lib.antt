@@ -3,4 +3,5 @@ pub mod ReportLemmas
 pub mod LatestStatsLemmas
 pub mod StreamStatusLemmas
 pub mod RunLemmas
+pub mod OutputEndLemmas
 mod RingPlacesCases

@@ -8,6 +8,7 @@ use Rattle.studio_io.specs.declared.report.WorkReport.{WorkReport}
 use Rattle.live_run.specs.RunText.{BreaksOffRun, FailsRun}
 use Rattle.live_run.specs.RunResult.{IsEarly, IsRunOf, IsRunWith, IsSettledIf, IsSettledIn, IsSettledWith}
 use Rattle.live_run.specs.declared.fault.LiveFault.{LiveFault}
+use Rattle.live_run.specs.declared.run_end.RunEnd.{RunEnd}
 use Rattle.live_run.specs.declared.fault.LiveFault.TheVariants.{Memory, Socket, Latencies, Page, Thread, OutputExists, Output, Unsettled, Write}
 
 early_writes_nothing : (one controlled : Bool) (studio : Studio) (written : Option (List ℕ)) (fault : LiveFault) → IsEarly fault → FailsRun one controlled studio written written fault
@@ -50,19 +51,19 @@ without_change true studio report taken (answers, clock, feeds, run) = (answers,
 
 module _ {G : Type 0} (taken : G → List (ℤ × List ℤ)) where
   -- a run whose gains can be changed took some changes
-  pub controlled : (one : Bool) (studio : Studio) (first : List (ℤ × List ℤ)) (r : Result WorkReport LiveFault) → IfOk r (λ report. (after : G) × IsRunWith one studio report first (taken after))
-      → IfOk r (IsRunOf one true studio)
-  controlled one studio first (Ok report) run = record {
+  pub controlled : (one : Bool) (studio : Studio) (first : List (ℤ × List ℤ)) (r : Result RunEnd LiveFault) → IfOk r (λ end. (after : G) × IsRunWith one studio end.report first (taken after))
+      → IfOk r (λ end. IsRunOf one true studio end.report)
+  controlled one studio first (Ok end) run = record {
     balance = run.1.balance;
-    settled = λ settled. from_none one studio report first (taken run.0) (run.1.settled settled);
+    settled = λ settled. from_none one studio end.report first (taken run.0) (run.1.settled settled);
   }
   controlled one studio first (Err fault) run = run
 
   -- and took none if the source takes none
-  pub uncontrolled : (one : Bool) (studio : Studio) → ((after : G) → taken after ≡ []) → (r : Result WorkReport LiveFault) → IfOk r (λ report. (after : G) × IsRunWith one studio report [] (taken after))
-      → IfOk r (IsRunOf one false studio)
-  uncontrolled one studio none (Ok report) run = record {
+  pub uncontrolled : (one : Bool) (studio : Studio) → ((after : G) → taken after ≡ []) → (r : Result RunEnd LiveFault) → IfOk r (λ end. (after : G) × IsRunWith one studio end.report [] (taken after))
+      → IfOk r (λ end. IsRunOf one false studio end.report)
+  uncontrolled one studio none (Ok end) run = record {
     balance = run.1.balance;
-    settled = λ settled. without_change one studio report [] (subst (λ last. IsSettledWith one studio report [] last) (none run.0) (run.1.settled settled));
+    settled = λ settled. without_change one studio end.report [] (subst (λ last. IsSettledWith one studio end.report [] last) (none run.0) (run.1.settled settled));
   }
   uncontrolled one studio none (Err fault) run = run

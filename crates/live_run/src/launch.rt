@@ -1,11 +1,13 @@
 //! The launch of a live run, by workers or in one thread.
 ghost use Rattle.std.specs.Prelude.{◌≡◌, is_some, IfOk, IfErr};
+ghost use Rattle.run_outputs.specs.Ends.{AreEndsIn};
 ghost use Rattle.live_run.specs.RunResult.{IsEarly, IsRunOf};
 
 use crate::context::RunContext;
 use crate::fault::LiveFault;
 use crate::inputs::LiveRun;
 use crate::page_task::{RunPage, open_run_page};
+use crate::run_end::RunEnd;
 use crate::shown_health::ShownHealth;
 use crate::single_thread::run_in_one_thread;
 use crate::status::{PageLink, open_status};
@@ -24,7 +26,6 @@ use std::random::RandomSource;
 use std::sync::Wait;
 use std::thread::Threads;
 use std::time::Clock;
-use studio_io::WorkReport;
 
 /// The state that the threads of a run share.
 #[derive(Drop)]
@@ -46,8 +47,11 @@ pub(crate) fn launch_run<
     outputs: O,
     control: Option<Token>,
     faults: E,
-) -> Result<WorkReport, LiveFault>
-    ensures run { IfOk result (IsRunOf run.entry.options.now.one_thread (is_some control) run.entry.studio.now) }
+) -> Result<RunEnd, LiveFault>
+    ensures run { IfOk result
+        (λ end. IsRunOf run.entry.options.now.one_thread (is_some control) run.entry.studio.now end.report) }
+    ensures ends { IfOk result
+        (λ end. AreEndsIn run.entry.options.now.one_thread O.Events.ended O.Mix.ended end.outputs) }
     ensures early { IfErr result IsEarly }
 {
     // Made here and not in `bind_and_run`, whose parts and threads borrow it.
@@ -82,8 +86,11 @@ fn bind_and_run<
     outputs: O,
     control: Option<Token>,
     faults: E,
-) -> Result<WorkReport, LiveFault>
-    ensures run { IfOk result (IsRunOf run.entry.options.now.one_thread (is_some control) run.entry.studio.now) }
+) -> Result<RunEnd, LiveFault>
+    ensures run { IfOk result
+        (λ end. IsRunOf run.entry.options.now.one_thread (is_some control) run.entry.studio.now end.report) }
+    ensures ends { IfOk result
+        (λ end. AreEndsIn run.entry.options.now.one_thread O.Events.ended O.Mix.ended end.outputs) }
     ensures early { IfErr result IsEarly }
 {
     let sockets = open_sockets(rt, alloc, run.studio, run.inputs.sockets)?;
@@ -110,9 +117,11 @@ impl<'a, R: Threads + Wait + Sync + Clock> BoundRun<'a, R> {
         state: &'a SharedState,
         outputs: (Option<S>, O),
         faults: E,
-    ) -> Result<WorkReport, LiveFault>
-        ensures run { IfOk result
-            (IsRunOf run.entry.options.now.one_thread (is_some self.entry.gains) run.entry.studio.now) }
+    ) -> Result<RunEnd, LiveFault>
+        ensures run { IfOk result (λ end.
+            IsRunOf run.entry.options.now.one_thread (is_some self.entry.gains) run.entry.studio.now end.report) }
+        ensures ends { IfOk result
+            (λ end. AreEndsIn run.entry.options.now.one_thread O.Events.ended O.Mix.ended end.outputs) }
         ensures early { IfErr result IsEarly }
     {
         let (task, outputs) = outputs;
@@ -134,9 +143,11 @@ fn run_bound<'a, R: Threads + Wait + Sync + Clock, E: Write + Send + Drop, O: Cr
     bound: BoundRun<'a, R>,
     outputs: O,
     faults: E,
-) -> Result<WorkReport, LiveFault>
-    ensures run { IfOk result
-        (IsRunOf run.entry.options.now.one_thread (is_some bound.entry.gains) run.entry.studio.now) }
+) -> Result<RunEnd, LiveFault>
+    ensures run { IfOk result (λ end.
+        IsRunOf run.entry.options.now.one_thread (is_some bound.entry.gains) run.entry.studio.now end.report) }
+    ensures ends { IfOk result
+        (λ end. AreEndsIn run.entry.options.now.one_thread O.Events.ended O.Mix.ended end.outputs) }
     ensures early { IfErr result IsEarly }
 {
     let BoundRun {
@@ -191,9 +202,11 @@ fn run_created<'a, R: Threads + Wait + Sync + Clock, E: Write + Send + Drop, O: 
     sockets: Sockets<'a>,
     context: RunContext<'a, R, E>,
     created: CreatedOutput<O::Events, O::Mix, O::Tasks>,
-) -> Result<WorkReport, LiveFault>
-    ensures run { IfOk result
-        (IsRunOf run.entry.options.now.one_thread (is_some context.entry.gains) run.entry.studio.now) }
+) -> Result<RunEnd, LiveFault>
+    ensures run { IfOk result (λ end.
+        IsRunOf run.entry.options.now.one_thread (is_some context.entry.gains) run.entry.studio.now end.report) }
+    ensures ends { IfOk result
+        (λ end. AreEndsIn run.entry.options.now.one_thread O.Events.ended O.Mix.ended end.outputs) }
     ensures early { IfErr result IsEarly }
 {
     if run.options.one_thread {

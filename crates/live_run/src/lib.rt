@@ -35,6 +35,7 @@ mod page_task;
 mod path_order;
 mod report;
 mod run;
+mod run_end;
 mod shown_health;
 mod single_thread;
 mod socket_watch;

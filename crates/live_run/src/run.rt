@@ -1,12 +1,14 @@
 //! A live run, and its report.
-ghost use Rattle.std.specs.Prelude.{is_some, true, IfErr, OnOk};
+ghost use Rattle.std.specs.Prelude.{is_some, true, IfOk, IfErr, OnOk};
+ghost use Rattle.run_outputs.specs.Ends.{AreEndsIn};
 ghost use Rattle.live_run.specs.RunText.{FailsRun, WritesRun};
 
 use crate::fault::LiveFault;
 use crate::inputs::LiveRun;
 use crate::launch::launch_run;
 use crate::report::write_report;
-use run_outputs::CreateOutput;
+use crate::run_end::RunEnd;
+use run_outputs::{CreateOutput, OutputEnds};
 use status_page::Token;
 use std::alloc::Global;
 use std::io::Write;
@@ -17,7 +19,8 @@ use std::thread::Threads;
 use std::time::Clock;
 use studio_run::TextBuffer;
 
-/// Runs a studio on real sockets until its feeds have ended, and then writes the report to `output`.
+/// Runs a studio on real sockets until its feeds have ended, and then writes the report to `output`. Returns why its
+/// outputs ended before it, as the run's own parts of them say.
 ///
 /// Inherited sockets are used if there are any, and others are bound at the studio's addresses. All sockets are bound,
 /// and all memory but the workers' is allocated, before the first thread starts. The studio runs by workers or in this
@@ -49,19 +52,21 @@ pub fn run_studio_live<
     control: Option<Token>,
     output: &mut W,
     faults: E,
-) -> Result<(), LiveFault>
+) -> Result<OutputEnds, LiveFault>
     ensures ok { OnOk result (WritesRun run.entry.options.now.one_thread (is_some control) run.entry.studio.now true
         (W.contents output.old) (W.contents output.new)) }
+    ensures ends { IfOk result
+        (λ ends. AreEndsIn run.entry.options.now.one_thread O.Events.ended O.Mix.ended ends) }
     ensures fault { IfErr result (FailsRun run.entry.options.now.one_thread (is_some control) run.entry.studio.now
         (W.contents output.old) (W.contents output.new)) }
 {
     // Allocated before the run, so that no run is left without memory for its report.
     let mut text = TextBuffer::new(alloc)?;
-    let report = launch_run(rt, alloc, run, outputs, control, faults)?;
+    let RunEnd { report, outputs } = launch_run(rt, alloc, run, outputs, control, faults)?;
     write_report(&mut text, output, &report)?;
     text.finish(output)?;
     if !report.settled {
         return Err(LiveFault::Unsettled);
     }
-    Ok(())
+    Ok(outputs)
 }

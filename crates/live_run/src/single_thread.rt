@@ -1,10 +1,12 @@
 //! A live run in one thread, with a supervisor in another. `engine_io` has the engine's feeds, clock and sink,
 //! `socket_wait` its wait for the sockets, and `observer` passes its events to the outputs and to the status.
 ghost use Rattle.std.specs.Prelude.{◌≡◌, is_some, true, IfOk, IfErr};
+ghost use Rattle.run_outputs.specs.Ends.{AreEndsIn};
 ghost use Rattle.live_run.specs.RunResult.{IsEarly, IsRunOf};
 
 use crate::context::RunContext;
 use crate::fault::LiveFault;
+use crate::run_end::RunEnd;
 use crate::single_thread::engine_io::{EngineDevices, IoSettings, prepare_engine_io};
 use crate::single_thread::observer::LiveObserver;
 use crate::single_thread::socket_wait::ready_flags;
@@ -20,7 +22,7 @@ use std::sync::atomic::AtomicBool;
 use std::thread::Threads;
 use std::time::Clock;
 use studio_config::StudioSpec;
-use studio_io::{NoGains, WorkReport};
+use studio_io::NoGains;
 
 mod engine_io;
 mod observer;
@@ -40,8 +42,9 @@ pub(crate) fn run_in_one_thread<
     sockets: Sockets<'a>,
     context: RunContext<'a, R, E>,
     created: CreatedOutput<O::Events, O::Mix, O::Tasks>,
-) -> Result<WorkReport, LiveFault>
-    ensures run { IfOk result (IsRunOf true (is_some context.entry.gains) studio.now) }
+) -> Result<RunEnd, LiveFault>
+    ensures run { IfOk result (λ end. IsRunOf true (is_some context.entry.gains) studio.now end.report) }
+    ensures ends { IfOk result (λ end. AreEndsIn true O.Events.ended O.Mix.ended end.outputs) }
     ensures early { IfErr result IsEarly }
 {
     let CreatedOutput { events, mix, tasks } = created;
@@ -73,8 +76,9 @@ pub(crate) fn run_in_one_thread<
         rt,
         (tasks, OneTask::new(supervisor)),
         start,
-        move || -> Result<WorkReport, LiveFault>
-            ensures run { IfOk result (IsRunOf true (is_some run.entry.gains) studio.entry.now) }
+        move || -> Result<RunEnd, LiveFault>
+            ensures run { IfOk result (λ end. IsRunOf true (is_some run.entry.gains) studio.entry.now end.report) }
+            ensures ends { IfOk result (λ end. AreEndsIn true O.Events.ended O.Mix.ended end.outputs) }
             ensures early { IfErr result IsEarly }
         {
             let ran = run.run(rt, alloc, studio);
@@ -155,8 +159,9 @@ impl<R: Wait + Clock, E: Write + Drop, V: EventOutput, M: MixOutput> SingleThrea
     M,
 > {
     /// Runs an engine in this thread.
-    fn run(self, rt: &R, alloc: Global, studio: &StudioSpec) -> Result<WorkReport, LiveFault>
-        ensures run { IfOk result (IsRunOf true (is_some self.entry.gains) studio.now) }
+    fn run(self, rt: &R, alloc: Global, studio: &StudioSpec) -> Result<RunEnd, LiveFault>
+        ensures run { IfOk result (λ end. IsRunOf true (is_some self.entry.gains) studio.now end.report) }
+        ensures ends { IfOk result (λ end. AreEndsIn true V.ended M.ended end.outputs) }
         ensures early { IfErr result IsEarly }
     {
         let SingleThreadRun {

@@ -4,11 +4,13 @@
 ghost use Rattle.std.specs.Prelude.{◌≡◌, false, is_some, length, IfOk, IfErr};
 ghost use Rattle.std.specs.Thread.{IsSync};
 ghost use Rattle.studio_rings.specs.StreamResults.{AreOpenedTogether};
+ghost use Rattle.run_outputs.specs.Ends.{HasMixEnds};
 ghost use Rattle.live_run.specs.RingPlaces.{ring_places};
 ghost use Rattle.live_run.specs.RunResult.{IsEarly, IsRunOf};
 
 use crate::context::RunContext;
 use crate::fault::LiveFault;
+use crate::run_end::RunEnd;
 use crate::shown_health::ShownHealth;
 use crate::socket_watch::{SocketWatch, WatchedTask};
 use crate::supervisor::Supervisor;
@@ -26,7 +28,6 @@ use std::thread::Threads;
 use std::time::Clock;
 use studio_config::StudioSpec;
 use studio_ends::StatsReceivers;
-use studio_io::WorkReport;
 
 mod latest_stats;
 mod rings;
@@ -49,8 +50,9 @@ pub(crate) fn run_in_workers<
     sockets: Sockets<'a>,
     context: RunContext<'a, R, E>,
     outputs: (O::Mix, O::Tasks),
-) -> Result<WorkReport, LiveFault>
-    ensures run { IfOk result (IsRunOf false (is_some context.entry.gains) studio.now) }
+) -> Result<RunEnd, LiveFault>
+    ensures run { IfOk result (λ end. IsRunOf false (is_some context.entry.gains) studio.now end.report) }
+    ensures ends { IfOk result (λ end. HasMixEnds O.Mix.ended end.outputs) }
     ensures early { IfErr result IsEarly }
 {
     // Without a status there are no rings for statistics, and the workers send none.
@@ -86,12 +88,13 @@ pub(crate) fn run_in_workers<
         rt,
         (tasks, OneTask::new(supervisor)),
         start,
-        move || -> Result<WorkReport, LiveFault>
+        move || -> Result<RunEnd, LiveFault>
             requires sync { IsSync R.row }
             requires opened { AreOpenedTogether studio.now (ring_places studio.now) workers.ends }
             requires feeds { length workers.feeds.items ≡ length workers.ends.paths.items }
             requires clocks { length workers.clocks.items ≡ length workers.ends.streams.items }
-            ensures run { IfOk result (IsRunOf false (is_some gains.entry) studio.entry.now) }
+            ensures run { IfOk result (λ end. IsRunOf false (is_some gains.entry) studio.entry.now end.report) }
+            ensures ends { IfOk result (λ end. HasMixEnds O.Mix.ended end.outputs) }
             ensures early { IfErr result IsEarly }
         {
             let ran = run_controlled(rt, alloc, studio, workers, gains);

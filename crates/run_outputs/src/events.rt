@@ -1,9 +1,13 @@
 //! The outputs that take the events of a run, and the events.
-ghost use Rattle.std.specs.Prelude.{◌≡◌, ℤ};
+ghost use Rattle.std.specs.Prelude.{◌≡◌, ℤ, Option};
+ghost use Rattle.studio_io.specs.declared.output_kind.OutputKind.{OutputKind};
+ghost use Rattle.studio_io.specs.declared.output_state.OutputEnd.{OutputEnd};
+ghost use Rattle.run_outputs.specs.Ends.{either_end, end_if};
 ghost use Rattle.run_outputs.specs.Events.{Arrived, Changed, TakesIf, arrived_of, changed_of};
 
 use rtp_stream::Path;
 use std::net::SocketAddrV4;
+use studio_io::{OutputEnd, OutputKind};
 
 /// The path on which a datagram arrived, and its two addresses.
 #[derive(Clone, Copy, PartialEq, Eq)]
@@ -59,6 +63,9 @@ pub trait EventOutput: Drop {
     /// Holds between the states before and after the close, which has this time.
     ghost closes: { Self → ℤ → Self → Type 0 };
 
+    /// The reason why the output of a kind has ended, if this part of it knows one.
+    ghost ended: { Self → OutputKind → Option OutputEnd };
+
     /// Returns true if it needs the addresses of each datagram. Otherwise the run may leave them out.
     fn needs_addresses(&self) -> bool;
 
@@ -73,6 +80,10 @@ pub trait EventOutput: Drop {
     /// Takes the close of the run, whose last clock reading is `time`, in sampling instants.
     fn closed(&mut self, time: i64)
         ensures { closes self.old time self.new };
+
+    /// Returns the reason why the output of a kind has ended, or `None` if it has not, or this part of it knows none.
+    fn end_of(&self, kind: OutputKind) -> Option<OutputEnd>
+        ensures { result ≡ ended self.now kind };
 }
 
 impl<O: EventOutput> EventOutput for Option<O> {
@@ -81,6 +92,8 @@ impl<O: EventOutput> EventOutput for Option<O> {
     ghost changes = { λ old change new. TakesIf (λ one other. O.changes one change other) old new };
 
     ghost closes = { λ old time new. TakesIf (λ one other. O.closes one time other) old new };
+
+    ghost ended = { λ output kind. end_if O.ended output kind };
 
     fn needs_addresses(&self) -> bool {
         match self {
@@ -106,6 +119,13 @@ impl<O: EventOutput> EventOutput for Option<O> {
             output.closed(time);
         }
     }
+
+    fn end_of(&self, kind: OutputKind) -> Option<OutputEnd> {
+        match self {
+            Some(output) => output.end_of(kind),
+            None => None,
+        }
+    }
 }
 
 impl<A: EventOutput, B: EventOutput> EventOutput for (A, B) {
@@ -114,6 +134,8 @@ impl<A: EventOutput, B: EventOutput> EventOutput for (A, B) {
     ghost changes = { λ old change new. A.changes old.0 change new.0 × B.changes old.1 change new.1 };
 
     ghost closes = { λ old time new. A.closes old.0 time new.0 × B.closes old.1 time new.1 };
+
+    ghost ended = { λ output kind. either_end (A.ended output.0 kind) (B.ended output.1 kind) };
 
     fn needs_addresses(&self) -> bool {
         self.0.needs_addresses() || self.1.needs_addresses()
@@ -132,5 +154,12 @@ impl<A: EventOutput, B: EventOutput> EventOutput for (A, B) {
     fn closed(&mut self, time: i64) {
         self.0.closed(time);
         self.1.closed(time);
+    }
+
+    fn end_of(&self, kind: OutputKind) -> Option<OutputEnd> {
+        match self.0.end_of(kind) {
+            Some(end) => Some(end),
+            None => self.1.end_of(kind),
+        }
     }
 }

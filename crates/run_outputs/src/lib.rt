@@ -15,11 +15,13 @@
 //! its path. `RunStart` says whether it has begun: `run_beside` notes it at the end of the run, and `NotedOutput`
 //! already with the first datagram of the mix. A run that cannot begin notes that.
 //!
-//! The first two are called in the threads of the run, and must not wait. `OutputSink` is the run's
+//! The first two are called in the threads of the run, and must not wait. Each says why its output ended, if it did:
+//! `OutputEnds` has these reasons once the run has returned them. `OutputSink` is the run's
 //! `Sink` with a `MixOutput` behind it, and `run_beside` starts the tasks and calls the run.
 #![tactic(auto)]
 
 mod create;
+mod ends;
 mod events;
 mod fault;
 mod mix;
@@ -27,6 +29,7 @@ mod side_task;
 mod start;
 
 pub use create::{CreateOutput, CreatedOutput, TaskOutput};
+pub use ends::OutputEnds;
 pub use events::{ArrivedDatagram, DatagramOrigin, EventOutput, TakenChange};
 pub use fault::OutputFault;
 pub use mix::{MixOutput, NoOutput, OutputSink};

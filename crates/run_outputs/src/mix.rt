@@ -1,10 +1,13 @@
 //! The outputs that take the mix of a run, and the sink that passes it to them.
-ghost use Rattle.std.specs.Prelude.{◌≡◌, ◌∷◌, [], ℕ, ℤ, List};
+ghost use Rattle.std.specs.Prelude.{◌≡◌, ◌∷◌, [], ℕ, ℤ, List, Option, None};
 ghost use Rattle.studio_io.specs.Sinks.{Hands, Returns};
+ghost use Rattle.studio_io.specs.declared.output_kind.OutputKind.{OutputKind};
+ghost use Rattle.studio_io.specs.declared.output_state.OutputEnd.{OutputEnd};
+ghost use Rattle.run_outputs.specs.Ends.{either_end, end_if};
 ghost use Rattle.run_outputs.specs.Events.{Arrived, Changed, TakesIf};
 
 use crate::events::{ArrivedDatagram, EventOutput, TakenChange};
-use studio_io::{SendAnswer, Sink};
+use studio_io::{OutputEnd, OutputKind, SendAnswer, Sink};
 
 /// An output that takes the datagrams of the mix, in their order.
 ///
@@ -13,17 +16,33 @@ pub trait MixOutput: Drop {
     /// Holds between the states before and after a datagram of the mix with these octets.
     ghost mixes: { Self → List ℕ → Self → Type 0 };
 
+    /// The reason why the output of a kind has ended, if this part of it knows one.
+    ghost ended: { Self → OutputKind → Option OutputEnd };
+
     /// Takes a datagram of the mix, after it was sent.
     fn mixed(&mut self, datagram: &[u8])
         ensures { mixes self.old datagram.now self.new };
+
+    /// Returns the reason why the output of a kind has ended, or `None` if it has not, or this part of it knows none.
+    fn end_of(&self, kind: OutputKind) -> Option<OutputEnd>
+        ensures { result ≡ ended self.now kind };
 }
 
 impl<O: MixOutput> MixOutput for Option<O> {
     ghost mixes = { λ old datagram new. TakesIf (λ one other. O.mixes one datagram other) old new };
 
+    ghost ended = { λ output kind. end_if O.ended output kind };
+
     fn mixed(&mut self, datagram: &[u8]) {
         if let Some(output) = self {
             output.mixed(datagram);
+        }
+    }
+
+    fn end_of(&self, kind: OutputKind) -> Option<OutputEnd> {
+        match self {
+            Some(output) => output.end_of(kind),
+            None => None,
         }
     }
 }
@@ -31,9 +50,18 @@ impl<O: MixOutput> MixOutput for Option<O> {
 impl<A: MixOutput, B: MixOutput> MixOutput for (A, B) {
     ghost mixes = { λ old datagram new. A.mixes old.0 datagram new.0 × B.mixes old.1 datagram new.1 };
 
+    ghost ended = { λ output kind. either_end (A.ended output.0 kind) (B.ended output.1 kind) };
+
     fn mixed(&mut self, datagram: &[u8]) {
         self.0.mixed(datagram);
         self.1.mixed(datagram);
+    }
+
+    fn end_of(&self, kind: OutputKind) -> Option<OutputEnd> {
+        match self.0.end_of(kind) {
+            Some(end) => Some(end),
+            None => self.1.end_of(kind),
+        }
     }
 }
 
@@ -44,7 +72,13 @@ pub struct NoOutput;
 impl MixOutput for NoOutput {
     ghost mixes = { λ old datagram new. new ≡ old };
 
+    ghost ended = { λ output kind. None };
+
     fn mixed(&mut self, _datagram: &[u8]) {}
+
+    fn end_of(&self, _kind: OutputKind) -> Option<OutputEnd> {
+        None
+    }
 }
 
 impl EventOutput for NoOutput {
@@ -53,6 +87,8 @@ impl EventOutput for NoOutput {
     ghost changes = { λ old change new. new ≡ old };
 
     ghost closes = { λ old time new. new ≡ old };
+
+    ghost ended = { λ output kind. None };
 
     fn needs_addresses(&self) -> bool {
         false
@@ -63,6 +99,10 @@ impl EventOutput for NoOutput {
     fn changed(&mut self, _change: &TakenChange<'_>) {}
 
     fn closed(&mut self, _time: i64) {}
+
+    fn end_of(&self, _kind: OutputKind) -> Option<OutputEnd> {
+        None
+    }
 }
 
 /// A sink, and an output that takes what was sent.
@@ -80,6 +120,13 @@ impl<K: Sink, M: MixOutput> OutputSink<K, M> {
         ensures output { result.output ≡ output }
     {
         OutputSink { sink, output }
+    }
+
+    /// Returns the output that takes what was sent.
+    pub fn output(&self) -> &M
+        ensures { result.now ≡ self.now.output }
+    {
+        &self.output
     }
 }
 

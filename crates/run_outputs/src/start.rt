@@ -1,5 +1,5 @@
 //! The start of a run: whether it has succeeded. A file that was created for a run goes again if its start fails.
-ghost use Rattle.std.specs.Prelude.{◌≡◌, ◌∷◌, ℕ, List};
+ghost use Rattle.std.specs.Prelude.{◌≡◌, ◌∷◌, ℕ, List, Option};
 ghost use Rattle.studio_config.specs.Studio.{Studio};
 
 use crate::create::{CreateOutput, CreatedOutput};
@@ -11,6 +11,7 @@ use std::sync::atomic::{AtomicU32, Ordering};
 use std::thread::Parker;
 use std::time::Duration;
 use studio_config::StudioSpec;
+use studio_io::{OutputEnd, OutputKind};
 
 /// The state of a start that is still under way.
 const PENDING: u32 = 0;
@@ -104,12 +105,18 @@ pub struct NotedMix<'a, M> {
 impl<M: MixOutput> MixOutput for NotedMix<'_, M> {
     ghost mixes = { λ old datagram new. M.mixes old.mix datagram new.mix };
 
+    ghost ended = { λ output kind. M.ended output.mix kind };
+
     fn mixed(&mut self, datagram: &[u8]) {
         if !self.has_begun {
             self.has_begun = true;
             self.start.set_begun();
         }
         self.mix.mixed(datagram);
+    }
+
+    fn end_of(&self, kind: OutputKind) -> Option<OutputEnd> {
+        self.mix.end_of(kind)
     }
 }
 

@@ -15,9 +15,9 @@ use live_io::{
 };
 use live_run::{LiveFault, LiveInputs, LiveRun, SignalFile, run_studio_live};
 use rtp_stream::Path;
-use run_outputs::RunStart;
+use run_outputs::{OutputEnds, RunStart};
 use status_page::{StreamName, Token};
-use std::alloc::{AllocError, Global};
+use std::alloc::Global;
 use std::io::Write;
 use std::net::Net;
 use std::random::RandomSource;
@@ -46,6 +46,7 @@ pub(crate) fn run_live<
     faults: &mut H::Stderr,
     host: &H,
 ) -> Result<(), ProgramFault> {
+    let args = &args;
     let request = LiveRequest { config, args, host };
     let (begins, ran) = match open_studio(rt, alloc, config, args) {
         Ok(opened) => (
@@ -65,7 +66,7 @@ pub(crate) fn run_live<
 struct LiveRequest<'a, H> {
     /// The octets of the configuration.
     config: &'a [u8],
-    args: LiveArgs<'a>,
+    args: &'a LiveArgs<'a>,
     /// The host of the files.
     host: &'a H,
 }
@@ -103,7 +104,7 @@ fn load_and_run<
 /// Refuses raw PCM that would go to a terminal.
 // A terminal counts as ready if it has space for one octet, so a write of more may wait for its reader, and the run for
 // the write.
-fn refuse_terminal(args: LiveArgs<'_>) -> Result<(), ProgramFault> {
+fn refuse_terminal(args: &LiveArgs<'_>) -> Result<(), ProgramFault> {
     if args.is_pcm_stdout() && is_stdout_terminal() {
         let fault = LiveFault::Output(OutputKind::Pcm);
         return Err(ProgramFault::LiveExplained(fault, Explanation::Text(TERMINAL)));
@@ -116,7 +117,7 @@ fn refuse_terminal(args: LiveArgs<'_>) -> Result<(), ProgramFault> {
 struct LoadedRun<'a> {
     opened: OpenedStudio,
     inputs: LoadedInputs,
-    args: LiveArgs<'a>,
+    args: &'a LiveArgs<'a>,
 }
 
 /// Runs a studio with its inputs, and with the files that its options name. Writes the report and the lines after it.
@@ -133,20 +134,16 @@ fn run_loaded<
     output: &mut W,
     faults: &mut H::Stderr,
 ) -> Result<(), ProgramFault> {
-    let (studio, args) = (&loaded.opened.studio, &loaded.args);
     let (progress, start) = (RunProgress::new(), files.start());
     let run = LiveRun {
-        studio,
-        options: &args.options,
+        studio: &loaded.opened.studio,
+        options: &loaded.args.options,
         inputs: live_inputs(loaded, &progress, start),
     };
     let outputs = files.outputs(&progress);
     let lines = LiveLines::new(faults);
     let ran = run_studio_live(rt, alloc, run, outputs, token, output, lines);
-    if args.verbose && matches!(ran, Err(LiveFault::Socket)) {
-        return Err(socket_fault(alloc, studio, run.inputs.sockets)?);
-    }
-    finish(ran, studio, run.inputs, loaded.args, output)
+    finish(alloc, ran, run, loaded.args, output)
 }
 
 /// Returns the inputs of a run with this start, whose outputs set this progress.
@@ -172,19 +169,15 @@ fn live_inputs<'a>(
     }
 }
 
-/// Returns the fault of a run whose sockets could not all be opened, explained if the socket is known. Returns
-/// `AllocError` if an allocation fails.
-fn socket_fault(
-    alloc: Global,
-    studio: &StudioSpec,
-    sockets: SocketConfig<'_>,
-) -> Result<ProgramFault, AllocError> {
-    Ok(match unopened_socket(alloc, studio, sockets)? {
-        Some(unopened) => {
+/// Returns the fault of a run whose sockets could not all be opened, explained if the socket is known.
+fn socket_fault(alloc: Global, studio: &StudioSpec, sockets: SocketConfig<'_>) -> ProgramFault {
+    match unopened_socket(alloc, studio, sockets) {
+        Ok(Some(unopened)) => {
             ProgramFault::LiveExplained(LiveFault::Socket, Explanation::Socket(unopened))
         }
-        None => ProgramFault::Live(LiveFault::Socket),
-    })
+        Ok(None) => ProgramFault::Live(LiveFault::Socket),
+        Err(refused) => ProgramFault::from(refused),
+    }
 }
 
 /// The inputs of a live run in addition to its studio.
@@ -234,20 +227,28 @@ fn inherited_sockets<R: Env + AllocGlobal>(
     Ok(InheritedSockets::from_env(rt, alloc, studio.streams())?)
 }
 
-/// Writes the lines after the report, if there is a report, and returns the result of the run.
+/// Writes the lines after the report, if there is a report, and returns the result of the run. With `--verbose` the
+/// fault of a socket is explained.
 fn finish<W: Write>(
-    ran: Result<(), LiveFault>,
-    studio: &StudioSpec,
-    inputs: LiveInputs<'_>,
-    args: LiveArgs<'_>,
+    alloc: Global,
+    ran: Result<OutputEnds, LiveFault>,
+    run: LiveRun<'_>,
+    args: &LiveArgs<'_>,
     output: &mut W,
 ) -> Result<(), ProgramFault> {
+    let (studio, inputs) = (run.studio, run.inputs);
     // A run that is not settled has a report too.
-    if matches!(ran, Ok(()) | Err(LiveFault::Unsettled)) {
+    if matches!(ran, Ok(_) | Err(LiveFault::Unsettled)) {
         write_after_report(studio, inputs, args, output)?;
     }
-    ran?;
-    if let Some((kind, end)) = first_fault(inputs.outputs) {
+    let ends = match ran {
+        Ok(ends) => ends,
+        Err(LiveFault::Socket) if args.verbose => {
+            return Err(socket_fault(alloc, studio, inputs.sockets));
+        }
+        Err(fault) => return Err(ProgramFault::from(fault)),
+    };
+    if let Some((kind, end)) = first_fault(&ends, inputs.outputs) {
         return Err(ProgramFault::OutputEnded(kind, end));
     }
     if inputs.sockets.health.has_ended_path() {
@@ -256,10 +257,11 @@ fn finish<W: Write>(
     Ok(())
 }
 
-/// Returns the first output that ended before its run by a fault, with the reason.
-fn first_fault(outputs: &RunProgress) -> Option<(OutputKind, OutputEnd)> {
+/// Returns the first output that ended before its run by a fault, with the reason: that of the run's own part of it,
+/// or else the one that its writer set.
+fn first_fault(ends: &OutputEnds, outputs: &RunProgress) -> Option<(OutputKind, OutputEnd)> {
     for kind in OUTPUT_KINDS {
-        match outputs.of(kind).end() {
+        match ends.of(kind).or(outputs.of(kind).end()) {
             // A reader that went away is no fault of the run: its line on standard error said so.
             None | Some(OutputEnd::Closed) => {}
             Some(end) => return Some((kind, end)),
@@ -273,7 +275,7 @@ fn first_fault(outputs: &RunProgress) -> Option<(OutputKind, OutputEnd)> {
 fn write_after_report<W: Write>(
     studio: &StudioSpec,
     inputs: LiveInputs<'_>,
-    args: LiveArgs<'_>,
+    args: &LiveArgs<'_>,
     output: &mut W,
 ) -> Result<(), ProgramFault> {
     if args.tai_offset.is_some() {

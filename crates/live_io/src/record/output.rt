@@ -6,6 +6,7 @@ ghost use Rattle.live_io.specs.RecordBlocks.{
   PutsClose,
   PutsPacket,
   StaysEnded,
+  record_end,
 };
 
 use crate::record::RecordChannel;
@@ -20,7 +21,7 @@ use std::alloc::Global;
 use std::sync::Wait;
 use std::time::Clock;
 use studio_config::StudioSpec;
-use studio_io::{OutputKind, OutputProgress};
+use studio_io::{OutputEnd, OutputKind, OutputProgress};
 
 /// The record of a run, which is to be created.
 #[derive(Drop)]
@@ -60,6 +61,8 @@ impl EventOutput for RecordObserver<'_> {
     ghost closes = { λ old time new.
         PutsClose old.open_at time old.blocks new.blocks × StaysEnded old.blocks new.blocks };
 
+    ghost ended = { λ observer kind. record_end kind observer.blocks };
+
     fn needs_addresses(&self) -> bool {
         true
     }
@@ -74,6 +77,13 @@ impl EventOutput for RecordObserver<'_> {
 
     fn closed(&mut self, time: i64) {
         self.record_close(time);
+    }
+
+    fn end_of(&self, kind: OutputKind) -> Option<OutputEnd> {
+        match kind {
+            OutputKind::Record => self.end(),
+            OutputKind::Wav | OutputKind::Pcm => None,
+        }
     }
 }
 

@@ -1,8 +1,10 @@
 //! The feeds, the clock, the sink and the wait of a run in one thread.
 ghost use Rattle.std.specs.Prelude.{◌≡◌, None, true, IfOk, IfErr};
+ghost use Rattle.run_outputs.specs.Ends.{AreEndsIn};
 ghost use Rattle.live_run.specs.RunResult.{IsEarly, IsRunWith};
 
 use crate::fault::LiveFault;
+use crate::run_end::RunEnd;
 use crate::single_thread::observer::LiveObserver;
 use crate::single_thread::socket_wait::SocketWait;
 use engine_run::{RunDevices, run_engine};
@@ -10,13 +12,13 @@ use live_io::{
     FeedFlags, RunPeriod, Sockets, SystemClock, TimelySink, UdpFeed, UdpSink, udp_feeds,
 };
 use live_status::Meter;
-use run_outputs::{EventOutput, MixOutput, OutputSink};
+use run_outputs::{EventOutput, MixOutput, OutputEnds, OutputSink};
 use std::alloc::{AllocError, Global};
 use std::io::Write;
 use std::sync::Wait;
 use std::time::Clock;
 use studio_config::StudioSpec;
-use studio_io::{GainSource, SendAnswer, Sink, WorkReport};
+use studio_io::{GainSource, SendAnswer, Sink};
 
 /// The feeds, the clock, the sink and the wait of a run in one thread.
 #[derive(Drop)]
@@ -98,7 +100,7 @@ pub(crate) fn prepare_engine_io<'a, R: Wait + Clock, M: MixOutput>(
 }
 
 impl<R: Wait + Clock, M: MixOutput> EngineDevices<'_, R, M> {
-    /// Runs an engine with this observer and this source of gains.
+    /// Runs an engine with this observer and this source of gains. Returns its report, and why its outputs ended.
     pub(crate) fn run<E: Write + Drop, V: EventOutput, G: GainSource>(
         self,
         rt: &R,
@@ -106,9 +108,10 @@ impl<R: Wait + Clock, M: MixOutput> EngineDevices<'_, R, M> {
         studio: &StudioSpec,
         observer: LiveObserver<'_, E, V>,
         gains: G,
-    ) -> Result<WorkReport, LiveFault>
-        ensures run { IfOk result (λ report. (after : G)
-            × IsRunWith true studio.now report (G.taken gains) (G.taken after)) }
+    ) -> Result<RunEnd, LiveFault>
+        ensures run { IfOk result (λ end. (after : G)
+            × IsRunWith true studio.now end.report (G.taken gains) (G.taken after)) }
+        ensures ends { IfOk result (λ end. AreEndsIn true V.ended M.ended end.outputs) }
         ensures early { IfErr result IsEarly }
     {
         let EngineDevices {
@@ -125,7 +128,8 @@ impl<R: Wait + Clock, M: MixOutput> EngineDevices<'_, R, M> {
             wait,
             gains,
         };
-        let (report, _sink, _observer, _gains) = run_engine(rt, alloc, studio, devices)?;
-        Ok(report)
+        let (report, sink, observer, _gains) = run_engine(rt, alloc, studio, devices)?;
+        let outputs = OutputEnds::of_parts(observer.outputs(), sink.sink.output());
+        Ok(RunEnd { report, outputs })
     }
 }

@@ -59,6 +59,13 @@ impl<'v, E: Write + Drop, V: EventOutput> LiveObserver<'v, E, V> {
             status,
         })
     }
+
+    /// Returns the outputs that take the events.
+    pub(super) fn outputs(&self) -> &V
+        ensures { result.now ≡ self.now.outputs }
+    {
+        &self.outputs
+    }
 }
 
 impl<'a, R: Clock, E: Write + Drop, V: EventOutput> RunObserver<UdpFeed<'a, R>>

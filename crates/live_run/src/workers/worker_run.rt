@@ -1,22 +1,24 @@
 //! The ends of the rings, the feeds, the clocks and the sink of a run's workers.
 ghost use Rattle.std.specs.Prelude.{◌≡◌, [], false, is_some, length, IfOk, IfErr};
 ghost use Rattle.studio_rings.specs.StreamResults.{AreOpenedTogether};
+ghost use Rattle.run_outputs.specs.Ends.{HasMixEnds};
 ghost use Rattle.live_run.specs.RingPlaces.{ring_places};
 ghost use Rattle.live_run.specs.RunResult.{IsEarly, IsRunOf, IsRunWith};
 
 use crate::fault::LiveFault;
+use crate::run_end::RunEnd;
 use live_gains::RunGains;
 use live_io::{
     FeedFlags, RunPeriod, Sockets, SystemClock, TimelySink, UdpFeed, UdpSink, udp_feeds,
 };
-use run_outputs::{MixOutput, OutputSink};
+use run_outputs::{MixOutput, NoOutput, OutputEnds, OutputSink};
 use std::alloc::{AllocError, Global};
 use std::sync::Wait;
 use std::thread::Threads;
 use std::time::Clock;
 use studio_config::StudioSpec;
 use studio_ends::Ends;
-use studio_io::{GainSource, NoGains, WorkReport};
+use studio_io::{GainSource, NoGains};
 use studio_rings::WorkerDevices;
 
 /// The ends of the rings, the feeds, the clocks and the sink of a run's workers.
@@ -71,18 +73,19 @@ fn clocks_of<R: Clock>(
 }
 
 /// Runs the workers of a studio, whose gains can be changed if there is a source. Returns the report once all have
-/// ended.
+/// ended, and why the outputs ended.
 pub(crate) fn run_controlled<'a, R: Threads + Wait + Sync + Clock, M: MixOutput>(
     rt: &R,
     alloc: Global,
     studio: &StudioSpec,
     workers: WorkerRun<'a, R, M>,
     gains: Option<RunGains<'a, R>>,
-) -> Result<WorkReport, LiveFault>
+) -> Result<RunEnd, LiveFault>
     requires opened { AreOpenedTogether studio.now (ring_places studio.now) workers.ends }
     requires feeds { length workers.feeds.items ≡ length workers.ends.paths.items }
     requires clocks { length workers.clocks.items ≡ length workers.ends.streams.items }
-    ensures run { IfOk result (IsRunOf false (is_some gains.entry) studio.now) }
+    ensures run { IfOk result (λ end. IsRunOf false (is_some gains.entry) studio.now end.report) }
+    ensures ends { IfOk result (λ end. HasMixEnds M.ended end.outputs) }
     ensures early { IfErr result IsEarly }
 {
     // Two calls, so that a run without control is proved to take no change.
@@ -93,19 +96,21 @@ pub(crate) fn run_controlled<'a, R: Threads + Wait + Sync + Clock, M: MixOutput>
 }
 
 impl<R: Threads + Wait + Sync + Clock, M: MixOutput> WorkerRun<'_, R, M> {
-    /// Runs the workers of a studio with this source of gains. Returns the report once all have ended.
+    /// Runs the workers of a studio with this source of gains. Returns the report once all have ended, and why the
+    /// outputs ended.
     fn run<G: GainSource>(
         self,
         rt: &R,
         alloc: Global,
         studio: &StudioSpec,
         gains: G,
-    ) -> Result<WorkReport, LiveFault>
+    ) -> Result<RunEnd, LiveFault>
         requires opened { AreOpenedTogether studio.now (ring_places studio.now) self.ends }
         requires feeds { length self.feeds.items ≡ length self.ends.paths.items }
         requires clocks { length self.clocks.items ≡ length self.ends.streams.items }
-        ensures run { IfOk result (λ report. (after : G)
-            × IsRunWith false studio.now report (G.taken gains) (G.taken after)) }
+        ensures run { IfOk result (λ end. (after : G)
+            × IsRunWith false studio.now end.report (G.taken gains) (G.taken after)) }
+        ensures ends { IfOk result (λ end. HasMixEnds M.ended end.outputs) }
         ensures early { IfErr result IsEarly }
     {
         // Called for its contract alone, which says that the studio is sound: the proof of this function needs that.
@@ -122,7 +127,9 @@ impl<R: Threads + Wait + Sync + Clock, M: MixOutput> WorkerRun<'_, R, M> {
             sink,
             gains,
         };
-        let (report, _sink, _gains) = devices.run(rt, alloc, ends)?;
-        Ok(report)
+        let (report, sink, _gains) = devices.run(rt, alloc, ends)?;
+        // A run by workers passes no events to its outputs.
+        let outputs = OutputEnds::of_parts(&NoOutput, sink.output());
+        Ok(RunEnd { report, outputs })
     }
 }

@@ -11,5 +11,6 @@ returns g c = record {
       settled = λ settled. (_, _, length-map _ _ ∙ c.in_ok-report.ensures.feeds settled, c.in_ok-report.ensures.settled settled);
     },
   );
+  ends = (_, _, c.of_parts-outputs.ensures);
   early = search rules;
 }

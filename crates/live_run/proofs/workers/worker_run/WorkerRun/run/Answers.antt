@@ -12,3 +12,6 @@ returns-clause-run g c = (
     settled = λ settled. (ring_places c.args.studio.now, _, _, c.in_ok-report.ensures.settled settled c.args.studio.now (ring_places c.args.studio.now) c.requires.opened);
   },
 )
+
+pub returns-clause-ends : goal.returns-clause-ends
+returns-clause-ends g c = (_, c.of_parts-outputs.ensures)
