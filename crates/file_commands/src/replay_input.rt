@@ -1,7 +1,9 @@
 //! The capture that `replay` reads: a file, or a record on standard input whose first octets were already read.
-ghost use Rattle.std.specs.Prelude.{◌≡◌, pos, IfOk, IfSome, Some};
+ghost use Rattle.std.specs.Prelude.{◌≡◌, map, pos, IfOk, IfSome, Some};
+ghost use Rattle.pcap_file.specs.Described.{interfaces_of};
 ghost use Rattle.pcap_file.specs.Entries.{entries_of};
 ghost use Rattle.pcap_replay.specs.Record as spec;
+ghost use Rattle.pcap_replay.specs.RecordedPaths.{ArePathsOf, texts_of};
 ghost use Rattle.studio_config.specs.Shift.{shifted};
 ghost use Rattle.file_commands.specs.ReplayedStudio.{HasGains, IsRecorded};
 
@@ -139,7 +141,10 @@ pub(crate) fn opening_in<R: Read>(alloc: Global, input: &mut R) -> Result<Option
 pub(crate) fn paths_in<R: Read>(
     alloc: Global,
     input: &mut R,
-) -> Result<Vec<RecordedPath>, CommandFault> {
+) -> Result<Vec<RecordedPath>, CommandFault>
+    ensures { IfOk result (λ paths. IfSome (R.remaining input.old) (λ file. map texts_of paths.items
+        ≡ interfaces_of file)) }
+{
     Ok(recorded_paths(alloc, input)?)
 }
 
@@ -167,7 +172,8 @@ pub(crate) fn recorded_studio(
 
 /// Returns the run that the record describes which begins with these octets.
 fn recorded_run(alloc: Global, front: &[u8]) -> Result<RecordedRun, CommandFault>
-    ensures { IfOk result (λ run. spec.opening_in (entries_of front.now) ≡ Some run.opening) }
+    ensures opening { IfOk result (λ run. spec.opening_in (entries_of front.now) ≡ Some run.opening) }
+    ensures paths { IfOk result (λ run. map texts_of run.paths.items ≡ interfaces_of front.now) }
 {
     let mut start = front;
     let Some(opening) = opening_in(alloc, &mut start)? else {
@@ -189,7 +195,8 @@ pub(crate) fn studio_for(
     paths: &[RecordedPath],
     gains: &[u8],
 ) -> Result<StudioSpec, CommandFault>
-    ensures { IfOk result (HasGains (shifted (pos opening) studio) gains.now) }
+    ensures paths { IfOk result (λ changed. ArePathsOf 0 studio.streams paths.now) }
+    ensures changed { IfOk result (HasGains (shifted (pos opening) studio) gains.now) }
 {
     if let Some(fault) = recording_fault(paths, studio.streams()) {
         return Err(CommandFault::Capture(CaptureInputFault::Recording(fault)));

@@ -77,6 +77,9 @@ pub(crate) fn source_of<H: Host>(
         → (opening : ℕ) × HasGains (shifted (pos opening) studio) gains.now source.studio) }
     ensures flows { IfOk result (λ source. source.kind ≢ CaptureKind.Record
         → HasGains studio gains.now source.studio) }
+    ensures taken { args.now.gains ≡ None → IfOk result
+        (λ source. source.kind ≡ CaptureKind.Record → source.changes ≡ RecordedChanges.Taken) }
+    ensures skipped { args.now.gains ≢ None → IfOk result (λ source. source.changes ≡ RecordedChanges.Skipped) }
 {
     match opening_at(host, alloc, args.file)? {
         Some(opening) => record_source(host, alloc, studio, opening, gains, args),
