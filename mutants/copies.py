@@ -17,8 +17,9 @@ def link(old: str, new: str) -> None:
         shutil.copy2(old, new)
 
 
-def copy(folder: Path, names: list[str]) -> list[str]:
-    """Copies these crates and those below them with what their checks kept, and returns the folders that no check kept.
+def copy(folder: Path, names: list[str], has_kept: bool = True) -> list[str]:
+    """Copies these crates and those below them with what their checks kept, unless that is not wanted, and returns the
+    folders that no check kept.
 
     Edits are not copied."""
     needed = [name for name in sources.crates() if any(name in sources.below(it) for it in names)]
@@ -30,7 +31,7 @@ def copy(folder: Path, names: list[str]) -> list[str]:
     kept = [f"crates/{name}/out/incremental" for name in names] + [f"crates/{name}/out/rlib" for name in needed]
     missing = [place for place in kept if not (sources.ROOT / place).is_dir()]
     for place in kept:
-        if place not in missing:
+        if has_kept and place not in missing:
             shutil.copytree(sources.ROOT / place, folder / place, copy_function=link)
     folder.mkdir(parents=True, exist_ok=True)
     lines = [f"{sources.heading(name)}: {' '.join(sources.dependencies()[name])}\n" for name in wanted]

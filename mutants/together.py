@@ -1,5 +1,5 @@
-"""Tries edits of a crate over what its check kept: those that change different functions in one check, and then each
-that is left alone.
+"""Tries edits of a crate over what its check kept, or over the libraries that `rt ci` kept: those that change different
+functions in one check, and then each that is left alone.
 
 A contract is not changed by an edit, so whether a function meets its own says nothing of another function. Of a check
 with several edits those are refused whose own functions the prover says are not proved, with a message that points into
@@ -8,8 +8,13 @@ must-fail`, which begins with a proof of the crate from nothing where these chec
 """
 import re
 import subprocess
+import sys
+from collections.abc import Callable
 from pathlib import Path
 from typing import NamedTuple
+
+sys.path.insert(0, str(Path(__file__).resolve().parent.parent / "gate"))
+import kept
 
 FUNCTION = re.compile(r"(?:    )?(?:pub(?:\(\w+\))? )?(?:const )?(?:unsafe )?(?:extern \"C\" )?fn (\w+)")
 # What the prover says of a place: an error of a proof, or a goal of a function that it could not prove.
@@ -144,31 +149,45 @@ def is_unproved(lines, places, crate):
     return any(it[1] == crate and holds(tuple(it[2].split("::")), places) for it in found)
 
 
-def check(home, texts):
+def whole(home: Path, texts: dict[str, str]) -> list[str]:
+    """The command that checks a crate over what its check kept, whatever its texts are."""
+    return ["rt", "check", "--jobs", "1"]
+
+
+def modules(home: Path, texts: dict[str, str]) -> list[str]:
+    """The command that checks the modules of these texts over libraries that were laid; the whole crate if one of the
+    texts is no source."""
+    flags = ["--jobs", "1"]
+    if all(file.startswith("src/") for file in texts):
+        names = ["::".join([home.name, *module_of(file)]) for file in sorted(texts)]
+        flags += ["--allow-holes", *(word for name in names for word in ("--only", name))]
+    return kept.words(home.parent.parent, home.name, flags)
+
+
+def check(home, texts, command):
     """Checks a crate with these texts of its files, and puts the files back."""
-    kept = {file: (home / file).read_text() for file in texts}
+    former = {file: (home / file).read_text() for file in texts}
     try:
         for file, text in texts.items():
             (home / file).write_text(text)
-        return subprocess.run(
-            ["rt", "check", "--jobs", "1"], cwd=home, capture_output=True, text=True, errors="replace", check=False
-        )
+        words = command(home, texts)
+        return subprocess.run(words, cwd=home, capture_output=True, text=True, errors="replace", check=False)
     finally:
-        for file, text in kept.items():
+        for file, text in former.items():
             (home / file).write_text(text)
 
 
-def refused_in(home, edits):
+def refused_in(home, edits, command=whole):
     """The edits that one check of all of them refuses, each by a message of its own. Where the check decides nothing,
     halves are tried."""
     texts = {}
     for edit in edits:
         texts = applied(texts, edit, home)[0]
-    ran = check(home, texts)
+    ran = check(home, texts, command)
     said = ran.stdout + ran.stderr
     if ran.returncode != 1 or UNREAD.search(said):
         half = len(edits) // 2
-        return refused_in(home, edits[:half]) + refused_in(home, edits[half:]) if half else []
+        return refused_in(home, edits[:half], command) + refused_in(home, edits[half:], command) if half else []
     lines, found = said.splitlines(), []
     for edit in edits:
         places = applied({}, edit, home)[1]
@@ -194,7 +213,7 @@ def is_refused_alone(home, edit):
     texts = changed(edit, home)
     if not texts:
         return False
-    ran = check(home, texts)
+    ran = check(home, texts, whole)
     lines = (ran.stdout + ran.stderr).rstrip().splitlines()
     placed = [line for line in lines if PLACED.match(line) and ": warning" not in line]
     unread = [
@@ -207,14 +226,28 @@ def is_refused_alone(home, edit):
     )
 
 
+def refused_over(command: Callable, home: Path, edits: list[Edit]) -> list[Edit]:
+    """Of these edits of a crate, those that checks of several refuse."""
+    return [edit for group in batches(edits, home) for edit in refused_in(home, group, command)]
+
+
 def refused(home: Path, files: list[Path]) -> list[Path]:
     """Of these files of edits of the crate in a folder, those that checks over what is kept there refuse."""
     edits = [read(file) for file in files]
-    found = [edit.file for group in batches(edits, home) for edit in refused_in(home, group)]
+    found = [edit.file for edit in refused_over(whole, home, edits)]
     left = [edit for edit in edits if edit.file not in found]
     if not left:
         return found
-    if check(home, {}).returncode:
+    if check(home, {}, whole).returncode:
         # The crate itself is not proved over what is kept here, so that no refusal says anything of an edit.
         return []
     return found + [edit.file for edit in left if is_refused_alone(home, edit)]
+
+
+def refused_over_laid(home: Path, files: list[Path]) -> list[Path]:
+    """Of these files of edits of the crate in a folder, those that checks over the libraries that were laid there refuse:
+    of a crate that `rt ci` proved, so that a function that is not proved is one that an edit changed."""
+    edits = [read(file) for file in files]
+    found = refused_over(modules, home, edits)
+    left = [edit for edit in edits if edit not in found and applied({}, edit, home)]
+    return [edit.file for edit in found + [it for edit in left for it in refused_in(home, [edit], modules)]]
