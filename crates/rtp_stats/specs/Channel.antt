@@ -1,12 +1,20 @@
--- The values that go into a ring of numbers, and the value that a look takes out of it.
+-- The ends of a ring of numbers, the values that go into it, and the value that a look takes out of it.
 use Rattle.std.specs.Prelude.{◌≡◌, ◌⊎◌, ℕ, List, [], ◌∷◌, ◌++◌, length, Option, None}
 use Rattle.std.specs.List.{last_or}
 use mathlib.Core.List.{IsPrefix}
-use Rattle.rtrb.specs.Ring.{known_free, known_items, received, sent}
+use Rattle.rtrb.specs.Ring.{IsPair, known_free, known_items, received, sent}
 use Rattle.rtrb.specs.declared.consumer.Consumer.{Consumer}
 use Rattle.rtrb.specs.declared.producer.Producer.{Producer}
 
 module _ {T A P : Type 0} where
+  -- the two ends of one ring of this many places, as they are opened: nothing was sent, and nothing was taken out
+  pub record IsFreshPair (places : ℕ) (p : Producer T A P) (c : Consumer T A P) : Type 0 where
+    pub pair : IsPair p c
+    pub none_sent : sent p ≡ []
+    pub all_free : known_free p ≡ places
+    pub none_received : received c ≡ []
+    pub none_known : known_items c ≡ []
+
   -- this value went through the ring
   abbrev pub GoesThrough : T → Producer T A P → Producer T A P → Type 0
   GoesThrough value old new = sent new ≡ sent old ++ value ∷ []

@@ -1,7 +1,7 @@
 //! The channel that reports the saturated samples and the peaks of the mix.
 ghost use Rattle.std.specs.Prelude.{◌≡◌, min, IfOk};
 ghost use Rattle.rtrb.specs.Ring.{SameConsumer, SameProducer};
-ghost use Rattle.rtp_stats.specs.Channel.{IsNewest};
+ghost use Rattle.rtp_stats.specs.Channel.{IsFreshPair, IsNewest};
 ghost use Rattle.rtp_stats.specs.Channels.{AreRaised, TellsMix, no_peaks};
 
 use crate::channel::mix_sender::{MAX_CHANNELS, MixStatsSender};
@@ -27,6 +27,7 @@ pub fn mix_stats_channel(
     enc: Enc,
     channels: u8,
 ) -> Result<(MixStatsSender, MixStatsReceiver), AllocError>
+    ensures pair { IfOk result (λ ends. IsFreshPair 1 ends.0.ring ends.1.ring) }
     ensures enc { IfOk result (λ ends. ends.0.enc ≡ enc) }
     ensures channels { IfOk result (λ ends. ends.0.channels ≡ min channels 8) }
     ensures peaks { IfOk result (λ ends. ends.0.peaks ≡ no_peaks) }

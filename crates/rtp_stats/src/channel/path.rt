@@ -1,6 +1,7 @@
 //! The channel that reports the outcomes of a path's datagrams before the merge.
+ghost use Rattle.std.specs.Prelude.{IfOk};
 ghost use Rattle.rtrb.specs.Ring.{SameConsumer, SameProducer};
-ghost use Rattle.rtp_stats.specs.Channel.{Gives, IsNewest};
+ghost use Rattle.rtp_stats.specs.Channel.{Gives, IsFreshPair, IsNewest};
 
 use crate::channel::{take_newest, try_send};
 use rtp_stream::PathCounts;
@@ -23,7 +24,9 @@ pub struct PathCountsReceiver {
 // One place is enough, since later counts include the earlier ones.
 pub fn path_counts_channel(
     alloc: Global,
-) -> Result<(PathCountsSender, PathCountsReceiver), AllocError> {
+) -> Result<(PathCountsSender, PathCountsReceiver), AllocError>
+    ensures pair { IfOk result (λ ends. IsFreshPair 1 ends.0.ring ends.1.ring) }
+{
     let (producer, consumer) = RingBuffer::new(alloc, 1)?;
     Ok((
         PathCountsSender { ring: producer },

@@ -4,7 +4,7 @@ ghost use Rattle.rtrb.specs.Ring.{SameConsumer, SameProducer};
 ghost use Rattle.rtp_stream.specs.declared.stream_spec.Stream.{Stream};
 ghost use Rattle.rtp_stats.specs.Offer.{Offer};
 ghost use Rattle.rtp_stats.specs.Tally.{HasTally};
-ghost use Rattle.rtp_stats.specs.Channel.{IsNewest};
+ghost use Rattle.rtp_stats.specs.Channel.{IsFreshPair, IsNewest};
 ghost use Rattle.rtp_stats.specs.Channels.{Tells};
 ghost use Rattle.rtp_stats.specs.CopyTracker.{NotesOffer};
 
@@ -44,6 +44,7 @@ pub fn stream_stats_channel(
     alloc: Global,
     spec: &StreamSpec,
 ) -> Result<(StreamStatsSender, StreamStatsReceiver), AllocError>
+    ensures pair { IfOk result (λ ends. IsFreshPair PLACES ends.0.ring ends.1.ring) }
     ensures empty { IfOk result (λ ends. HasTally spec.now [] ends.0.tracker.tally) }
     ensures known { IfOk result (λ ends. ends.0.tracker.deadlines ≡ None) }
     ensures next { IfOk result (λ ends. (now : ℤ) → neg_ℤ (pos (2 ^ 63)) ≤ℤ now → ends.0.next ≤ℤ now) }
