@@ -1,9 +1,9 @@
 """The libraries that `rt ci` kept on this machine, and checks of some functions over them.
 
-`rt ci` keeps each crate that it proved, by the checksums of all that it read, as a library of its statements. Over these a
-check of a function is a matter of seconds, where `rt check` proves all crates below it first. No verdict rests on such a
-check: it is for what is tried and measured. The toolchain has no command for it, so this takes what its `rt` is made of; a
-toolchain whose `rt` is made otherwise has none of it here.
+`rt ci` keeps each crate that it proved, by the checksums of all that it read, as a library of its statements. Over
+these a check of a function is a matter of seconds, where `rt check` proves all crates below it first. No verdict rests
+on such a check: it is for what is tried and measured. The toolchain has no command for it, so this takes what its `rt`
+is made of; a toolchain whose `rt` is made otherwise has none of it here.
 """
 import importlib.machinery
 import importlib.util
@@ -31,8 +31,8 @@ def toolchain(top: Path):
 
 
 def lay(top: Path, name: str) -> list[str]:
-    """Lays the kept libraries below a crate where a check of it in this tree finds them. Returns those that are lacking:
-    the crate itself where the toolchain keeps none."""
+    """Lays the kept libraries below a crate where a check of it in this tree finds them. Returns those that are
+    lacking: the crate itself where the toolchain keeps none."""
     lacking = []
     try:
         rt, crates = toolchain(top)
@@ -46,7 +46,7 @@ def lay(top: Path, name: str) -> list[str]:
 
 
 def given(rt, kept, crate) -> bool:
-    """Gives a crate the library that was kept of its very texts, over the libraries below it, and notes what it gave."""
+    """Gives a crate the library that was kept of its very texts over the libraries below it, and notes it."""
     rt.clear(f"{crate.folder}/out/rlib")
     os.makedirs(f"{crate.folder}/out", exist_ok=True)
     if not kept.give(crate, False, kept.key(crate)):

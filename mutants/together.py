@@ -245,8 +245,8 @@ def refused(home: Path, files: list[Path]) -> list[Path]:
 
 
 def refused_over_laid(home: Path, files: list[Path]) -> list[Path]:
-    """Of these files of edits of the crate in a folder, those that checks over the libraries that were laid there refuse:
-    of a crate that `rt ci` proved, so that a function that is not proved is one that an edit changed."""
+    """Of these files of edits of the crate in a folder, those that checks over the libraries that were laid there
+    refuse. `rt ci` proved the crate, so that a function that is not proved is one that an edit changed."""
     edits = [read(file) for file in files]
     found = refused_over(modules, home, edits)
     left = [edit for edit in edits if edit not in found and applied({}, edit, home)]
