@@ -5,6 +5,7 @@ these a check of a function is a matter of seconds, where `rt check` proves all 
 on such a check: it is for what is tried and measured. The toolchain has no command for it, so this takes what its `rt`
 is made of; a toolchain whose `rt` is made otherwise has none of it here.
 """
+import functools
 import importlib.machinery
 import importlib.util
 import os
@@ -13,21 +14,24 @@ import sys
 from pathlib import Path
 
 
-def toolchain(top: Path):
-    """The toolchain's `rt` as a module, set up for the crates of a tree, and these crates by their names."""
+@functools.cache
+def load():
+    """The toolchain's `rt` as a module. A signal's handler is set with it, which only the main thread may do."""
     loader = importlib.machinery.SourceFileLoader("rt", os.path.realpath(shutil.which("rt") or "rt"))
     rt = importlib.util.module_from_spec(importlib.util.spec_from_loader("rt", loader))
     sys.modules["rt"] = rt
     loader.exec_module(rt)
-    here = os.getcwd()
-    os.chdir(top)
-    try:
-        # The crates above a library load its statements alone, as in `rt ci`.
-        rt.Crate.cuts_libraries = rt.rtlib.Crate.cuts_libraries = True
-        rt.Crate.allowed = rt.rtlib.Crate.allowed = rt.handles_of(str(top))
-        return rt, {crate.name: crate for crate in rt.crates_of(str(top))}
-    finally:
-        os.chdir(here)
+    # The crates above a library load its statements alone, as in `rt ci`.
+    rt.Crate.cuts_libraries = rt.rtlib.Crate.cuts_libraries = True
+    rt.rtlib.guarded()
+    return rt
+
+
+def toolchain(top: Path):
+    """The toolchain's `rt` as a module, and the crates of a tree by their names."""
+    rt = load()
+    rt.Crate.allowed = rt.rtlib.Crate.allowed = rt.handles_of(str(top))
+    return rt, {crate.name: crate for crate in rt.crates_of(str(top))}
 
 
 def lay(top: Path, name: str) -> list[str]:
