@@ -15,4 +15,5 @@ pub mod MixTurnLemmas
 pub mod MixLemmas
 pub mod DatagramLemmas
 pub mod OpenLemmas
+pub mod ReceiverLemmas
 pub mod ChangedLemmas

@@ -18,6 +18,8 @@ pub mod Tokens
 pub mod FreshEnds
 pub mod Stats
 pub mod Opening
+pub mod Receivers
+pub mod OpenedChannels
 pub use Rattle.rtp_wire.specs.Datagram
 pub use Rattle.rtp_stream.specs.StreamSpecFacts
 pub use Rattle.rtp_stream.specs.StreamSpec

@@ -15,6 +15,8 @@ ghost use Rattle.std.specs.Prelude.{
   pos,
   ◌≤ℤ◌,
   ◌^◌,
+  false,
+  true,
 };
 ghost use Rattle.studio_config.specs.Studio.{IsStudio};
 ghost use Rattle.studio_ends.specs.declared.path_end.PathEnd.{PathEnd};
@@ -27,7 +29,10 @@ ghost use Rattle.studio_ends.specs.FreshEnds.{
   IsFreshStream,
   open_fault_of,
 };
+ghost use Rattle.studio_ends.specs.OpenedChannels.{HaveChannels, OpensMix, OpensPath, OpensStream};
 ghost use Rattle.studio_ends.specs.Opening.{AddsStream, AllUnread, AreFreshEnds};
+ghost use Rattle.studio_ends.specs.Receivers.{HaveNoSender, HaveReceivers};
+ghost use Rattle.studio_ends.specs.declared.stream_end.StreamEnd.{StreamEnd};
 
 use crate::mix_end::MixEnd;
 use crate::monitor_end::MonitorEnd;
@@ -80,7 +85,8 @@ fn open_path(
     ring_len: usize,
     channels: &mut StatsChannels,
 ) -> Result<(PathEnd, PacketConsumer), AllocError>
-    ensures { IfOk result (λ r. IsFreshPath spec.now ring_len r.0 r.1) }
+    ensures fresh { IfOk result (λ r. IsFreshPath spec.now ring_len r.0 r.1) }
+    ensures channel { IfOk result (λ r. OpensPath channels.old r.0.sender channels.new) }
 {
     let sender = channels.path_channel(alloc)?;
     let (ring, side) = open_packets(alloc, spec.payload_len(), ring_len)?;
@@ -101,9 +107,12 @@ fn open_paths(
     paths: &mut Vec<PathEnd>,
     channels: &mut StatsChannels,
 ) -> Result<Vec<PacketConsumer>, AllocError>
-    ensures { IfOk result (λ sides. (own : List PathEnd) × (paths.new.items ≡ paths.old.items ++ own)
+    ensures fresh { IfOk result (λ sides. (own : List PathEnd) × (paths.new.items ≡ paths.old.items ++ own)
         × (length own ≡ spec.now.paths) × (vec_len sides ≡ spec.now.paths)
         × AllFreshPaths spec.now ring_len own sides.items) }
+    ensures channels { IfOk result (λ _. (streams : List StreamEnd) → HaveChannels paths.old.items streams channels.old
+        → HaveChannels paths.new.items streams channels.new) }
+    ensures wanted { OnOk result (channels.new.are_wanted ≡ channels.old.are_wanted) }
 {
     let mut sides = Vec::new(alloc);
     for _ in 0..spec.paths() {
@@ -129,6 +138,7 @@ fn open_stream(
     ensures fresh { (own : List PathEnd) → length own ≡ spec.now.paths → AllFreshPaths spec.now ring_len own sides.items
         → IfOk result (λ r. IsFreshStream open_at ring_len spec.now own r.0) }
     ensures rings { IfOk result (λ r. AreFreshRings ring_len r.0 r.1 r.2) }
+    ensures channel { IfOk result (λ r. OpensStream spec.now channels.old r.0.sender channels.new) }
 {
     let sender = channels.stream_channel(alloc, spec)?;
     let merge = Merge::new(alloc, *spec, open_at)?;
@@ -159,7 +169,10 @@ fn add_stream(
 ) -> Result<(), AllocError>
     requires not_low { pos 0 ≤ℤ open_at }
     requires not_high { open_at ≤ℤ pos (2 ^ 60) }
-    ensures { OnOk result (AddsStream open_at ring_len spec.now ends.old ends.new) }
+    ensures fresh { OnOk result (AddsStream open_at ring_len spec.now ends.old ends.new) }
+    ensures channels { OnOk result (HaveChannels ends.old.paths.items ends.old.streams.items channels.old
+        → HaveChannels ends.new.paths.items ends.new.streams.items channels.new) }
+    ensures wanted { OnOk result (channels.new.are_wanted ≡ channels.old.are_wanted) }
 {
     let sides = open_paths(alloc, spec, ring_len, &mut ends.paths, channels)?;
     let (end, monitor, side) = open_stream(alloc, spec, open_at, sides, ring_len, channels)?;
@@ -179,7 +192,10 @@ fn open_streams(
 ) -> Result<StreamEnds, AllocError>
     requires not_low { pos 0 ≤ℤ open_at }
     requires not_high { open_at ≤ℤ pos (2 ^ 60) }
-    ensures { IfOk result (λ ends. AreFreshEnds open_at ring_len specs.now ends) }
+    ensures fresh { IfOk result (λ ends. AreFreshEnds open_at ring_len specs.now ends) }
+    ensures channels { IfOk result (λ ends. HaveChannels [] [] channels.old
+        → HaveChannels ends.paths.items ends.streams.items channels.new) }
+    ensures wanted { OnOk result (channels.new.are_wanted ≡ channels.old.are_wanted) }
 {
     let mut ends = StreamEnds {
         paths: Vec::new(alloc),
@@ -202,7 +218,8 @@ fn open_mix(
 ) -> Result<MixEnd, AllocError>
     requires sound { IsStudio studio.now }
     requires unread { AllUnread studio.now.streams sides.items }
-    ensures { IfOk result (λ mix. (mix.sides ≡ sides) × HasGiven studio.now mix []) }
+    ensures fresh { IfOk result (λ mix. (mix.sides ≡ sides) × HasGiven studio.now mix []) }
+    ensures channel { IfOk result (λ mix. OpensMix channels.old mix.sender channels.new) }
 {
     let output = studio.output();
     let sender = channels.mix_channel(alloc, output)?;
@@ -223,7 +240,11 @@ fn open_ends(
     ring_len: usize,
     channels: &mut StatsChannels,
 ) -> Result<Ends, AllocError>
-    ensures { IfOk result (λ ends. AreOpened studio.now ring_len ends) }
+    ensures opened { IfOk result (λ ends. AreOpened studio.now ring_len ends) }
+    ensures receivers { IfOk result (λ ends. HaveChannels [] [] channels.old → channels.old.are_wanted ≡ true
+        → HaveReceivers ends channels.new.receivers) }
+    ensures silent { IfOk result (λ ends. HaveChannels [] [] channels.old → channels.old.are_wanted ≡ false
+        → HaveNoSender ends) }
 {
     let StreamEnds {
         paths,
@@ -252,6 +273,7 @@ fn open_ends(
 /// Returns `OpenFault::RingLength` if `ring_len` is out of range, and `OpenFault::Memory` if an allocation fails.
 pub fn open(alloc: Global, studio: &StudioSpec, ring_len: usize) -> Result<Ends, OpenFault>
     ensures opened { IfOk result (λ ends. AreOpened studio.now ring_len ends) }
+    ensures silent { IfOk result HaveNoSender }
     ensures places { IfOk result (λ ends. (1 ≤ ring_len) × (ring_len ≤ 65536)) }
     ensures fault { IfErr result (λ fault. fault ≡ open_fault_of ring_len) }
 {
@@ -271,6 +293,7 @@ pub fn open_with_stats(
     ring_len: usize,
 ) -> Result<(Ends, StatsReceivers), OpenFault>
     ensures opened { IfOk result (λ r. AreOpened studio.now ring_len r.0) }
+    ensures receivers { IfOk result (λ r. HaveReceivers r.0 r.1) }
     ensures places { IfOk result (λ r. (1 ≤ ring_len) × (ring_len ≤ 65536)) }
     ensures fault { IfErr result (λ fault. fault ≡ open_fault_of ring_len) }
 {
@@ -287,6 +310,10 @@ fn open_with(
     channels: &mut StatsChannels,
 ) -> Result<Ends, OpenFault>
     ensures opened { IfOk result (λ ends. AreOpened studio.now ring_len ends) }
+    ensures receivers { IfOk result (λ ends. HaveChannels [] [] channels.old → channels.old.are_wanted ≡ true
+        → HaveReceivers ends channels.new.receivers) }
+    ensures silent { IfOk result (λ ends. HaveChannels [] [] channels.old → channels.old.are_wanted ≡ false
+        → HaveNoSender ends) }
     ensures places { IfOk result (λ ends. (1 ≤ ring_len) × (ring_len ≤ 65536)) }
     ensures fault { IfErr result (λ fault. fault ≡ open_fault_of ring_len) }
 {

@@ -1,5 +1,6 @@
 //! The channels that report the statistics of a studio's ends, opened together with the ends.
-ghost use Rattle.std.specs.Prelude.{IfOk};
+ghost use Rattle.std.specs.Prelude.{◌≡◌, [], IfOk};
+ghost use Rattle.studio_ends.specs.OpenedChannels.{HaveChannels, OpensMix, OpensPath, OpensStream};
 ghost use Rattle.studio_ends.specs.Stats.{Measures};
 
 use mix_packets::OutSpec;
@@ -29,7 +30,10 @@ pub(crate) struct StatsChannels {
 
 impl StatsChannels {
     /// Returns channels, none of them open yet. If they are not wanted, none is ever opened.
-    pub(crate) fn new(alloc: Global, are_wanted: bool) -> StatsChannels {
+    pub(crate) fn new(alloc: Global, are_wanted: bool) -> StatsChannels
+        ensures wanted { result.are_wanted ≡ are_wanted }
+        ensures none { HaveChannels [] [] result }
+    {
         StatsChannels {
             receivers: StatsReceivers {
                 paths: Vec::new(alloc),
@@ -44,7 +48,9 @@ impl StatsChannels {
     pub(crate) fn path_channel(
         &mut self,
         alloc: Global,
-    ) -> Result<Option<PathCountsSender>, AllocError> {
+    ) -> Result<Option<PathCountsSender>, AllocError>
+        ensures { IfOk result (λ sender. OpensPath self.old sender self.new) }
+    {
         if !self.are_wanted {
             return Ok(None);
         }
@@ -58,7 +64,9 @@ impl StatsChannels {
         &mut self,
         alloc: Global,
         spec: &StreamSpec,
-    ) -> Result<Option<StreamStatsSender>, AllocError> {
+    ) -> Result<Option<StreamStatsSender>, AllocError>
+        ensures { IfOk result (λ sender. OpensStream spec.now self.old sender self.new) }
+    {
         if !self.are_wanted {
             return Ok(None);
         }
@@ -73,7 +81,8 @@ impl StatsChannels {
         alloc: Global,
         output: &OutSpec,
     ) -> Result<Option<MixStatsSender>, AllocError>
-        ensures { IfOk result (λ sender. Measures sender output.now) }
+        ensures opened { IfOk result (λ sender. OpensMix self.old sender self.new) }
+        ensures measures { IfOk result (λ sender. Measures sender output.now) }
     {
         if !self.are_wanted {
             return Ok(None);

@@ -13,11 +13,11 @@ invariant_of-result c =
     record {
       count = length_is ∙ lanes_count c.args.studio.now c.args.sides.items c.in_ok-mixer.mixer c.requires.unread c.in_ok-mixer.ensures;
       few = omega (arith, length_is, few, count);
-      measures = subst (Measures c.in_ok-sender.sender) (c.output-output.ensures ∙ sym c.in_ok-mixer.ensures.output) c.in_ok-sender.ensures;
+      measures = subst (Measures c.in_ok-sender.sender) (c.output-output.ensures ∙ sym c.in_ok-mixer.ensures.output) c.in_ok-sender.ensures.measures;
     }
 
-pub returns : goal.returns
-returns c =
+pub returns-clause-fresh : goal.returns-clause-fresh
+returns-clause-fresh c =
     let studio = c.args.studio.now in
     let e : c.output-output.result.now ≡ studio.output = c.output-output.ensures in
     (refl, given-fresh studio _ (subst (λ (o : Output). 0 < o.frames) e c.frames-frames.ensures.sound.some_frames) (feeds-unread studio c.args.sides.items c.in_ok-mixer.mixer c.requires.unread c.in_ok-mixer.ensures))
