@@ -4,6 +4,7 @@ pub mod AnswerLemmas
 pub mod AskLemmas
 pub mod TellLemmas
 pub mod TakeLemmas
+pub mod FeedFaultLemmas
 pub mod SendLemmas
 pub mod RunLemmas
 pub mod GainRequestLemmas

@@ -3,6 +3,7 @@ pub mod Rounds
 pub mod Observers
 pub mod Grouping
 pub mod Intake
+pub mod FeedFaults
 pub mod Output
 pub mod GainRequests
 pub mod Runs
@@ -17,6 +18,7 @@ pub use Rattle.studio_engine.specs.Session
 pub use Rattle.studio_io.specs.Answers
 pub use Rattle.studio_io.specs.Balances
 pub use Rattle.studio_io.specs.Clocks
+pub use Rattle.studio_io.specs.FaultCounts
 pub use Rattle.studio_io.specs.Gains
 pub use Rattle.studio_mix.specs.Changed
 pub use Rattle.gain_mix.specs.Changes

@@ -3,6 +3,7 @@ ghost use Rattle.std.specs.Prelude.{◌≡◌, ℕ, List, length, IfOk, OnOk};
 ghost use Rattle.studio_config.specs.Studio.{Studio};
 ghost use Rattle.studio_session.specs.Event.{TraceEvent};
 ghost use Rattle.studio_engine.specs.Session.{HasSession};
+ghost use Rattle.engine_run.specs.FeedFaults.{AllKeepFaults, ReaderKeepsFaults, StreamKeepsFaults};
 ghost use Rattle.engine_run.specs.Intake.{GaveBy, Takes, TakesAll, TakesStream};
 
 use crate::feed_reader::FeedReader;
@@ -51,6 +52,7 @@ fn take_one<F: Feed, T: RunObserver<F>>(
         → (t : Takes F.told studio engine.new events datagrams stream path reader.old reader.new (T.heard observer.old)
         (T.heard observer.new) 1) × GaveBy outcome t.given) }
     ensures noted { T.noted observer.new ≡ T.noted observer.old }
+    ensures faults { ReaderKeepsFaults F.told reader.old reader.new }
 {
     if reader.state.ended {
         return Ok(FeedOutcome::Nothing);
@@ -85,6 +87,7 @@ fn take_some<F: Feed, T: RunObserver<F>>(
         → Takes F.told studio engine.new events datagrams stream path reader.old reader.new (T.heard observer.old)
         (T.heard observer.new) 64) }
     ensures noted { T.noted observer.new ≡ T.noted observer.old }
+    ensures faults { ReaderKeepsFaults F.told reader.old reader.new }
 {
     for _ in 0..MAX_TAKEN {
         let outcome = take_one(engine, stream, path, reader, observer, buf)?;
@@ -121,6 +124,7 @@ fn take_stream<F: Feed, T: RunObserver<F>>(
         → TakesStream F.told studio engine.new events datagrams stream readers.old readers.new (T.heard observer.old)
         (T.heard observer.new) (length readers.old)) }
     ensures noted { T.noted observer.new ≡ T.noted observer.old }
+    ensures faults { StreamKeepsFaults F.told readers.old readers.new }
 {
     // The feed that allows the shortest pause decides.
     let mut most = LONGEST_PAUSE;
@@ -147,6 +151,7 @@ fn take_own<F: Feed, T: RunObserver<F>>(
         (T.heard observer.old)
         (T.heard observer.new) (length own.old.items)) }
     ensures noted { T.noted observer.new ≡ T.noted observer.old }
+    ensures faults { StreamKeepsFaults F.told own.old.items own.new.items }
 {
     take_stream(engine, stream, own.as_mut_slice(), observer, buf)
 }
@@ -164,6 +169,7 @@ pub(crate) fn take_all<F: Feed, T: RunObserver<F>>(
         → TakesAll F.told studio engine.new events datagrams streams.old streams.new (T.heard observer.old)
         (T.heard observer.new) (length streams.old)) }
     ensures noted { T.noted observer.new ≡ T.noted observer.old }
+    ensures faults { AllKeepFaults F.told streams.old streams.new }
 {
     let mut most = LONGEST_PAUSE;
     for stream in 0..streams.len() {

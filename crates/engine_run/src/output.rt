@@ -75,6 +75,7 @@ pub(crate) fn settle<F: Feed, C: Clock, K: Sink, T: RunObserver<F>>(
         → IsDone K.handed T.heard studio all clock before earlier state.new }
     ensures noted { T.noted state.new.observer ≡ T.noted state.old.observer }
     ensures sums { KeepsSums state.old.counts (K.answered state.old.sink) state.new.counts (K.answered state.new.sink) }
+    ensures readers { state.new.readers ≡ state.old.readers }
 {
     if state.engine.close().is_err() {
         return false;

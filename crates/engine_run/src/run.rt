@@ -5,6 +5,7 @@ ghost use Rattle.studio_io.specs.Answers.{Answer};
 ghost use Rattle.studio_io.specs.Balances.{Balances};
 ghost use Rattle.studio_io.specs.SendSums.{KeepsSums, ReportsAnswers};
 ghost use Rattle.engine_run.specs.Runs.{IsDone, IsSettledRunWith, IsUnderWay, IsUnderWayWith};
+ghost use Rattle.engine_run.specs.FeedFaults.{AllKeepFaults};
 ghost use Rattle.engine_run.specs.Intake.{AllEnded};
 ghost use Rattle.engine_run.specs.Grouping.{path_total};
 ghost use Rattle.engine_run.specs.Observers.{HasNotedTaken, Heard};
@@ -128,6 +129,7 @@ fn run_rounds<R: Wait, F: Feed, C: Clock, K: Sink, T: RunObserver<F>, P: IdleWai
     ensures noted { HasNotedTaken (G.taken gains.old) (G.taken gains.new)
         (T.noted state.old.observer) (T.noted state.new.observer) }
     ensures sums { KeepsSums state.old.counts (K.answered state.old.sink) state.new.counts (K.answered state.new.sink) }
+    ensures faults { AllKeepFaults F.told state.old.readers.items state.new.readers.items }
 {
     // The first round does not pause: no feed was called yet.
     let mut most = 0;

@@ -5,6 +5,7 @@ ghost use Rattle.studio_io.specs.Answers.{Answer};
 ghost use Rattle.studio_io.specs.Clocks.{time_with};
 ghost use Rattle.studio_io.specs.SendSums.{KeepsSums};
 ghost use Rattle.engine_run.specs.Runs.{IsTurned, IsUnderWay, IsUnderWayWith};
+ghost use Rattle.engine_run.specs.FeedFaults.{AllKeepFaults};
 ghost use Rattle.engine_run.specs.Intake.{AllEnded};
 ghost use Rattle.engine_run.specs.Observers.{HasNotedTaken, Heard};
 
@@ -60,6 +61,7 @@ impl<F: Feed, C: Clock, K: Sink, T: RunObserver<F>> RunState<F, C, K, T> {
         ensures noted { HasNotedTaken (G.taken source.old) (G.taken source.new)
             (T.noted self.old.observer) (T.noted self.new.observer) }
         ensures sums { KeepsSums self.old.counts (K.answered self.old.sink) self.new.counts (K.answered self.new.sink) }
+        ensures readers { self.new.readers ≡ self.old.readers }
     {
         ask_source(&mut self.engine, source, &mut self.observer, buffer);
     }
@@ -72,6 +74,7 @@ impl<F: Feed, C: Clock, K: Sink, T: RunObserver<F>> RunState<F, C, K, T> {
             → IsTurned F.told C.told K.handed T.heard studio all clock before earlier self.new) }
         ensures observer { self.new.observer ≡ self.old.observer }
         ensures sums { KeepsSums self.old.counts (K.answered self.old.sink) self.new.counts (K.answered self.new.sink) }
+        ensures readers { self.new.readers ≡ self.old.readers }
     {
         let answer = self.clock.now();
         let now = greatest(self.engine.time(), answer);
@@ -87,6 +90,7 @@ impl<F: Feed, C: Clock, K: Sink, T: RunObserver<F>> RunState<F, C, K, T> {
             → IsTurned F.told C.told K.handed T.heard studio all clock before earlier self.new) }
         ensures observer { self.new.observer ≡ self.old.observer }
         ensures sums { KeepsSums self.old.counts (K.answered self.old.sink) self.new.counts (K.answered self.new.sink) }
+        ensures readers { self.new.readers ≡ self.old.readers }
     {
         if is_new {
             return Ok(());
@@ -117,6 +121,7 @@ impl<F: Feed, C: Clock, K: Sink, T: RunObserver<F>> RunState<F, C, K, T> {
             → IsUnderWay F.told C.told K.handed T.heard studio all clock before earlier self.new) }
         ensures noted { T.noted self.new.observer ≡ T.noted self.old.observer }
         ensures sums { KeepsSums self.old.counts (K.answered self.old.sink) self.new.counts (K.answered self.new.sink) }
+        ensures faults { AllKeepFaults F.told self.old.readers.items self.new.readers.items }
     {
         let most = take_all(
             &mut self.engine,
@@ -151,6 +156,7 @@ impl<F: Feed, C: Clock, K: Sink, T: RunObserver<F>> RunState<F, C, K, T> {
         ensures noted { HasNotedTaken (G.taken source.old) (G.taken source.new)
             (T.noted self.old.observer) (T.noted self.new.observer) }
         ensures sums { KeepsSums self.old.counts (K.answered self.old.sink) self.new.counts (K.answered self.new.sink) }
+        ensures faults { AllKeepFaults F.told self.old.readers.items self.new.readers.items }
     {
         // Before the clock is read: a change that is asked for now is in force from the first block that this round
         // sends.

@@ -1,8 +1,10 @@
 use Rattle.std.proofs.lemmas.Grind.{elements}
 use Rattle.std.proofs.Common.{[], ◌∷◌, slice_get, take, refl, arith}
 use Rattle.studio_io.specs.declared.feed.FeedAnswer.TheVariants.{Datagram, Nothing, Fault, Ended}
+use Rattle.studio_io.proofs.FaultLemmas.{faults-noted}
 use Rattle.engine_run.proofs.AnswerLemmas.{goes-answer, goes-nowhere}
 use Rattle.engine_run.proofs.AskLemmas.{asks-answer, asks-ended}
+use Rattle.engine_run.proofs.FeedFaultLemmas.{reader-same}
 use Rattle.engine_run.proofs.TakeLemmas.{takes-none}
 use Rattle.studio_engine.proofs.EngineLemmas.{taken_arrival}
 use Rattle.engine_run.proofs.TellLemmas.{hears_one, stream_of}
@@ -45,3 +47,21 @@ returns-in-Ended-clause-takes g c = λ studio events datagrams s. takes-none g.F
 
 pub slice_bounds-arrived-end-in-Datagram : goal.slice_bounds-arrived-end-in-Datagram
 slice_bounds-arrived-end-in-Datagram c = grind (arith, elements)
+
+pub returns-then-reader-clause-faults : goal.returns-then-reader-clause-faults
+returns-then-reader-clause-faults g c = reader-same g.F.Feed.told c.args.reader.now
+
+pub returns-in_ok-outcome-in-Datagram-clause-faults : goal.returns-in_ok-outcome-in-Datagram-clause-faults
+returns-in_ok-outcome-in-Datagram-clause-faults g c = faults-noted c.args.reader.now.state c.note.new.self (g.F.Feed.told c.args.reader.now.feed) (g.F.Feed.told c.next-answer.new.self) c.next-answer.new.buf c.if-reader.false c.next-answer.result (c.next-answer.ensures.tells c.requires.space) c.note.ensures.noted c.note.ensures.faults
+
+pub returns-in_err-outcome-in-Datagram-clause-faults : goal.returns-in_err-outcome-in-Datagram-clause-faults
+returns-in_err-outcome-in-Datagram-clause-faults g c = faults-noted c.args.reader.now.state c.note.new.self (g.F.Feed.told c.args.reader.now.feed) (g.F.Feed.told c.next-answer.new.self) c.next-answer.new.buf c.if-reader.false c.next-answer.result (c.next-answer.ensures.tells c.requires.space) c.note.ensures.noted c.note.ensures.faults
+
+pub returns-in-Nothing-clause-faults : goal.returns-in-Nothing-clause-faults
+returns-in-Nothing-clause-faults g c = faults-noted c.args.reader.now.state c.note.new.self (g.F.Feed.told c.args.reader.now.feed) (g.F.Feed.told c.next-answer.new.self) c.next-answer.new.buf c.if-reader.false c.next-answer.result (c.next-answer.ensures.tells c.requires.space) c.note.ensures.noted c.note.ensures.faults
+
+pub returns-in-Fault-clause-faults : goal.returns-in-Fault-clause-faults
+returns-in-Fault-clause-faults g c = faults-noted c.args.reader.now.state c.note.new.self (g.F.Feed.told c.args.reader.now.feed) (g.F.Feed.told c.next-answer.new.self) c.next-answer.new.buf c.if-reader.false c.next-answer.result (c.next-answer.ensures.tells c.requires.space) c.note.ensures.noted c.note.ensures.faults
+
+pub returns-in-Ended-clause-faults : goal.returns-in-Ended-clause-faults
+returns-in-Ended-clause-faults g c = faults-noted c.args.reader.now.state c.note.new.self (g.F.Feed.told c.args.reader.now.feed) (g.F.Feed.told c.next-answer.new.self) c.next-answer.new.buf c.if-reader.false c.next-answer.result (c.next-answer.ensures.tells c.requires.space) c.note.ensures.noted c.note.ensures.faults

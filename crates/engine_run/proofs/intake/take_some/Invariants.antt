@@ -2,6 +2,7 @@ use Rattle.std.proofs.Common.{◌≡◌, ℕ, List, length}
 use Rattle.studio_config.specs.Studio.{Studio}
 use Rattle.studio_session.specs.Event.{TraceEvent}
 use Rattle.studio_engine.specs.Session.{HasSession}
+use Rattle.engine_run.specs.FeedFaults.{ReaderKeepsFaults}
 use Rattle.engine_run.specs.Intake.{Takes}
 use Rattle.engine_run.proofs.intake.take_some.Given as goal
 
@@ -12,4 +13,5 @@ invariant-loop g l = record {
   takes : (studio : Studio) (events : List TraceEvent) (datagrams : List (List ℕ)) → HasSession studio l.fn.engine events datagrams
       → (t : Takes g.F.Feed.told studio l.engine events datagrams l.stream l.path l.fn.reader l.reader (g.T.RunObserver.heard l.fn.observer) (g.T.RunObserver.heard l.observer) l.counter) × (length t.given ≡ l.counter);
   noted : g.T.RunObserver.noted l.observer ≡ g.T.RunObserver.noted l.fn.observer;
+  faults : ReaderKeepsFaults g.F.Feed.told l.fn.reader l.reader;
 }

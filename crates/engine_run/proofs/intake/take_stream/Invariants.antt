@@ -2,6 +2,7 @@ use Rattle.std.proofs.Common.{◌≡◌, ℕ, List, length}
 use Rattle.studio_config.specs.Studio.{Studio}
 use Rattle.studio_session.specs.Event.{TraceEvent}
 use Rattle.studio_engine.specs.Session.{HasSession}
+use Rattle.engine_run.specs.FeedFaults.{StreamKeepsFaults}
 use Rattle.engine_run.specs.Intake.{TakesStream}
 use Rattle.engine_run.proofs.intake.take_stream.Given as goal
 
@@ -12,4 +13,5 @@ invariant-loop-number g l = record {
   takes : (studio : Studio) (events : List TraceEvent) (datagrams : List (List ℕ)) → HasSession studio l.fn.engine events datagrams
       → TakesStream g.F.Feed.told studio l.engine events datagrams l.stream l.fn.readers l.readers (g.T.RunObserver.heard l.fn.observer) (g.T.RunObserver.heard l.observer) l.number;
   noted : g.T.RunObserver.noted l.observer ≡ g.T.RunObserver.noted l.fn.observer;
+  faults : StreamKeepsFaults g.F.Feed.told l.fn.readers l.readers;
 }

@@ -1,5 +1,8 @@
-use Rattle.std.proofs.Common.{ap, ◌∙◌}
+use Rattle.std.proofs.Common.{ap, subst, ◌∙◌, Vec, Global}
 use Rattle.studio_mix.specs.Changed.{with_changes}
+use Rattle.engine_run.specs.FeedFaults.{AllKeepFaults}
+use Rattle.engine_run.specs.declared.feed_reader.FeedReader.{FeedReader}
+use Rattle.engine_run.proofs.FeedFaultLemmas.{all-like}
 use Rattle.engine_run.proofs.TellLemmas.{noted_same}
 use Rattle.engine_run.proofs.state.RunState.round.Goals as goal
 
@@ -37,3 +40,23 @@ returns-in_err-turn_if_stale-clause-sums g c = λ first h. c.turn_if_stale.ensur
 pub returns-in_err-most-clause-sums : goal.returns-in_err-most-clause-sums
 returns-in_err-most-clause-sums g c = λ first h.
     c.take.ensures.sums first (c.turn_if_stale.ensures.sums first (c.notify_before_wait.ensures.sums first (c.turn.ensures.sums first (c.ask.ensures.sums first h))))
+
+pub returns-then-have_all_ended-clause-faults : goal.returns-then-have_all_ended-clause-faults
+returns-then-have_all_ended-clause-faults g c = all-like g.F.Feed.told c.args.self.now.readers c.turn.new.self.readers (c.turn.ensures.readers ∙ c.ask.ensures.readers)
+
+pub returns-clause-faults : goal.returns-clause-faults
+returns-clause-faults g c =
+    subst (λ (v : Vec (Vec (FeedReader _) Global) Global). AllKeepFaults g.F.Feed.told v.items c.take.new.self.readers.items)
+    (c.turn_if_stale.ensures.readers ∙ (c.notify_before_wait.ensures.readers ∙ (c.turn.ensures.readers ∙ c.ask.ensures.readers))) c.take.ensures.faults
+
+pub returns-in_err-turn-clause-faults : goal.returns-in_err-turn-clause-faults
+returns-in_err-turn-clause-faults g c = all-like g.F.Feed.told c.args.self.now.readers c.turn.new.self.readers (c.turn.ensures.readers ∙ c.ask.ensures.readers)
+
+pub returns-in_err-turn_if_stale-clause-faults : goal.returns-in_err-turn_if_stale-clause-faults
+returns-in_err-turn_if_stale-clause-faults g c = all-like g.F.Feed.told c.args.self.now.readers c.turn_if_stale.new.self.readers
+    (c.turn_if_stale.ensures.readers ∙ (c.notify_before_wait.ensures.readers ∙ (c.turn.ensures.readers ∙ c.ask.ensures.readers)))
+
+pub returns-in_err-most-clause-faults : goal.returns-in_err-most-clause-faults
+returns-in_err-most-clause-faults g c =
+    subst (λ (v : Vec (Vec (FeedReader _) Global) Global). AllKeepFaults g.F.Feed.told v.items c.take.new.self.readers.items)
+    (c.turn_if_stale.ensures.readers ∙ (c.notify_before_wait.ensures.readers ∙ (c.turn.ensures.readers ∙ c.ask.ensures.readers))) c.take.ensures.faults
