@@ -5,6 +5,7 @@ pub mod AskLemmas
 pub mod TellLemmas
 pub mod TakeLemmas
 pub mod FeedFaultLemmas
+mod FeedFaultCases
 pub mod SendLemmas
 pub mod RunLemmas
 pub mod GainRequestLemmas

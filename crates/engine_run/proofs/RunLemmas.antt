@@ -18,6 +18,7 @@ use Rattle.studio_io.specs.Sinks.{Hands}
 use Rattle.studio_io.specs.declared.report.WorkReport.{WorkReport}
 use Rattle.engine_run.specs.Asked.{left_by, until_end}
 use Rattle.engine_run.specs.Rounds.{AreNext, AreRounds, GivesByRounds, Round, answers_of, datagrams_on, events_by, events_of, time_by}
+use Rattle.engine_run.specs.FeedFaults.{AreFaultNumbers}
 use Rattle.engine_run.specs.Grouping.{grouped}
 use Rattle.engine_run.specs.Runs.{AreTakenByRounds, HaveAllArrived, IsDone, IsSettledRun, IsTurned, IsUnderWay}
 use Rattle.engine_run.specs.Output.{HasSent}
@@ -188,9 +189,9 @@ module _ {F C K T : Type 0} (feed_told : F → List Answer) (clock_told : C → 
 
   -- the report of a run that has come to its end
   pub run-settled : (feeds : List (List Answer)) (state : RunState F C K T) (report : WorkReport) (after : Option (List (List ℕ))) (later : Option (List Heard)) (d : IsDone sink_handed observer_heard studio all clock before earlier state)
-      → all ≡ grouped studio.streams feeds → AreCounts studio (events_of studio d.rounds) report.streams.items → report.blocks ≡ state.counts.blocks → after ≡ sink_handed state.sink → later ≡ observer_heard state.observer
+      → all ≡ grouped studio.streams feeds → AreCounts studio (events_of studio d.rounds) report.streams.items → AreFaultNumbers feeds report.feed_faults.items → report.blocks ≡ state.counts.blocks → after ≡ sink_handed state.sink → later ≡ observer_heard state.observer
       → IsSettledRun studio feeds clock report before after earlier later
-  run-settled feeds state report after later d all_is counts blocks after_is later_is = record {
+  run-settled feeds state report after later d all_is counts faults blocks after_is later_is = record {
     rounds = d.rounds;
     bounded = d.bounded;
     clocked = d.clocked;
@@ -200,6 +201,7 @@ module _ {F C K T : Type 0} (feed_told : F → List Answer) (clock_told : C → 
     datagrams = d.datagrams;
     given = first_all studio (feeds_of studio (events_of studio d.rounds)) d.datagrams d.stands.given.first (settled_ready studio state.engine (events_of studio d.rounds) d.datagrams d.stands d.settled);
     counts = counts;
+    faults = faults;
     count = λ few. blocks ∙ d.count few;
     handed = subst (Hands before d.datagrams) (sym after_is) d.handed;
     heard = subst (Hears earlier (heard_by studio.streams studio.open_at [] (events_of studio d.rounds))) (sym later_is) d.heard;

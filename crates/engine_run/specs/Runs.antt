@@ -13,6 +13,7 @@ use Rattle.studio_io.specs.declared.report.WorkReport.{WorkReport}
 use Rattle.engine_run.specs.Asked.{until_end}
 use Rattle.engine_run.specs.Rounds.{AreNext, AreRounds, GivesByRounds, Round, answers_of, datagrams_on, events_by, events_of, time_by}
 use Rattle.engine_run.specs.Grouping.{grouped}
+use Rattle.engine_run.specs.FeedFaults.{AreFaultNumbers}
 use Rattle.engine_run.specs.Intake.{HaveGiven}
 use Rattle.engine_run.specs.Observers.{Heard, Hears, heard_by}
 use Rattle.engine_run.specs.declared.state.RunState.{RunState}
@@ -72,9 +73,10 @@ module _ {F C K T : Type 0} where
 
 -- the result of a settled run, whose feeds are ordered by stream and then by path. Its rounds have the clock readings
 -- that were known, and all datagrams of the feeds that are known to their end, round by round. None of their events has
--- a fault. The report has the counts of `run_studio` for these events. If the contents of the sink are known at the
--- end, it was passed the datagrams of `run_studio`, in order. If the observer's notifications are known at the end, it
--- was notified of each arrival, with the reading before it and its outcome, and of the close
+-- a fault. The report has the counts of `run_studio` for these events, and the number of faults of each feed that is
+-- known to its end, if these are fewer than 2^64. If the contents of the sink are known at the end, it was passed the
+-- datagrams of `run_studio`, in order. If the observer's notifications are known at the end, it was notified of each
+-- arrival, with the reading before it and its outcome, and of the close
 pub record IsSettledRun (studio : Studio) (all : List (List Answer)) (clock : List ℤ) (report : WorkReport) (before after : Option (List (List ℕ))) (earlier later : Option (List Heard)) : Type 0 where
   pub rounds : List Round
   pub bounded : AreRounds rounds
@@ -85,6 +87,7 @@ pub record IsSettledRun (studio : Studio) (all : List (List Answer)) (clock : Li
   pub datagrams : List (List ℕ)
   pub given : AreDatagrams studio (events_of studio rounds) datagrams
   pub counts : AreCounts studio (events_of studio rounds) report.streams.items
+  pub faults : AreFaultNumbers all report.feed_faults.items
   pub count : length datagrams < 2 ^ 64 → report.blocks ≡ length datagrams
   pub handed : Hands before datagrams after
   pub heard : Hears earlier (heard_by studio.streams studio.open_at [] (events_of studio rounds)) later
