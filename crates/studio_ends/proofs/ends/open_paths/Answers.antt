@@ -19,7 +19,7 @@ loop-preserved c =
         c.in_ok-push-2.ensures.len ∙ ap (λ n. n + 1) i.3,
         subst (AllFreshPaths c.args.spec.now c.args.ring_len (i.0 ++ end ∷ [])) (sym c.in_ok-push-2.ensures.items) (fresh_paths-snoc c.args.spec.now c.args.ring_len i.0 c.loop.sides.items end c.in_ok-end.side i.4 c.in_ok-end.ensures.fresh),
       ),
-      (λ streams h. subst (λ l. HaveChannels l streams _) (sym c.in_ok-push.ensures.items) (channels-path c.loop.paths.items streams end c.loop.channels _ (c.loop.invariant.1 streams h) channel)),
+      (λ streams h. subst (λ l. HaveChannels l streams c.open_path.new.channels) (sym c.in_ok-push.ensures.items) (channels-path c.loop.paths.items streams end c.loop.channels c.open_path.new.channels (c.loop.invariant.1 streams h) channel)),
       channel.wanted ∙ c.loop.invariant.2,
     )
 

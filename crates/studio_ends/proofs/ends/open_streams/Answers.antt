@@ -23,4 +23,4 @@ pub returns-clause-channels : goal.returns-clause-channels
 returns-clause-channels c = c.loop-spec.invariant.1
 
 pub loop-spec-init : goal.loop-spec-init
-loop-spec-init c = (grind (arith, elements), (λ h. h), refl)
+loop-spec-init c = (grind (arith, elements), (λ h. rw (c.new.ensures.items, c.new-2.ensures.items) h), refl)
