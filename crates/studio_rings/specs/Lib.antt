@@ -6,6 +6,7 @@ pub mod MixWorker
 pub mod StreamTokens
 pub mod Runs
 pub use Rattle.studio_io.specs.Answers
+pub use Rattle.studio_io.specs.FaultCounts
 pub use Rattle.studio_io.specs.Clocks
 pub use Rattle.studio_io.specs.Sinks
 pub use Rattle.rtp_stream.specs.StreamSpecFacts

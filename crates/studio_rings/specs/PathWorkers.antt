@@ -9,6 +9,7 @@ use Rattle.studio_ends.specs.Fitting.{fitting}
 use Rattle.studio_ends.specs.declared.path_end.PathDone.{PathDone}
 use Rattle.studio_ends.specs.declared.path_end.PathEnd.{PathEnd}
 use Rattle.studio_io.specs.Answers.{Answer, CountsOthers, IsPartOf, packets_in, packets_of, reaches_end, told_datagrams, told_packets}
+use Rattle.studio_io.specs.FaultCounts.{IsFaultNumber}
 use Rattle.studio_rings.specs.declared.jobs.PathJob.{PathJob}
 use Rattle.studio_rings.specs.declared.jobs.PathResult.{PathResult}
 
@@ -61,9 +62,10 @@ IsTokenOf p done = SameRing p.ring.end done.token.end
 module _ {F : Type 0} where
   -- the result of a path's worker. Its token, if it has one, is that of the job's ring, and reports packets of the
   -- stream's length, whose number was counted. If the results of the feed are known to its end, `SendsFeed` says which
-  -- of its packets these are
+  -- of its packets these are, and the number of faults is that of the feed
   pub record IsPathResult (told : F → List Answer) (job : PathJob F) (result : PathResult) : Type 0 where
     pub token : IfSome result.done (λ done. IsTokenOf job.end done)
     pub fit : IfSome result.done (λ done. fitting job.end.spec (all_sent done.token) ≡ all_sent done.token)
     pub count : IfSome result.done (λ done. result.counts.sent ≡ length (all_sent done.token))
     pub sent : reaches_end 0 (told job.feed) ≡ true → IfSome result.done (λ done. SendsFeed (told job.feed) job.end (all_sent done.token) result.counts)
+    pub faults : IfSome result.done (λ done. IsFaultNumber (told job.feed) result.faults)

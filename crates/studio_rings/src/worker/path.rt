@@ -3,6 +3,7 @@ ghost use Rattle.std.specs.Prelude.{◌≡◌, true, length, IfSome, None};
 ghost use Rattle.rtrb.specs.Ring.{all_sent, sent, Finishes, SameProducer};
 ghost use Rattle.studio_ends.specs.Fitting.{fitting};
 ghost use Rattle.studio_io.specs.Answers.{reaches_end};
+ghost use Rattle.studio_io.specs.FaultCounts.{CountsFaults};
 ghost use Rattle.studio_rings.specs.PathWorkers.{IsPathResult, IsTokenOf, OffersAgain, SendsFeed};
 
 use crate::jobs::{PathJob, PathResult};
@@ -52,6 +53,7 @@ fn finish_path(end: PathEnd, faults: u64, ended: &AtomicBool) -> PathResult
     ensures fit { IfSome result.done (λ done. fitting end.spec (all_sent done.token) ≡ all_sent done.token) }
     ensures count { IfSome result.done (λ done. end.counts.sent ≡ length (all_sent done.token)) }
     ensures counts { result.counts ≡ end.counts }
+    ensures faults { result.faults ≡ faults }
 {
     let (done, counts) = end.finish();
     ended.store(true, Ordering::SeqCst);
@@ -94,6 +96,7 @@ fn send_feed<R: Wait, F: Feed>(
     ensures spec { end.new.spec ≡ end.old.spec }
     ensures sent { result.ended ≡ true → reaches_end 0 (F.told feed.old) ≡ true
         → SendsFeed (F.told feed.old) end.old (sent end.new.ring) end.new.counts }
+    ensures faults { CountsFaults (F.told feed.old) result (F.told feed.new) }
 {
     let mut state = FeedState::new();
     let mut pause = Backoff::up_to(FEED_PAUSE);
