@@ -1,7 +1,9 @@
 -- The history of a stream, when it has come to its end.
 use Rattle.std.proofs.Common.{◌≡◌, ℕ, suc, ◌+◌, ◌-◌, ◌*◌, ◌≤◌, ◌^◌, Bool, true, false, nat_eq, nat_lt, if◌then◌else◌, List, [], ◌∷◌, ◌++◌, length, take, map, ℤ, Option, Some, None, IsSome, IfSome, refl, sym, ap, subst, ◌∙◌, arith, append_assoc, append-nil}
 use Rattle.std.proofs.lemmas.Bool.Decides.{nat_tests}
+use Rattle.std.proofs.lemmas.List.{length-map}
 use Rattle.std.proofs.lemmas.List.Sums.{sum_by-cons}
+use Rattle.std.proofs.lemmas.Option.{IfSome_then}
 use Rattle.std.proofs.Math.Seq.{take-length}
 use Rattle.std.specs.List.{AllZip}
 use Rattle.rtrb.specs.Ends.{SameRing}
@@ -30,6 +32,7 @@ use Rattle.studio_ends.specs.declared.stream_end.turns.StreamDone.{StreamDone}
 use Rattle.studio_ends.specs.declared.stream_end.StreamEnd.{StreamEnd}
 use Rattle.studio_ends.proofs.StreamLemmas.{packets_by-append}
 use Rattle.studio_io.specs.Answers.{Answer, CountsOthers, IsPartOf, reaches_end, told_datagrams, told_packets}
+use Rattle.studio_io.specs.FaultCounts.{IsFaultNumber}
 use Rattle.studio_rings.specs.ClockTurns.{GoByClock, events_in}
 use Rattle.studio_rings.specs.PathWorkers.{IsPathResult, SendsFeed}
 use Rattle.studio_rings.specs.Runs.{HasPathHistory, HavePathHistories, sent_total}
@@ -273,10 +276,22 @@ module _ {F : Type 0} (told : F → List Answer) where
       has_marks clock_told stream open_at places capacity paths end t after results result (all_sent d.token) (clock_told clock) (goes.turns stream ++ e.turns) fresh zip given ends.paths e
       (e.before_is ∙ sym (events-joined (goes.turns stream) e.turns)) timed)
 
+-- the number of faults of each path is that of its feed, if each path returned its token
+faults_told : {F : Type 0} (told : F → List Answer) (paths : List (PathJob F)) (results : List PathResult) → AllZip (IsPathResult told) paths results → PathsGiveTokens results
+    → AllZip IsFaultNumber (told_of told paths) (map (λ (r : PathResult). r.faults) results)
+faults_told told [] [] zip given = tt
+faults_told told [] (r ∷ rs) zip given = absurd zip
+faults_told told (p ∷ ps) [] zip given = absurd zip
+faults_told told (p ∷ ps) (r ∷ rs) zip given = ((some_of _ r.done given.0 zip.0.faults).2, faults_told told ps rs zip.1 given.1)
+
 pub is-stream-result : {F C : Type 0} (told : F → List Answer) (clock_told : C → List ℤ) (job : StreamJob F C) (s t : ClockedStream C) (results : List PathResult) (result : StreamResult) → s.end ≡ job.end → s.clock ≡ job.clock → s.now ≡ job.end.merge.time
     → AllZip (IsPathResult told) job.paths.items results → GoesOn clock_told s t → EndsStream clock_told t results result → IsStreamResult told clock_told job result
 is-stream-result told clock_told job s t results result end_is clock_is now_is zip goes ends = record {
-  faults = ends.faults ∙ sym (zip-length _ job.paths.items results zip);
+  faults =
+      let own = ap length ends.faults in
+      let ok = result.faults.ok.0 in
+      omega (arith, own, ok, length-map results (λ (r : PathResult). r.faults), zip-length _ job.paths.items results zip);
+  numbers = IfSome_then result.done ends.given (λ d given. subst (λ (l : List ℕ). AllZip IsFaultNumber (told_of told job.paths.items) l) (sym ends.faults) (faults_told told job.paths.items results zip given));
   token = its_token job.end t.end result.done (subst (λ (x : StreamEnd). SameProducer x.marks t.end.marks) end_is goes.marks) ends.token;
   history = stream-result told clock_told job.paths.items job.end job.clock s t results result end_is clock_is now_is zip goes ends;
 }

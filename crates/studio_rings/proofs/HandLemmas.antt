@@ -6,7 +6,6 @@ use Rattle.rtrb.specs.declared.consumer.Consumer.{Consumer}
 use Rattle.rtp_stream.specs.declared.stream_spec.Stream.{Stream}
 use Rattle.rtp_stream.specs.declared.packet.Packet.{Packet}
 use Rattle.rtp_stream.specs.declared.event.Event.{Event}
-use Rattle.rtp_stream.specs.declared.stream_counts.PathCounts.{PathCounts}
 use Rattle.studio_ends.specs.Streams.{StreamHasHistory}
 use Rattle.studio_ends.specs.Tokens.{HandsIn}
 use Rattle.studio_ends.specs.declared.path_end.PathDone.{PathDone}
@@ -143,12 +142,13 @@ whole_front front rest all is same =
     let none : rest ≡ [] = no_items rest (omega (arith, same, sum, length-append front rest)) in
     sym (append-nil front) ∙ (ap (λ l. front ++ l) (sym none) ∙ is)
 
-pub counted-more : (front : List PathResult) (r : PathResult) (before after : List PathCounts) → before ≡ map (λ (x : PathResult). x.counts) front → after ≡ before ++ r.counts ∷ [] → after ≡ map (λ (x : PathResult). x.counts) (front ++ r ∷ [])
-counted-more front r before after is more = more ∙ (ap (λ (l : List PathCounts). l ++ r.counts ∷ []) is ∙ snoc front)
+-- a part of each result so far, and of one more
+pub parts-more : {A : Type 0} (part : PathResult → A) (front : List PathResult) (r : PathResult) (before after : List A) → before ≡ map part front → after ≡ before ++ part r ∷ [] → after ≡ map part (front ++ r ∷ [])
+parts-more part front r before after is more = more ∙ (ap (λ l. l ++ part r ∷ []) is ∙ snoc front)
   where
-    snoc : (xs : List PathResult) → map (λ (x : PathResult). x.counts) xs ++ r.counts ∷ [] ≡ map (λ (x : PathResult). x.counts) (xs ++ r ∷ [])
+    snoc : (xs : List PathResult) → map part xs ++ part r ∷ [] ≡ map part (xs ++ r ∷ [])
     snoc [] = refl
-    snoc (x ∷ xs) = ap (λ (l : List PathCounts). x.counts ∷ l) (snoc xs)
+    snoc (x ∷ xs) = ap (λ l. part x ∷ l) (snoc xs)
 
 rings-handed : (place : ℕ) (olds news : List (TokenConsumer Packet)) (all : List Packet) → HandsIn olds place all news → AreSameRings olds news
 rings-handed place [] news all h = absurd h

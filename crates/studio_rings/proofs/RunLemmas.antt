@@ -1,6 +1,5 @@
 -- The result of a settled run, by the results of its workers.
-use Rattle.std.proofs.Common.{◌≡◌, ℕ, ◌-◌, ◌^◌, true, List, [], ◌∷◌, ◌++◌, length, map, vec_len, ℤ, pos, ◌≤ℤ◌, Option, IfSome, refl, sym, ap, subst, ◌∙◌, arith, length-append}
-use Rattle.std.proofs.lemmas.List.Sums.{sum_by-cons}
+use Rattle.std.proofs.Common.{◌≡◌, ℕ, ◌-◌, ◌^◌, true, List, [], ◌∷◌, ◌++◌, length, map, ℤ, pos, ◌≤ℤ◌, Option, IfSome, refl, sym, ap, subst, ◌∙◌, arith, length-append}
 use Rattle.std.specs.List.{AllZip}
 use Rattle.rtrb.specs.Ends.{SameRing}
 use Rattle.rtrb.specs.Ring.{all_sent, producer_capacity, sent}
@@ -26,6 +25,7 @@ use Rattle.studio_ends.specs.declared.stream_end.turns.StreamDone.{StreamDone}
 use Rattle.studio_ends.specs.declared.stream_end.StreamEnd.{StreamEnd}
 use Rattle.studio_ends.specs.declared.mix_end.MixEnd.{MixEnd}
 use Rattle.studio_io.specs.Answers.{Answer}
+use Rattle.studio_io.specs.FaultCounts.{IsFaultNumber}
 use Rattle.studio_io.specs.declared.report.WorkReport.{WorkReport}
 use Rattle.studio_rings.specs.MixWorker.{MixesWith}
 use Rattle.studio_rings.specs.Runs.{HaveStreamHistories, IsSettledRun, IsSettledRunWith, feeds_of}
@@ -33,13 +33,14 @@ use Rattle.studio_rings.specs.StreamTokens.{AllGiveTokens, AllTellMarks, AreTold
 use Rattle.studio_rings.specs.declared.jobs.PathJob.{PathJob}
 use Rattle.studio_rings.proofs.StreamTokenLemmas.{AreTokensFor}
 use Rattle.studio_rings.specs.Jobs.{AreJobsOf, HaveCapacity, feeds_in}
-use Rattle.studio_rings.specs.StreamResults.{AreOpenedTogether, counts_in, dones_in, fault_numbers}
+use Rattle.studio_rings.specs.StreamResults.{AreOpenedTogether, counts_in, dones_in, faults_in}
 use Rattle.studio_rings.specs.StreamWorkers.{AllReady, ArePairs, HasMarks, IsStreamResult, ends_of, told_of}
 use Rattle.studio_rings.specs.declared.jobs.StreamJob.{StreamJob}
 use Rattle.studio_rings.specs.declared.jobs.StreamResult.{StreamResult}
 use Rattle.studio_rings.proofs.EndLemmas.{some_of}
 use Rattle.studio_mix.proofs.TakenLemmas.{no_more}
 use Rattle.studio_rings.proofs.JobLemmas.{cut_once, map_length}
+use Rattle.studio_rings.proofs.ZipLemmas.{zip-append}
 
 module _ {F : Type 0} where
   pairs_of : (stream : Stream) (places : ℕ) (paths : List (PathJob F)) (sides : List (TokenConsumer Packet)) → AllFreshPaths stream places (ends_of paths) sides → ArePairs paths sides
@@ -139,7 +140,7 @@ module _ {F C : Type 0} where
       (subst (λ (e : StreamEnd). IfSome r.done (λ (d : StreamDone). SameRing e.marks.end d.token.end)) h.6 zip.0.token, tokens-for told clock_told h.0 h.1 h.2 ends jobs rs h.8 zip.1)
 
   -- there is a number of faults for each feed
-  pub faults-of-feeds : (told : F → List Answer) (clock_told : C → List ℤ) (paths : List PathEnd) (feeds : List F) (clocks : List C) (ends : List StreamEnd) (jobs : List (StreamJob F C)) (results : List StreamResult) → AreJobsOf paths feeds clocks ends jobs → AllZip (IsStreamResult told clock_told) jobs results → fault_numbers results ≡ length feeds
+  pub faults-of-feeds : (told : F → List Answer) (clock_told : C → List ℤ) (paths : List PathEnd) (feeds : List F) (clocks : List C) (ends : List StreamEnd) (jobs : List (StreamJob F C)) (results : List StreamResult) → AreJobsOf paths feeds clocks ends jobs → AllZip (IsStreamResult told clock_told) jobs results → length (faults_in results) ≡ length feeds
   faults-of-feeds told clock_told paths feeds clocks [] [] [] h zip = sym (ap length h.1)
   faults-of-feeds told clock_told paths feeds clocks [] [] (r ∷ rs) h zip = absurd zip
   faults-of-feeds told clock_told paths feeds clocks [] (job ∷ jobs) results h zip = absurd h
@@ -148,9 +149,25 @@ module _ {F C : Type 0} where
   faults-of-feeds told clock_told paths feeds clocks (end ∷ ends) (job ∷ jobs) (r ∷ rs) h zip =
       let own = zip.0.faults in
       let rest = faults-of-feeds told clock_told h.0 h.1 h.2 ends jobs rs h.8 zip.1 in
-      let sum = sum_by-cons (λ (x : StreamResult). vec_len x.faults) r rs in
+      let ok = r.faults.ok.0 in
       let all = ap length h.4 in
-      omega (arith, own, rest, sum, all, length-append (feeds_in job.paths.items) h.1, map_length (λ (p : PathJob F). p.feed) job.paths.items)
+      omega (arith, own, ok, rest, all, length-append r.faults.items (faults_in rs), length-append (feeds_in job.paths.items) h.1, map_length (λ (p : PathJob F). p.feed) job.paths.items)
+
+  -- the feeds' results are those of the first job's paths, and then those of the other feeds
+  told_split : (told : F → List Answer) (paths : List (PathJob F)) (feeds others : List F) → feeds ≡ feeds_in paths ++ others → map told feeds ≡ told_of told paths ++ map told others
+  told_split told paths feeds others is = ap (map told) is ∙ (map_joined told (feeds_in paths) others ∙ ap (λ l. l ++ map told others) (told_fed told paths))
+
+  -- if each stream returned its token, each number is that of the feed at its place
+  pub faults-told : (told : F → List Answer) (clock_told : C → List ℤ) (paths : List PathEnd) (feeds : List F) (clocks : List C) (ends : List StreamEnd) (jobs : List (StreamJob F C)) (results : List StreamResult) → AreJobsOf paths feeds clocks ends jobs → AllZip (IsStreamResult told clock_told) jobs results → AllGiveTokens (dones_in results) → AllZip IsFaultNumber (map told feeds) (faults_in results)
+  faults-told told clock_told paths feeds clocks [] [] [] h zip given = subst (λ (l : List F). AllZip IsFaultNumber (map told l) []) (sym h.1) tt
+  faults-told told clock_told paths feeds clocks [] [] (r ∷ rs) h zip given = absurd zip
+  faults-told told clock_told paths feeds clocks [] (job ∷ jobs) results h zip given = absurd h
+  faults-told told clock_told paths feeds clocks (end ∷ ends) [] results h zip given = absurd h
+  faults-told told clock_told paths feeds clocks (end ∷ ends) (job ∷ jobs) [] h zip given = absurd zip
+  faults-told told clock_told paths feeds clocks (end ∷ ends) (job ∷ jobs) (r ∷ rs) h zip given =
+      let own = (some_of _ r.done given.0 zip.0.numbers).2 in
+      let rest = faults-told told clock_told h.0 h.1 h.2 ends jobs rs h.8 zip.1 given.1 in
+      subst (λ (l : List (List Answer)). AllZip IsFaultNumber l (r.faults.items ++ faults_in rs)) (sym (told_split told job.paths.items feeds h.1 h.4)) (zip-append IsFaultNumber (told_of told job.paths.items) (map told h.1) r.faults.items (faults_in rs) own rest)
 
   have_all : (told : F → List Answer) (clock_told : C → List ℤ) (open_at : ℤ) (places : ℕ) (specs : List Stream) (paths : List PathEnd) (feeds : List F) (clocks : List C) (ends : List StreamEnd) (jobs : List (StreamJob F C)) (results : List StreamResult)
       → AreFreshJobs open_at places specs jobs → HavePlaces places ends → AreJobsOf paths feeds clocks ends jobs → AllZip (IsStreamResult told clock_told) jobs results → AllGiveTokens (dones_in results) → HaveAll open_at places specs (map told feeds) (map clock_told clocks) results
@@ -167,8 +184,7 @@ module _ {F C : Type 0} where
       let own : producer_capacity job.end.marks ≡ places = ap (λ (e : StreamEnd). producer_capacity e.marks) h.6 ∙ space.0 in
       let m : HasMarks open_at places stream (told_of told job.paths.items) (clock_told job.clock) r (all_sent (one.0).token) =
       subst (λ n. HasMarks open_at n stream (told_of told job.paths.items) (clock_told job.clock) r (all_sent (one.0).token)) own (one.2 stream open_at places fresh.0) in
-      let split : map told feeds ≡ told_of told job.paths.items ++ map told h.1 =
-      ap (map told) h.4 ∙ (map_joined told (feeds_in job.paths.items) h.1 ∙ ap (λ l. l ++ map told h.1) (told_fed told job.paths.items)) in
+      let split = told_split told job.paths.items feeds h.1 h.4 in
       let count : length (told_of told job.paths.items) ≡ stream.paths =
       map_length (λ (p : PathJob F). told p.feed) job.paths.items ∙ (h.7 ∙ (ap (λ (e : StreamEnd). e.spec.paths) (sym h.6) ∙ ap (λ (s : Stream). s.paths) fresh.0.spec)) in
       let tells : IfSome r.done (λ (d : StreamDone). all_sent d.token ≡ marks_of stream open_at m.events) = subst (λ (o : Option StreamDone). IfSome o (λ (d : StreamDone). all_sent d.token ≡ marks_of stream open_at m.events)) (sym one.1) m.marks_are in
@@ -182,10 +198,10 @@ module _ {F C : Type 0} where
   -- a settled run
   pub settled-run : {K : Type 0} (told : F → List Answer) (clock_told : C → List ℤ) (handed : K → Option (List (List ℕ))) (studio : Studio) (places : ℕ) (ends : Ends) (feeds : List F) (clocks : List C) (jobs : List (StreamJob F C)) (results : List StreamResult) (end : MixEnd) (sink new_sink : K) (report : WorkReport) (first last : List (ℤ × List ℤ))
       → AreOpenedTogether studio places ends → AreJobsOf ends.paths.items feeds clocks ends.streams.items jobs → AllZip (IsStreamResult told clock_told) jobs results
-      → report.streams.items ≡ counts_in results → MixesWith handed ends.mix sink 0 true end new_sink report.blocks first last → AllGiveTokens (dones_in results)
+      → report.streams.items ≡ counts_in results → report.feed_faults.items ≡ faults_in results → MixesWith handed ends.mix sink 0 true end new_sink report.blocks first last → AllGiveTokens (dones_in results)
       → ((studio : Studio) (feeds : List Feed) (datagrams : List (List ℕ)) → AreTold studio (dones_in results) feeds → AreAllGiven studio end datagrams → AreBlocks studio feeds datagrams)
       → IsSettledRunWith studio places (map told feeds) (map clock_told clocks) report (handed sink) (handed new_sink) first last
-  settled-run told clock_told handed studio places ends feeds clocks jobs results end sink new_sink report first last opened h zip streams mixes tokens settles =
+  settled-run told clock_told handed studio places ends feeds clocks jobs results end sink new_sink report first last opened h zip streams faults mixes tokens settles =
       let paths = ends.paths.items in
       let own = ends.streams.items in
       let fresh = fresh_jobs studio.open_at places studio.streams paths feeds clocks own jobs opened.streams h in
@@ -197,6 +213,7 @@ module _ {F C : Type 0} where
         run = record {
           histories = all.histories;
           streams = subst (λ (l : List StreamCounts). HaveStreamHistories studio.open_at places studio.streams (map told feeds) (map clock_told clocks) l all.histories) (sym streams) all.streams;
+          faults = subst (λ (l : List ℕ). AllZip IsFaultNumber (map told feeds) l) (sym faults) (faults-told told clock_told paths feeds clocks own jobs results h zip tokens);
           datagrams = mixes.datagrams;
           blocks = settles (with_changes studio mixes.changes) (feeds_of studio.open_at studio.streams all.histories) mixes.datagrams (all.of_these, all.tells) (mixes.all refl studio [] opened.mix);
           count = λ few. let n = mixes.count (omega (arith, few)) in omega (arith, n);

@@ -1,5 +1,5 @@
 -- The results of all streams together.
-use Rattle.std.specs.Prelude.{ℕ, List, [], map, vec_len, sum_by, Option}
+use Rattle.std.specs.Prelude.{ℕ, List, [], map, flat_map, Option}
 use Rattle.studio_config.specs.Studio.{Studio}
 use Rattle.studio_ends.specs.Datagrams.{HasGiven}
 use Rattle.studio_ends.specs.FreshEnds.{AllFreshRings, AllFreshStreams}
@@ -22,6 +22,6 @@ dones_in results = map (λ (result : StreamResult). result.done) results
 abbrev pub counts_in : List StreamResult → List StreamCounts
 counts_in results = map (λ (result : StreamResult). result.counts) results
 
--- the number of feeds whose faults are counted in the results
-abbrev pub fault_numbers : List StreamResult → ℕ
-fault_numbers results = sum_by (λ (result : StreamResult). vec_len result.faults) results
+-- the number of faults of each feed, ordered by stream and then by path
+abbrev pub faults_in : List StreamResult → List ℕ
+faults_in results = flat_map (λ (result : StreamResult). result.faults.items) results

@@ -1,6 +1,6 @@
 //! Collects the results of the streams' workers into the parts of a report.
-ghost use Rattle.std.specs.Prelude.{◌≡◌, ◌≤◌, vec_len, vec_capacity, IfOk};
-ghost use Rattle.studio_rings.specs.StreamResults.{counts_in, dones_in, fault_numbers};
+ghost use Rattle.std.specs.Prelude.{◌≡◌, ◌≤◌, length, vec_len, vec_capacity, IfOk};
+ghost use Rattle.studio_rings.specs.StreamResults.{counts_in, dones_in, faults_in};
 
 use crate::jobs::StreamResult;
 use rtp_stream::StreamCounts;
@@ -39,10 +39,11 @@ pub(crate) fn reserve_results(
 pub(crate) fn collect_results(results: Vec<StreamResult>, parts: RunResults) -> RunResults
     requires dones { (vec_len parts.dones ≡ 0) × (vec_len results ≤ vec_capacity parts.dones) }
     requires streams { (vec_len parts.streams ≡ 0) × (vec_len results ≤ vec_capacity parts.streams) }
-    requires faults { (vec_len parts.feed_faults ≡ 0) × (fault_numbers results.items ≤ vec_capacity parts.feed_faults) }
+    requires faults { (vec_len parts.feed_faults ≡ 0)
+        × (length (faults_in results.items) ≤ vec_capacity parts.feed_faults) }
     ensures dones { result.dones.items ≡ dones_in results.items }
     ensures streams { result.streams.items ≡ counts_in results.items }
-    ensures faults { vec_len result.feed_faults ≡ fault_numbers results.items }
+    ensures faults { result.feed_faults.items ≡ faults_in results.items }
 {
     let RunResults {
         mut dones,

@@ -1,5 +1,5 @@
 //! The worker of a stream: its paths, its turns, and its end once they have ended.
-ghost use Rattle.std.specs.Prelude.{◌≡◌, ◌≤◌, map, length, vec_len, vec_capacity, true, IfOk, OnOk};
+ghost use Rattle.std.specs.Prelude.{◌≡◌, ◌≤◌, map, vec_len, vec_capacity, true, IfOk, OnOk};
 ghost use Rattle.rtp_stream.specs.Counts.{tally_of};
 ghost use Rattle.studio_rings.specs.Turns.{GoesOn, HaveTold};
 ghost use Rattle.studio_rings.specs.StreamWorkers.{
@@ -59,7 +59,7 @@ fn pass_tokens<C: Clock>(
     ensures given { result ≡ true → PathsGiveTokens results.items }
     ensures told { result ≡ true → HaveTold stream.new.end.sides.items (map told_by results.items) }
     ensures counts { counts.new.items ≡ map (λ (r : PathResult). r.counts) results.items }
-    ensures faults { vec_len faults.new ≡ length results.items }
+    ensures faults { faults.new.items ≡ map (λ (r : PathResult). r.faults) results.items }
 {
     let mut place = 0usize;
     let mut all = true;

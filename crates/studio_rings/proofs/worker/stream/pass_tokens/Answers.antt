@@ -1,9 +1,9 @@
-use Rattle.std.proofs.Common.{◌≡◌, List, [], ◌∷◌, ◌++◌, refl, sym, ap, subst, ◌∙◌, arith, append_assoc, length-append}
+use Rattle.std.proofs.Common.{◌≡◌, List, [], ◌∷◌, ◌++◌, map, refl, sym, ap, subst, ◌∙◌, arith, append_assoc, length-append}
 use Rattle.std.specs.Vec.Iter.{into_iter_items}
 use Rattle.studio_rings.specs.declared.jobs.PathResult.{PathResult}
 use Rattle.studio_rings.proofs.StreamTurnLemmas.{goes-none, goes-trans}
 use Rattle.studio_rings.specs.StreamWorkers.{AllTokensFit}
-use Rattle.studio_rings.proofs.HandLemmas.{counted-more, fits-at, handed-next, handed-result, no_items, whole_front}
+use Rattle.studio_rings.proofs.HandLemmas.{fits-at, handed-next, handed-result, no_items, parts-more, whole_front}
 use Rattle.studio_rings.proofs.worker.stream.pass_tokens.Goals as goal
 
 pub loop-result-init : goal.loop-result-init
@@ -14,7 +14,8 @@ loop-result-init g c = record {
   counts = no_items c.args.counts.now.items (let e = c.requires.counts.0 in let k = c.args.counts.now.ok.0 in omega (arith, e, k));
   counted = c.requires.counts.0;
   space = refl;
-  faults = c.requires.faults.0;
+  faults = no_items c.args.faults.now.items (let e = c.requires.faults.0 in let k = c.args.faults.now.ok.0 in omega (arith, e, k));
+  faults_counted = c.requires.faults.0;
   fault_space = refl;
   later = goes-none _ _;
   handed = refl;
@@ -39,15 +40,16 @@ loop-result-preserved g c =
     let one = c.push_reserved.ensures.len in
     let two = c.push_reserved-in-loop-result.ensures.len in
     let counted = at.invariant.counted in
-    let faults = at.invariant.faults in
+    let faults = at.invariant.faults_counted in
     record {
       items = append_assoc at.yielded (x ∷ []) _ ∙ (ap (λ (l : List PathResult). at.yielded ++ l) (sym c.in-Some.ensures.steps.0) ∙ at.invariant.items);
       place = omega (arith, place, length-append at.yielded (x ∷ []));
       left = omega (arith, gone, left);
-      counts = counted-more at.yielded x _ _ at.invariant.counts c.push_reserved.ensures.items;
+      counts = parts-more (λ (r : PathResult). r.counts) at.yielded x _ _ at.invariant.counts c.push_reserved.ensures.items;
       counted = omega (arith, one, counted);
       space = c.push_reserved.ensures.capacity ∙ at.invariant.space;
-      faults = omega (arith, two, faults);
+      faults = parts-more (λ (r : PathResult). r.faults) at.yielded x _ _ at.invariant.faults c.push_reserved-in-loop-result.ensures.items;
+      faults_counted = omega (arith, two, faults);
       fault_space = c.push_reserved-in-loop-result.ensures.capacity ∙ at.invariant.fault_space;
       later = goes-trans _ _ at.stream _ at.invariant.later c.pass_token-all.ensures.later;
       handed = handed-next _ _ at.yielded _ x _ _ _ at.place at.invariant.place (subst (λ (l : List PathResult). AllTokensFit l c.args.stream.now.end.sides.items) (sym all) c.requires.tokens) at.invariant.handed c.pass_token-all.ensures.handed;
@@ -80,7 +82,8 @@ returns-clause-faults g c =
     let at = c.loop-result in
     let none = c.in-None.ensures.steps.0 in
     let left = at.invariant.left in
-    let faults = at.invariant.faults in
+    let place = at.invariant.place in
     let len = c.into_iter-result-iterator.ensures.into_iter_gives.1 in
     let ok = c.args.results.ok.0 in
-    omega (arith, none, left, faults, len, ok)
+    let all : at.yielded ≡ c.args.results.items = whole_front at.yielded _ c.args.results.items (at.invariant.items ∙ c.into_iter-result-iterator.ensures.into_iter_gives.0) (omega (arith, none, left, place, len, ok)) in
+    at.invariant.faults ∙ ap (map (λ (r : PathResult). r.faults)) all

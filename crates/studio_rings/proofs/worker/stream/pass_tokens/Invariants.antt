@@ -14,7 +14,8 @@ invariant-loop-result g l = record {
   counts : l.counts.items ≡ map (λ (r : PathResult). r.counts) l.yielded;
   counted : vec_len l.counts ≡ l.place;
   space : vec_capacity l.counts ≡ vec_capacity l.initial.counts;
-  faults : vec_len l.faults ≡ l.place;
+  faults : l.faults.items ≡ map (λ (r : PathResult). r.faults) l.yielded;
+  faults_counted : vec_len l.faults ≡ l.place;
   fault_space : vec_capacity l.faults ≡ vec_capacity l.initial.faults;
   later : GoesOn g.C.Clock.told l.initial.stream l.stream;
   handed : AreHandedIn l.all l.yielded l.initial.stream.end.sides.items l.stream.end.sides.items;
