@@ -84,6 +84,11 @@ pub record HaveAll (open_at : ℤ) (places : ℕ) (specs : List Stream) (told : 
   pub tells : AllTellMarks (dones_in results) (feeds_of open_at specs histories)
   pub of_these : map (λ (feed : Feed). feed.stream) (feeds_of open_at specs histories) ≡ specs
 
+module _ {F : Type 0} where
+  -- the feeds' results are those of the first job's paths, and then those of the other feeds
+  told_split : (told : F → List Answer) (paths : List (PathJob F)) (feeds others : List F) → feeds ≡ feeds_in paths ++ others → map told feeds ≡ told_of told paths ++ map told others
+  told_split told paths feeds others is = ap (map told) is ∙ (map_joined told (feeds_in paths) others ∙ ap (λ l. l ++ map told others) (told_fed told paths))
+
 module _ {F C : Type 0} where
   -- each stream's job has the ends of that stream
   abbrev AreFreshJobs : ℤ → ℕ → List Stream → List (StreamJob F C) → Type 0
@@ -152,10 +157,6 @@ module _ {F C : Type 0} where
       let ok = r.faults.ok.0 in
       let all = ap length h.4 in
       omega (arith, own, ok, rest, all, length-append r.faults.items (faults_in rs), length-append (feeds_in job.paths.items) h.1, map_length (λ (p : PathJob F). p.feed) job.paths.items)
-
-  -- the feeds' results are those of the first job's paths, and then those of the other feeds
-  told_split : (told : F → List Answer) (paths : List (PathJob F)) (feeds others : List F) → feeds ≡ feeds_in paths ++ others → map told feeds ≡ told_of told paths ++ map told others
-  told_split told paths feeds others is = ap (map told) is ∙ (map_joined told (feeds_in paths) others ∙ ap (λ l. l ++ map told others) (told_fed told paths))
 
   -- if each stream returned its token, each number is that of the feed at its place
   pub faults-told : (told : F → List Answer) (clock_told : C → List ℤ) (paths : List PathEnd) (feeds : List F) (clocks : List C) (ends : List StreamEnd) (jobs : List (StreamJob F C)) (results : List StreamResult) → AreJobsOf paths feeds clocks ends jobs → AllZip (IsStreamResult told clock_told) jobs results → AllGiveTokens (dones_in results) → AllZip IsFaultNumber (map told feeds) (faults_in results)
