@@ -28,10 +28,11 @@ use Rattle.pcap_replay.specs.declared.state.ReplayState.{ReplayState}
 use Rattle.pcap_replay.specs.Lines.{Hearing}
 use Rattle.pcap_replay.specs.Events.{events_told, file_events}
 use Rattle.pcap_replay.specs.Routing.{PlanView}
-use Rattle.pcap_replay.specs.RecordChanges.{changed_by}
+use Rattle.pcap_replay.specs.RecordChanges.{changed_by, changes_of}
 use Rattle.pcap_replay.specs.Replay.{BreaksOffReplay, BreaksReport, EndsBehind, HasHeardAll, HasReplayed, IsReason, StopsAt, StopsFile, WritesFront}
 use Rattle.pcap_replay.proofs.CaseLemmas.{some_maps}
 use Rattle.pcap_replay.proofs.EventLemmas.{first_longer, first_more}
+use Rattle.pcap_replay.proofs.ReasonLemmas.{first_fault_changed, first_fault_longer}
 use Rattle.pcap_replay.proofs.ReplayLemmas.{broke_part, broke_whole, heard_first}
 
 -- a file was not opened
@@ -46,6 +47,7 @@ pub unopened : (studio : Studio) (plan : PlanView) (first a : Option (List ℕ))
 unopened studio plan first a H run fault r is = record {
   entries = [];
   told = some_maps first _ _ (λ file why. (record { items = packets_of file; packets = refl; later = entries_of file; all = refl }, open_reason file fault why)) is;
+  reason = tt;
   events = [];
   first = record { later = file_events studio plan []; whole = refl };
   changed = [];
@@ -59,6 +61,8 @@ ends_front : (studio : Studio) (plan : PlanView) (first a b c : Option (List ℕ
 ends_front studio plan first a b c H run fault s front = record {
   entries = s.entries;
   told = s.told;
+  reason = first_fault_longer studio (events_told studio plan s.entries) (file_events studio plan s.entries) fault (first_more (events_told studio plan s.entries) (Closing ∷ []))
+      (first_fault_changed studio (changes_of plan s.changed) (events_told studio plan s.entries) fault s.stops.reason);
   events = s.stops.events;
   first = first_longer s.stops.events (events_told studio plan s.entries) (file_events studio plan s.entries) s.stops.first (first_more (events_told studio plan s.entries) (Closing ∷ []));
   changed = s.changed;
@@ -92,6 +96,7 @@ as_write : (studio : Studio) (plan : PlanView) (first a c : Option (List ℕ)) (
 as_write studio plan first a c H fault w = record {
   entries = w.entries;
   told = some_maps first _ _ (λ file both. (both.0, tt)) w.told;
+  reason = tt;
   events = w.events;
   first = w.first;
   changed = w.changed;

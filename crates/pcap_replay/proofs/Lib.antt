@@ -5,6 +5,7 @@ mod ChangedLemmas
 mod NoChangeLemmas
 mod FlowLemmas
 mod LineLemmas
+mod ReasonLemmas
 mod ReplayLemmas
 mod RoutingLemmas
 mod RecordLemmas

@@ -32,12 +32,14 @@ use Rattle.pcap_replay.specs.Events.{AreFirst, clock_after, clock_of, closed_eve
 use Rattle.pcap_replay.specs.Routing.{PlanView, Flows, Interfaces, clock_before, clock_past, closing_of, longest_of, opening_of, role_of}
 use Rattle.pcap_replay.specs.Steady.{AreSteady, IsSteady}
 use Rattle.pcap_replay.specs.Record.{closing_in, closing_with}
+use Rattle.pcap_replay.specs.Reasons.{IsCount, IsFirstFault}
 use Rattle.studio_mix.specs.Changed.{with_changes}
 use Rattle.pcap_replay.specs.RecordChanges.{changed_by, changes_with}
 use Rattle.pcap_replay.proofs.ChangedLemmas.{all_but_last, changed_more}
 use Rattle.pcap_replay.proofs.CaseLemmas.{some_maps}
 use Rattle.pcap_replay.proofs.EventLemmas.{clock_more, events_more, first_longer, first_read, first_same}
 use Rattle.pcap_replay.proofs.LineLemmas.{lines_more}
+use Rattle.pcap_replay.proofs.ReasonLemmas.{first_fault_longer}
 use Rattle.pcap_replay.proofs.RecordLemmas.{closing_more}
 
 -- lines of more datagrams follow
@@ -69,13 +71,14 @@ begun_replayed studio a H run b told = record {
   session = b.session;
   idle = b.idle;
   open_yet = refl;
+  counted = b.counted;
   wrote = subst (λ h. PassesOn a [] a h []) (sym b.none) (PassesOn-none a []);
   told = told;
 }
 
 -- whoever listens
 pub unheard : (studio : Studio) (events : List TraceEvent) (a b : Option (List ℕ)) (H : Hearing) (run : ReplayState) → HasReplayed studio events a run b H → HasReplayed studio events a run b (λ _ _. ⊤)
-unheard studio events a b H run r = record { datagrams = r.datagrams; session = r.session; idle = r.idle; open_yet = r.open_yet; wrote = r.wrote; told = tt }
+unheard studio events a b H run r = record { datagrams = r.datagrams; session = r.session; idle = r.idle; open_yet = r.open_yet; counted = r.counted; wrote = r.wrote; told = tt }
 
 -- the lines that were held are written
 pub broke_whole : (studio : Studio) (events : List TraceEvent) (a b c : Option (List ℕ)) (H : Hearing) (run : ReplayState) → HasReplayed studio events a run b H → Appends b c run.text → BreaksAt studio events a c H
@@ -105,12 +108,13 @@ stops_at_run studio events a b H run Write kind r = absurd kind
 
 -- a change of gains changes neither what was written nor what an observer received
 pub gains_replayed : (studio changed : Studio) (events : List TraceEvent) (a b : Option (List ℕ)) (H : Hearing) (old new : ReplayState) → new.text ≡ old.text → new.engine.turning ≡ old.engine.turning
-    → (r : HasReplayed studio events a old b H) → HasSession changed new.engine events r.datagrams → HasReplayed changed events a new b H
-gains_replayed studio changed events a b H old new text turning r session = record {
+    → new.count ≡ old.count → changed.open_at ≡ studio.open_at → (r : HasReplayed studio events a old b H) → HasSession changed new.engine events r.datagrams → HasReplayed changed events a new b H
+gains_replayed studio changed events a b H old new text turning count opening r session = record {
   datagrams = r.datagrams;
   session = session;
   idle = turning ∙ r.idle;
   open_yet = r.open_yet;
+  counted = subst (λ t. IsCount t events new.count) (sym opening) (subst (IsCount studio.open_at events) (sym count) r.counted);
   wrote = subst (λ h. PassesOn a [] b h (datagrams_text r.datagrams)) (sym text) r.wrote;
   told = r.told;
 }
@@ -132,7 +136,7 @@ own_run (Err fault) kind = own_of fault kind
 -- a fault before some events is a fault before more events
 pub stops_longer : (studio : Studio) (all longer : List TraceEvent) (a c : Option (List ℕ)) (H : Hearing) (run : ReplayState) (fault : ReplayFault) → AreFirst all longer
     → Stops studio all a run c H fault → Stops studio longer a run c H fault
-stops_longer studio all longer a c H run fault first stops = record { events = stops.events; first = first_longer stops.events all longer stops.first first; at = stops.at }
+stops_longer studio all longer a c H run fault first stops = record { events = stops.events; first = first_longer stops.events all longer stops.first first; at = stops.at; reason = first_fault_longer studio all longer fault first stops.reason }
 
 -- a stream for each cursor
 pub streams_of_session : (studio : Studio) (engine : EngineState) (events : List TraceEvent) (datagrams : List (List ℕ)) → HasSession studio engine events datagrams
@@ -292,8 +296,8 @@ before_close studio plan entries =
 -- a fault is behind the entries that were returned
 pub stops_behind : (studio : Studio) (plan : PlanView) (first a : Option (List ℕ)) (run : ReplayState) (parts : BlockParser) (held : List ℕ) (ended : Bool) (left c : Option (List ℕ)) (H : Hearing) (closing : Option ℕ) (fault : ReplayFault)
     (r : IsReplaying studio plan first a run parts held ended left c H closing) → ((file : List ℕ) → HasReturned file r.entries left parts held ended → IsReason file r.entries fault)
-    → ((changed : Studio) (events : List TraceEvent) → HasReplayed changed events a run c H → StopsAt changed events a run c H fault) → StopsFile studio plan first a run c H fault
-stops_behind studio plan first a run parts held ended left c H closing fault r reason at = record {
+    → ((changed : Studio) (events : List TraceEvent) → IsFirstFault changed events fault) → ((changed : Studio) (events : List TraceEvent) → HasReplayed changed events a run c H → StopsAt changed events a run c H fault) → StopsFile studio plan first a run c H fault
+stops_behind studio plan first a run parts held ended left c H closing fault r reason none at = record {
   entries = r.entries;
   told = some_maps first _ _ (λ file told. (begins file r.entries left parts held ended told, reason file told)) r.told;
   changed = packets_among r.entries;
@@ -302,6 +306,7 @@ stops_behind studio plan first a run parts held ended left c H closing fault r r
     events = events_of studio plan (packets_among r.entries);
     first = before_close studio plan r.entries;
     at = at (changed_by studio plan (packets_among r.entries)) (events_of studio plan (packets_among r.entries)) r.taken.replayed;
+    reason = none (changed_by studio plan (packets_among r.entries)) (events_told studio plan r.entries);
   };
 }
 

@@ -8,6 +8,7 @@ pub mod RecordPackets
 pub mod Lines
 pub mod Observed
 pub mod ImportLines
+pub mod Reasons
 pub mod Replay
 pub mod RecordedPaths
 pub use Rattle.pcap_file.specs.Packet

@@ -29,14 +29,16 @@ use Rattle.pcap_replay.specs.Routing.{PlanView, Flows, Interfaces, clock_before,
 use Rattle.pcap_replay.specs.Steady.{AreSteady, IsSteady}
 use Rattle.pcap_replay.specs.Record.{closing_in}
 use Rattle.pcap_replay.specs.RecordChanges.{AreAllButLast, changed_by}
+use Rattle.pcap_replay.specs.Reasons.{IsCount, IsFirstFault}
 
--- the engine took these events, the lines of the datagrams that it returned are written or held, and the observer
--- received both
+-- the engine took these events, which are counted, the lines of the datagrams that it returned are written or held, and
+-- the observer received both
 pub record HasReplayed (studio : Studio) (events : List TraceEvent) (written : Option (List ℕ)) (run : ReplayState) (written_then : Option (List ℕ)) (heard : Hearing) : Type 0 where
   pub datagrams : List (List ℕ)
   pub session : HasSession studio run.engine events datagrams
   pub idle : run.engine.turning ≡ false
   pub open_yet : closed_at false events ≡ false
+  pub counted : IsCount studio.open_at events run.count
   pub wrote : PassesOn written [] written_then run.text (datagrams_text datagrams)
   pub told : heard events datagrams
 
@@ -44,6 +46,7 @@ pub record HasReplayed (studio : Studio) (events : List TraceEvent) (written : O
 pub record HasBegun (studio : Studio) (run : ReplayState) : Type 0 where
   pub session : HasSession studio run.engine [] []
   pub idle : run.engine.turning ≡ false
+  pub counted : IsCount studio.open_at [] run.count
   pub none : run.text ≡ []
 
 -- the observer received a prefix of these events, whose clock readings are in order, and some of the datagrams of all
@@ -75,11 +78,12 @@ StopsAt studio events written run written_then heard (Jump place seconds) = HasR
 StopsAt studio events written run written_then heard TooManyEvents = HasReplayed studio events written run written_then heard
 StopsAt studio events written run written_then heard Write = BreaksAt studio events written written_then heard
 
--- a fault came before all of these events were taken
+-- a fault came before all of these events were taken; that of an event is their first
 pub record Stops (studio : Studio) (all : List TraceEvent) (written : Option (List ℕ)) (run : ReplayState) (written_then : Option (List ℕ)) (heard : Hearing) (fault : ReplayFault) : Type 0 where
   pub events : List TraceEvent
   pub first : AreFirst events all
   pub at : StopsAt studio events written run written_then heard fault
+  pub reason : IsFirstFault studio all fault
 
 -- a file begins with these entries
 pub record BeginsWith (file : List ℕ) (entries : List Entry) : Type 0 where
@@ -168,11 +172,12 @@ BreaksReport studio events written written_then heard =
     BreaksAt studio events written written_then heard
     ⊎ (((report : List ℕ) → IsReport studio events report → BreaksOff written [] written_then report) × HasHeardAll studio events heard)
 
--- a prefix of the report of a file's first events was written; the changes in all packets of its first entries were
--- taken, or in all but the last
+-- a prefix of the report of a file's first events was written; the fault of an event is the first of the events of its
+-- first entries, and the changes in all packets of these were taken, or in all but the last
 pub record WritesFront (studio : Studio) (plan : PlanView) (left : Option (List ℕ)) (written written_then : Option (List ℕ)) (heard : Hearing) (fault : ReplayFault) : Type 0 where
   pub entries : List Entry
   pub told : IfSome left (λ file. BeginsWith file entries × IsReason file entries fault)
+  pub reason : IsFirstFault studio (file_events studio plan entries) fault
   pub events : List TraceEvent
   pub first : AreFirst events (file_events studio plan entries)
   pub changed : List PacketView

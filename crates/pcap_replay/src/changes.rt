@@ -7,7 +7,7 @@ ghost use Rattle.studio_mix.specs.Changed.{with_changes};
 ghost use Rattle.studio_engine.specs.Session.{HasSession};
 ghost use Rattle.studio_session.specs.Event.{TraceEvent};
 ghost use Rattle.pcap_replay.specs.RecordChanges.{changes_by};
-ghost use Rattle.pcap_replay.specs.Replay.{IsRun};
+ghost use Rattle.pcap_replay.specs.Reasons.{IsOfChange};
 
 use crate::fault::{RecordedChangeFault, ReplayFault};
 use crate::state::ReplayState;
@@ -32,9 +32,10 @@ impl ReplayState {
             → HasSession (with_changes studio (changes_by from (change_of octets.now))) self.new.engine events
             datagrams) }
         ensures kept { OnErr result (self.new ≡ self.old) }
-        ensures kind { IfErr result (λ fault. IsRun fault) }
+        ensures kind { IfErr result (λ fault. IsOfChange fault) }
         ensures clock { self.new.clock ≡ self.old.clock }
         ensures text { self.new.text ≡ self.old.text }
+        ensures count { self.new.count ≡ self.old.count }
         ensures turning { self.new.engine.turning ≡ self.old.engine.turning }
     {
         let mut buffer = [0; MAX_RECORDED_GAINS];
@@ -55,7 +56,7 @@ impl ReplayState {
 
     /// Returns the fault of the next change.
     fn change_fault(&self, kind: RecordedChangeFault) -> ReplayFault
-        ensures { IsRun result }
+        ensures { IsOfChange result }
     {
         ReplayFault::Change(self.changes.saturating_add(1), kind)
     }

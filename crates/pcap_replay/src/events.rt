@@ -3,6 +3,7 @@
 ghost use Rattle.std.specs.Prelude.{
   ◌≡◌,
   ◌≤◌,
+  ◌≤ℤ◌,
   ◌<◌,
   ◌+◌,
   ◌^◌,
@@ -10,12 +11,14 @@ ghost use Rattle.std.specs.Prelude.{
   ◌++◌,
   [],
   ℕ,
+  ℤ,
   pos,
   List,
   Option,
   None,
   length,
   drop,
+  slice_get,
   false,
   is_some,
   IfOk,
@@ -35,6 +38,7 @@ ghost use Rattle.studio_mix.specs.Changed.{with_changes};
 ghost use Rattle.pcap_replay.specs.RecordChanges.{changed_by, changes_with};
 ghost use Rattle.pcap_replay.specs.Routing.{clock_past, longest_of, opening_of, plan_view, role_of};
 ghost use Rattle.pcap_replay.specs.Record.{closing_with};
+ghost use Rattle.pcap_replay.specs.Reasons.{IsCount, IsPathFault, refused_at};
 ghost use Rattle.pcap_replay.specs.Replay.{
   HasGoneOver,
   HasReplayed,
@@ -46,6 +50,7 @@ ghost use Rattle.pcap_replay.specs.Replay.{
   StopsFile,
 };
 ghost use Rattle.studio_session.specs.Fault.{time_at};
+ghost use Rattle.studio_engine.specs.Engine.{stream_spec_of};
 ghost use Rattle.studio_engine.specs.Session.{turned};
 
 use crate::fault::ReplayFault;
@@ -354,7 +359,7 @@ impl ReplayState {
         }
         write_turn(&mut self.engine, now, &mut self.text, writer, observer)?;
         report_reading(observer, time, now);
-        self.count = self.count.saturating_add(usize::from(time != now));
+        self.count = count_reading(self.count, time, now);
         Ok(())
     }
 
@@ -395,12 +400,16 @@ impl ReplayState {
 
     /// Returns the fault of a datagram on a path that no stream has.
     fn path_fault_of(&self, stream: usize) -> ReplayFault
-        ensures { IsRun result }
+        ensures { (path : ℕ) → 4 ≤ path
+            → IsPathFault self.now.count path (stream_spec_of (slice_get self.now.engine.cursors stream)) result }
     {
-        if stream < self.engine.streams() {
-            ReplayFault::Run(StudioFault::Path(self.count))
-        } else {
-            ReplayFault::Run(StudioFault::Stream(self.count))
+        match self.engine.stream(stream) {
+            Some(spec) => {
+                // Only for its clause: a stream has at most four paths.
+                let _ = spec.paths();
+                ReplayFault::Run(StudioFault::Path(self.count))
+            }
+            None => ReplayFault::Run(StudioFault::Stream(self.count)),
         }
     }
 }
@@ -418,6 +427,7 @@ fn place_of_close(closing: Option<u64>, so_far: usize, place: usize) -> usize {
 fn instants_at(from: u64, reading: u64) -> Option<i64>
     ensures value { IfSome result (λ now. now ≡ pos (from + reading)) }
     ensures small { IfSome result (λ now. from + reading < 2 ^ 63) }
+    ensures none { result ≡ None → 2 ^ 63 ≤ from + reading }
 {
     let instants = from.checked_add(reading)?;
     i64::try_from(instants).ok()
@@ -434,6 +444,17 @@ fn report_reading<L: ReplayObserver>(observer: &mut L, before: i64, now: i64)
     }
 }
 
+/// Returns the number of events after a reading, if it isn't the one before.
+fn count_reading(count: usize, before: i64, now: i64) -> usize
+    ensures { (open_at : ℤ) (events : List TraceEvent) → before ≡ time_at open_at events → before ≤ℤ now
+        → now ≤ℤ pos (2 ^ 60) → IsCount open_at events count → IsCount open_at (turned before now events) result }
+{
+    if before == now {
+        return count;
+    }
+    count.saturating_add(1)
+}
+
 /// Returns true if an engine that is open refuses a clock reading.
 fn refuses(engine: &Engine, now: i64) -> bool
     ensures { result ≡ is_some (clock_fault_of engine.now.time false now) }
@@ -443,7 +464,7 @@ fn refuses(engine: &Engine, now: i64) -> bool
 
 /// Returns the fault of a datagram that the engine refused, at a place among the events.
 fn fault_at(place: usize, fault: ArriveFault) -> ReplayFault
-    ensures { IsRun result }
+    ensures { result ≡ refused_at place fault }
 {
     match fault {
         ArriveFault::Stream => ReplayFault::Run(StudioFault::Stream(place)),

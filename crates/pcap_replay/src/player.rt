@@ -142,6 +142,8 @@ impl ReplayState {
         ensures begun { IfOk result (λ run. HasBegun spec.now run) }
         ensures clock { IfOk result (λ run. run.clock ≡ clock_before (plan_view plan.now)) }
     {
+        // Only for its clause: a studio opens at time 0 or later.
+        let _ = spec.open_at();
         let engine = Engine::new(alloc, spec)?;
         let text = TextBuffer::new(alloc)?;
         Ok(ReplayState {

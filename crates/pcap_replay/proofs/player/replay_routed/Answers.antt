@@ -44,6 +44,7 @@ returns-in_err-close-in-Ok-clause-fault g c =
     told _ Write c.from_residual-in_err-close-in-Ok.result c.from_residual-in_err-close-in-Ok.ensures.1 (record {
       entries = come.entries;
       told = some_maps first _ _ (λ file whole. (begins_ended plan file come.entries whole, tt)) come.told;
+      reason = tt;
       events = file_events spec plan come.entries;
       first = first_same (file_events spec plan come.entries);
       changed = packets_among come.entries;

@@ -1,3 +1,10 @@
+use Rattle.std.proofs.Common.{◌≡◌, ◌+◌, pos, nat_lt, true, if◌then◌else◌, sym, ap, subst, ◌∙◌, arith}
+use Rattle.std.proofs.lemmas.Bool.Decides.{nat_tests}
+use Rattle.pcap_flows.specs.declared.import.clock.CaptureClock.{CaptureClock}
+use Rattle.studio_session.specs.Fault.{time_at}
+use Rattle.studio_engine.specs.Session.{turned}
+use Rattle.pcap_replay.specs.Replay.{Stops}
+use Rattle.pcap_replay.proofs.CaseLemmas.{err_then}
 use Rattle.pcap_flows.specs.Clock.{clock_with}
 use Rattle.pcap_replay.proofs.EventLemmas.{first_read}
 use Rattle.pcap_replay.proofs.state.ReplayState.read.Goals as goal
@@ -7,5 +14,22 @@ pub returns-then-step-rule-clause-fault : goal.returns-then-step-rule-clause-fau
 returns-then-step-rule-clause-fault g c = λ studio events written begun r. record {
   events = events;
   first = first_read studio.open_at c.args.rule.from events c.args.self.now.clock.reading (clock_with c.args.self.now.clock c.args.time).reading;
-  at = record { datagrams = r.datagrams; session = r.session; idle = r.idle; open_yet = r.open_yet; wrote = r.wrote; told = r.told };
+  at = record { datagrams = r.datagrams; session = r.session; idle = r.idle; open_yet = r.open_yet; counted = r.counted; wrote = r.wrote; told = r.told };
+  reason = tt;
 }
+
+pub returns-clause-fault : goal.returns-clause-fault
+returns-clause-fault g c =
+    let clock = c.args.self.now.clock in
+    let now = clock_with clock c.args.time in
+    let earlier : c.reading-earlier.result ≡ clock.reading = c.reading-earlier.ensures in
+    let reading : c.reading-reading.result ≡ now.reading = c.reading-reading.ensures ∙ ap (λ (k : CaptureClock). k.reading) c.read.ensures in
+    let goes = c.if-reading-earlier.false in
+    let less : nat_lt clock.reading now.reading ≡ true = grind (arith, nat_tests, earlier, reading, goes) in
+    let last = g.W.Write.contents c.turn.new.writer in
+    err_then c.turn.result _ _ (λ fault stops studio events written begun r.
+    let heard = g.L.ReplayObserver.heard begun c.turn.new.observer in
+    let before = time_at studio.open_at events in
+    subst (λ b. Stops studio (if b then turned before (pos (c.args.rule.from + now.reading)) events else events) written c.turn.new.self last heard fault) (sym less)
+    (subst (λ n. Stops studio (turned before (pos (c.args.rule.from + n)) events) written c.turn.new.self last heard fault) reading
+    (stops studio events written begun (record { datagrams = r.datagrams; session = r.session; idle = r.idle; open_yet = r.open_yet; counted = r.counted; wrote = r.wrote; told = r.told })))) c.turn.ensures.fault

@@ -15,7 +15,7 @@ returns-in_err-has_next-clause-fault g c =
     (λ studio first written begun r.
     let now = c.parts.invariant studio first written begun r in
     stops_behind studio (plan_view c.args.plan.now) first written c.parts.self c.parts.parts (octets_of c.parts.window) c.parts.window.ended (g.R.Read.remaining c.parts.reader) (g.W.Write.contents c.parts.writer) (g.L.ReplayObserver.heard begun c.parts.observer) c.parts.closing (Capture fault) now
-    (λ file _. long_reason file now.entries fault c.in_err-has_next.ensures.fault) (λ changed events replayed. replayed))
+    (λ file _. long_reason file now.entries fault c.in_err-has_next.ensures.fault) (λ changed events. tt) (λ changed events replayed. replayed))
 
 pub returns-then-not-branch-clause-ok : goal.returns-then-not-branch-clause-ok
 returns-then-not-branch-clause-ok g c = λ studio first written begun r.
@@ -52,4 +52,4 @@ parts-preserved g c = λ studio first written begun r.
 pub returns-clause-fault : goal.returns-clause-fault
 returns-clause-fault g c = λ studio first written begun r.
     stops_behind studio (plan_view c.args.plan.now) first written c.parts.self c.parts.parts (octets_of c.parts.window) c.parts.window.ended (g.R.Read.remaining c.parts.reader) (g.W.Write.contents c.parts.writer) (g.L.ReplayObserver.heard begun c.parts.observer) c.parts.closing _
-    (c.parts.invariant studio first written begun r) (λ file _. tt) (λ changed events replayed. replayed)
+    (c.parts.invariant studio first written begun r) (λ file _. tt) (λ changed events. tt) (λ changed events replayed. replayed)

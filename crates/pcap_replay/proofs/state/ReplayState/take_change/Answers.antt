@@ -1,4 +1,4 @@
-use Rattle.std.proofs.Common.{◌≡◌, Err, sym, subst, rules}
+use Rattle.std.proofs.Common.{◌≡◌, Err, refl, sym, subst, rules}
 use Rattle.pcap_file.specs.Packet.{packet_view}
 use Rattle.pcap_file.specs.RecordedChange.{change_of}
 use Rattle.pcap_flows.specs.Clock.{clock_with}
@@ -7,8 +7,9 @@ use Rattle.pcap_replay.specs.Events.{read_at}
 use Rattle.pcap_replay.specs.RecordChanges.{changes_by}
 use Rattle.pcap_replay.specs.Replay.{HasReplayed}
 use Rattle.pcap_replay.specs.declared.state.ReplayState.{ReplayState}
-use Rattle.pcap_replay.proofs.CaseLemmas.{ok_then, own_fault}
+use Rattle.pcap_replay.proofs.CaseLemmas.{err_then, ok_then, own_fault}
 use Rattle.pcap_replay.proofs.EventLemmas.{first_same}
+use Rattle.pcap_replay.proofs.ReasonLemmas.{change_reason, change_run}
 use Rattle.pcap_replay.proofs.ReplayLemmas.{gains_replayed, own_run, stops_at_run}
 use Rattle.pcap_replay.proofs.state.ReplayState.take_change.Goals as goal
 
@@ -27,10 +28,10 @@ returns-clause-ok g c =
     let heard = g.L.ReplayObserver.heard begun c.read.new.observer in
     let now = c.in_ok-read.ensures.ok studio events written begun r in
     subst (λ l. HasReplayed (with_changes studio (changes_by c.args.rule.from (change_of l))) before written c.change.new.self last heard) c.datagram_octets.ensures
-    (gains_replayed studio _ before written last heard c.read.new.self c.change.new.self c.change.ensures.text c.change.ensures.turning now (changes studio before now.datagrams now.session))) c.change.ensures.ok
+    (gains_replayed studio _ before written last heard c.read.new.self c.change.new.self c.change.ensures.text c.change.ensures.turning c.change.ensures.count refl now (changes studio before now.datagrams now.session))) c.change.ensures.ok
 
 pub returns-clause-kind : goal.returns-clause-kind
-returns-clause-kind g c = own_run c.change.result c.change.ensures.kind
+returns-clause-kind g c = own_run c.change.result (err_then c.change.result _ _ change_run c.change.ensures.kind)
 
 pub returns-clause-fault : goal.returns-clause-fault
 returns-clause-fault g c =
@@ -44,6 +45,7 @@ returns-clause-fault g c =
     record {
       events = before;
       first = first_same before;
-      at = stops_at_run studio before written last heard c.change.new.self fault kind.0
+      at = stops_at_run studio before written last heard c.change.new.self fault (change_run fault kind.0)
           (subst (λ (run : ReplayState). HasReplayed studio before written run last heard) (sym kind.1) now);
+      reason = change_reason studio before fault kind.0;
     }) c.change.ensures.kind c.change.ensures.kept

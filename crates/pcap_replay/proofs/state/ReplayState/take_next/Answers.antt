@@ -24,4 +24,4 @@ returns-in_err-take_part-in-Ok-clause-fault g c =
 pub returns-in-Err-clause-fault : goal.returns-in-Err-clause-fault
 returns-in-Err-clause-fault g c = λ studio first written begun left closing r.
     stops_behind studio (plan_view c.args.plan.now) first written c.args.self.now _ (octets_of c.args.window.now) c.args.window.now.ended left (g.W.Write.contents c.args.writer.now) (g.L.ReplayObserver.heard begun c.args.observer.now) closing _ r
-    (λ file told. let behind = c.in-Err.ensures.fault file r.entries left told in behind.packets) (λ changed events replayed. replayed)
+    (λ file told. let behind = c.in-Err.ensures.fault file r.entries left told in behind.packets) (λ changed events. tt) (λ changed events replayed. replayed)
