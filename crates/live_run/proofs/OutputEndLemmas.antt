@@ -19,7 +19,7 @@ module _ {P E : Type 0} (ended : E → OutputKind → Option OutputEnd) where
   next_to_is (Some part, output) kind = refl
 
 module _ {P E Q M N : Type 0} (events_ended : E → OutputKind → Option OutputEnd) (mix_ended : M → OutputKind → Option OutputEnd) (mix_of : N → Option Q × M) where
-  ends_are : (one : Bool) (ends : OutputEnds) → AreEndsIn one (ended_next_to {P} events_ended) (λ mix kind. ended_next_to mix_ended (mix_of mix) kind) ends → AreEndsIn one events_ended mix_ended ends
+  ends_are : (one : Bool) (ends : OutputEnds) → AreEndsIn one (ended_next_to {P = P} events_ended) (λ mix kind. ended_next_to mix_ended (mix_of mix) kind) ends → AreEndsIn one events_ended mix_ended ends
   ends_are true ends (events, mix, is) = (
     events.1,
     (mix_of mix).1,
@@ -28,7 +28,7 @@ module _ {P E Q M N : Type 0} (events_ended : E → OutputKind → Option Output
   ends_are false ends (mix, is) = ((mix_of mix).1, λ kind. is kind ∙ next_to_is mix_ended (mix_of mix) kind)
 
   -- the ends of a run's outputs, next to the page's task, which has none
-  pub ends-next-to : (one : Bool) (r : Result RunEnd LiveFault) → IfOk r (λ end. AreEndsIn one (ended_next_to {P} events_ended) (λ mix kind. ended_next_to mix_ended (mix_of mix) kind) end.outputs)
+  pub ends-next-to : (one : Bool) (r : Result RunEnd LiveFault) → IfOk r (λ end. AreEndsIn one (ended_next_to {P = P} events_ended) (λ mix kind. ended_next_to mix_ended (mix_of mix) kind) end.outputs)
       → IfOk r (λ end. AreEndsIn one events_ended mix_ended end.outputs)
   ends-next-to one (Ok end) is = ends_are one end.outputs is
   ends-next-to one (Err fault) is = is

@@ -7,7 +7,6 @@ use crate::fault::LiveFault;
 use crate::inputs::LiveRun;
 use crate::launch::launch_run;
 use crate::report::write_report;
-use crate::run_end::RunEnd;
 use run_outputs::{CreateOutput, OutputEnds};
 use status_page::Token;
 use std::alloc::Global;
@@ -62,11 +61,11 @@ pub fn run_studio_live<
 {
     // Allocated before the run, so that no run is left without memory for its report.
     let mut text = TextBuffer::new(alloc)?;
-    let RunEnd { report, outputs } = launch_run(rt, alloc, run, outputs, control, faults)?;
-    write_report(&mut text, output, &report)?;
+    let ended = launch_run(rt, alloc, run, outputs, control, faults)?;
+    write_report(&mut text, output, &ended.report)?;
     text.finish(output)?;
-    if !report.settled {
+    if !ended.report.settled {
         return Err(LiveFault::Unsettled);
     }
-    Ok(outputs)
+    Ok(ended.outputs)
 }

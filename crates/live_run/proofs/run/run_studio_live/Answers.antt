@@ -10,11 +10,11 @@ pub returns-in_err-write_report-clause-fault : goal.returns-in_err-write_report-
 returns-in_err-write_report-clause-fault g c =
     let written = g.W.Write.contents c.args.output.now in
     let written_then = g.W.Write.contents c.write_report.new.writer in
-    let text = report_text c.in_ok-report.report in
+    let text = report_text c.in_ok-ended.ended.report in
     broke_off c.args.run.options.now.one_thread (is_some c.args.control) c.args.run.studio.now written written_then c.from_residual-in_err-write_report.result c.from_residual-in_err-write_report.ensures.1
     (record {
-      report = c.in_ok-report.report;
-      is = c.in_ok-report.ensures.run;
+      report = c.in_ok-ended.ended.report;
+      is = c.in_ok-ended.ensures.run;
       part = subst (λ h. BreaksOff written h written_then text) c.in_ok-text.ensures c.in_err-write_report.ensures.fault;
     })
 
@@ -22,11 +22,11 @@ pub returns-in_err-finish-clause-fault : goal.returns-in_err-finish-clause-fault
 returns-in_err-finish-clause-fault g c =
     let written = g.W.Write.contents c.args.output.now in
     let held = c.write_report.new.text in
-    let text = report_text c.in_ok-report.report in
+    let text = report_text c.in_ok-ended.ended.report in
     broke_off c.args.run.options.now.one_thread (is_some c.args.control) c.args.run.studio.now written (g.W.Write.contents c.finish.new.writer) c.from_residual-in_err-finish.result c.from_residual-in_err-finish.ensures.1
     (record {
-      report = c.in_ok-report.report;
-      is = c.in_ok-report.ensures.run;
+      report = c.in_ok-ended.ended.report;
+      is = c.in_ok-ended.ensures.run;
       part = BreaksOff-finished _ _ _ held text
           (subst (λ h. PassesOn written h (g.W.Write.contents c.write_report.new.writer) held text) c.in_ok-text.ensures c.in_ok-write_report.ensures.ok)
           c.in_err-finish.ensures.fault;
@@ -36,11 +36,11 @@ pub returns-then-not-report-clause-fault : goal.returns-then-not-report-clause-f
 returns-then-not-report-clause-fault g c =
     let written = g.W.Write.contents c.args.output.now in
     let held = c.write_report.new.text in
-    let text = report_text c.in_ok-report.report in
+    let text = report_text c.in_ok-ended.ended.report in
     record {
-      report = c.in_ok-report.report;
-      is = c.in_ok-report.ensures.run;
-      answer = c.if-not-report.true;
+      report = c.in_ok-ended.ended.report;
+      is = c.in_ok-ended.ensures.run;
+      answer = c.if-not-ended.true;
       wrote = PassesOn-finished _ _ _ held text
           (subst (λ h. PassesOn written h (g.W.Write.contents c.write_report.new.writer) held text) c.in_ok-text.ensures c.in_ok-write_report.ensures.ok)
           c.in_ok-finish.ensures.ok;
@@ -50,11 +50,11 @@ pub returns-clause-ok : goal.returns-clause-ok
 returns-clause-ok g c =
     let written = g.W.Write.contents c.args.output.now in
     let held = c.write_report.new.text in
-    let text = report_text c.in_ok-report.report in
+    let text = report_text c.in_ok-ended.ended.report in
     record {
-      report = c.in_ok-report.report;
-      is = c.in_ok-report.ensures.run;
-      answer = c.if-not-report.false;
+      report = c.in_ok-ended.ended.report;
+      is = c.in_ok-ended.ensures.run;
+      answer = c.if-not-ended.false;
       wrote = PassesOn-finished _ _ _ held text
           (subst (λ h. PassesOn written h (g.W.Write.contents c.write_report.new.writer) held text) c.in_ok-text.ensures c.in_ok-write_report.ensures.ok)
           c.in_ok-finish.ensures.ok;
