@@ -18,7 +18,7 @@ module _ {P E : Type 0} (ended : E → OutputKind → Option OutputEnd) where
   next_to_is (None, output) kind = refl
   next_to_is (Some part, output) kind = refl
 
-module _ {P E Q M N : Type 0} (events_ended : E → OutputKind → Option OutputEnd) (mix_ended : M → OutputKind → Option OutputEnd) (mix_of : N → Option Q × M) where
+module _ (P : Type 0) {E Q M N : Type 0} (events_ended : E → OutputKind → Option OutputEnd) (mix_ended : M → OutputKind → Option OutputEnd) (mix_of : N → Option Q × M) where
   ends_are : (one : Bool) (ends : OutputEnds) → AreEndsIn one (ended_next_to {P = P} events_ended) (λ mix kind. ended_next_to mix_ended (mix_of mix) kind) ends → AreEndsIn one events_ended mix_ended ends
   ends_are true ends (events, mix, is) = (
     events.1,

@@ -1,5 +1,5 @@
 //! A feed and a sink that fail, and a wait that does not wait.
-ghost use Rattle.std.specs.Prelude.{[], map, Some};
+ghost use Rattle.std.specs.Prelude.{[], map, None, Some};
 
 use engine_run::IdleWait;
 use std::alloc::Global;

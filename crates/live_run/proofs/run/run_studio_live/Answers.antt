@@ -32,8 +32,8 @@ returns-in_err-finish-clause-fault g c =
           c.in_err-finish.ensures.fault;
     })
 
-pub returns-then-not-report-clause-fault : goal.returns-then-not-report-clause-fault
-returns-then-not-report-clause-fault g c =
+pub returns-then-not-ended-clause-fault : goal.returns-then-not-ended-clause-fault
+returns-then-not-ended-clause-fault g c =
     let written = g.W.Write.contents c.args.output.now in
     let held = c.write_report.new.text in
     let text = report_text c.in_ok-ended.ended.report in
