@@ -3,5 +3,4 @@ pub mod ReportLemmas
 pub mod LatestStatsLemmas
 pub mod StreamStatusLemmas
 pub mod RunLemmas
-pub mod OutputEndLemmas
 mod RingPlacesCases

@@ -50,8 +50,6 @@ pub(crate) fn launch_run<
 ) -> Result<RunEnd, LiveFault>
     ensures run { IfOk result
         (λ end. IsRunOf run.entry.options.now.one_thread (is_some control) run.entry.studio.now end.report) }
-    ensures ends { IfOk result
-        (λ end. AreEndsIn run.entry.options.now.one_thread O.Events.ended O.Mix.ended end.outputs) }
     ensures early { IfErr result IsEarly }
 {
     // Made here and not in `bind_and_run`, whose parts and threads borrow it.
@@ -89,8 +87,6 @@ fn bind_and_run<
 ) -> Result<RunEnd, LiveFault>
     ensures run { IfOk result
         (λ end. IsRunOf run.entry.options.now.one_thread (is_some control) run.entry.studio.now end.report) }
-    ensures ends { IfOk result
-        (λ end. AreEndsIn run.entry.options.now.one_thread O.Events.ended O.Mix.ended end.outputs) }
     ensures early { IfErr result IsEarly }
 {
     let sockets = open_sockets(rt, alloc, run.studio, run.inputs.sockets)?;
@@ -120,8 +116,6 @@ impl<'a, R: Threads + Wait + Sync + Clock> BoundRun<'a, R> {
     ) -> Result<RunEnd, LiveFault>
         ensures run { IfOk result (λ end.
             IsRunOf run.entry.options.now.one_thread (is_some self.entry.gains) run.entry.studio.now end.report) }
-        ensures ends { IfOk result
-            (λ end. AreEndsIn run.entry.options.now.one_thread O.Events.ended O.Mix.ended end.outputs) }
         ensures early { IfErr result IsEarly }
     {
         let (task, outputs) = outputs;
