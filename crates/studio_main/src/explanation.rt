@@ -85,7 +85,7 @@ pub(crate) fn explained<R: Net, H: SystemErrors>(
     rt: &R,
     alloc: Global,
     host: &H,
-    args: &LiveArgs<'_>,
+    args: LiveArgs<'_>,
     begins: Option<u64>,
     fault: ProgramFault,
 ) -> Result<ProgramFault, AllocError> {
@@ -108,7 +108,7 @@ fn explanation_of<R: Net, H: SystemErrors>(
     rt: &R,
     alloc: Global,
     host: &H,
-    args: &LiveArgs<'_>,
+    args: LiveArgs<'_>,
     begins: Option<u64>,
     fault: LiveFault,
 ) -> Result<Option<Explanation>, AllocError> {
@@ -128,7 +128,7 @@ fn explanation_of<R: Net, H: SystemErrors>(
 fn at_output(
     alloc: Global,
     kind: OutputKind,
-    args: &LiveArgs<'_>,
+    args: LiveArgs<'_>,
     begins: Option<u64>,
     reason: Reason,
 ) -> Result<Option<Explanation>, AllocError> {

@@ -46,7 +46,6 @@ pub(crate) fn run_live<
     faults: &mut H::Stderr,
     host: &H,
 ) -> Result<(), ProgramFault> {
-    let args = &args;
     let request = LiveRequest { config, args, host };
     let (begins, ran) = match open_studio(rt, alloc, config, args) {
         Ok(opened) => (
@@ -66,7 +65,7 @@ pub(crate) fn run_live<
 struct LiveRequest<'a, H> {
     /// The octets of the configuration.
     config: &'a [u8],
-    args: &'a LiveArgs<'a>,
+    args: LiveArgs<'a>,
     /// The host of the files.
     host: &'a H,
 }
@@ -104,7 +103,7 @@ fn load_and_run<
 /// Refuses raw PCM that would go to a terminal.
 // A terminal counts as ready if it has space for one octet, so a write of more may wait for its reader, and the run for
 // the write.
-fn refuse_terminal(args: &LiveArgs<'_>) -> Result<(), ProgramFault> {
+fn refuse_terminal(args: LiveArgs<'_>) -> Result<(), ProgramFault> {
     if args.is_pcm_stdout() && is_stdout_terminal() {
         let fault = LiveFault::Output(OutputKind::Pcm);
         return Err(ProgramFault::LiveExplained(fault, Explanation::Text(TERMINAL)));
@@ -117,7 +116,7 @@ fn refuse_terminal(args: &LiveArgs<'_>) -> Result<(), ProgramFault> {
 struct LoadedRun<'a> {
     opened: OpenedStudio,
     inputs: LoadedInputs,
-    args: &'a LiveArgs<'a>,
+    args: LiveArgs<'a>,
 }
 
 /// Runs a studio with its inputs, and with the files that its options name. Writes the report and the lines after it.
@@ -134,16 +133,17 @@ fn run_loaded<
     output: &mut W,
     faults: &mut H::Stderr,
 ) -> Result<(), ProgramFault> {
+    let (studio, args) = (&loaded.opened.studio, &loaded.args);
     let (progress, start) = (RunProgress::new(), files.start());
     let run = LiveRun {
-        studio: &loaded.opened.studio,
-        options: &loaded.args.options,
+        studio,
+        options: &args.options,
         inputs: live_inputs(loaded, &progress, start),
     };
     let outputs = files.outputs(&progress);
     let lines = LiveLines::new(faults);
     let ran = run_studio_live(rt, alloc, run, outputs, token, output, lines);
-    finish(alloc, ran, run, loaded.args, output)
+    finish(alloc, ran, studio, run.inputs, loaded.args, output)
 }
 
 /// Returns the inputs of a run with this start, whose outputs set this progress.
@@ -232,11 +232,11 @@ fn inherited_sockets<R: Env + AllocGlobal>(
 fn finish<W: Write>(
     alloc: Global,
     ran: Result<OutputEnds, LiveFault>,
-    run: LiveRun<'_>,
-    args: &LiveArgs<'_>,
+    studio: &StudioSpec,
+    inputs: LiveInputs<'_>,
+    args: LiveArgs<'_>,
     output: &mut W,
 ) -> Result<(), ProgramFault> {
-    let (studio, inputs) = (run.studio, run.inputs);
     // A run that is not settled has a report too.
     if matches!(ran, Ok(_) | Err(LiveFault::Unsettled)) {
         write_after_report(studio, inputs, args, output)?;
@@ -275,7 +275,7 @@ fn first_fault(ends: &OutputEnds, outputs: &RunProgress) -> Option<(OutputKind, 
 fn write_after_report<W: Write>(
     studio: &StudioSpec,
     inputs: LiveInputs<'_>,
-    args: &LiveArgs<'_>,
+    args: LiveArgs<'_>,
     output: &mut W,
 ) -> Result<(), ProgramFault> {
     if args.tai_offset.is_some() {

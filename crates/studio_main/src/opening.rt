@@ -27,7 +27,7 @@ pub(crate) fn open_studio<R: Clock>(
     rt: &R,
     alloc: Global,
     config: &[u8],
-    args: &LiveArgs<'_>,
+    args: LiveArgs<'_>,
 ) -> Result<OpenedStudio, ProgramFault> {
     let studio = parse_studio(alloc, config)?;
     match (args.tai_offset, args.wav_minutes) {

@@ -77,7 +77,7 @@ impl<'h, H: LiveHost> RunPaths<'h, '_, H> {
 }
 
 /// Returns the path that the options name for the output of a kind, if they name one.
-pub(crate) fn path_of<'p>(kind: OutputKind, args: &LiveArgs<'p>) -> Option<&'p str> {
+pub(crate) fn path_of<'p>(kind: OutputKind, args: LiveArgs<'p>) -> Option<&'p str> {
     match kind {
         OutputKind::Record => args.record,
         OutputKind::Wav => args.wav,
@@ -123,7 +123,7 @@ fn file_of(path: &str) -> Option<&str> {
 pub(crate) fn files_of<'h, 'p, H: LiveHost>(
     alloc: Global,
     host: &'h H,
-    args: &LiveArgs<'p>,
+    args: LiveArgs<'p>,
     parts: Option<AudioParts>,
 ) -> Result<RunPaths<'h, 'p, H>, ProgramFault> {
     let begins = parts.map(|parts| parts.at);
@@ -153,7 +153,7 @@ pub(crate) fn files_of<'h, 'p, H: LiveHost>(
 /// one file. `wav` is the path of the first WAV file.
 fn refuse_files<H: LiveHost>(
     host: &H,
-    args: &LiveArgs<'_>,
+    args: LiveArgs<'_>,
     wav: Option<&str>,
 ) -> Result<(), ProgramFault> {
     let pcm = args.pcm.and_then(file_of);
