@@ -17,7 +17,7 @@ the_thousandth_is_the_last : told_faults 998 (Fails ∷ Fails ∷ Fails ∷ []) 
 unfolding told_faults
 the_thousandth_is_the_last = refl
 
--- a datagram, or nothing, begins the row anew
+-- after a datagram, or nothing, the faults in a row are counted from 0 again
 a_row_begins_anew : told_faults 998 (Fails ∷ Waits ∷ Fails ∷ Fails ∷ Stops ∷ []) ≡ 3
 unfolding told_faults
 a_row_begins_anew = refl
