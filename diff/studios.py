@@ -38,6 +38,8 @@ def studio_of(random):
         "start": max(0, open_at + random.choice((0, 0, -40, 30, 300))),
         "gains": [[random.randrange(-65536, 131072) for _ in range(inputs)] for _ in range(outputs)],
     }
+    if all(stream["clock"] == "media" for stream in streams):
+        output["clock"] = random.choice(("run", "media"))
     tables = [("[[stream]]", stream) for stream in streams] + [("[output]", output)]
     lines = [f"open_at = {open_at}"]
     for head, table in tables:

@@ -1,1 +1,3 @@
 pub mod BlockLemmas
+pub mod AlignedLemmas
+mod AlignedCases

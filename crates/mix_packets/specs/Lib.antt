@@ -1,5 +1,6 @@
 pub mod OutSpec
 pub mod Block
+pub mod Aligned
 pub mod Packer
 pub mod Laws
 pub use Rattle.rtp_wire.specs.Octets

@@ -1,5 +1,6 @@
 //! The specification of an output: what is fixed before its first packet.
-ghost use Rattle.std.specs.Prelude.{◌≡◌, ◌≤◌, false, true, None, Some, IfOk, IfErr, OnErr, OnOk};
+ghost use Rattle.std.specs.Prelude.{◌≡◌, ◌≤◌, ◌^◌, ◌≤ℤ◌, pos, false, true, None, Some, IfOk, IfErr, OnErr, OnOk};
+ghost use Rattle.mix_packets.specs.Aligned.{aligned};
 ghost use Rattle.mix_packets.specs.OutSpec.{
   IsOutput,
   datagram_length,
@@ -8,6 +9,7 @@ ghost use Rattle.mix_packets.specs.OutSpec.{
   payload_length,
   shift_of,
 };
+ghost use Rattle.mix_packets.specs.declared.out_spec.OutFault.TheVariants.{Start};
 
 use rtp_wire::{Enc, is_packet_time};
 use std::marker::Model;
@@ -151,6 +153,35 @@ impl OutSpec {
         }
         Ok(OutSpec {
             output: Output {
+                start,
+                ..self.output
+            },
+        })
+    }
+
+    /// Returns the output from the first of its blocks on that begins at `time` or after it. The blocks and their
+    /// numbers stay as they are, so this block may be one before the first packet, with a number below `seq0`.
+    ///
+    /// The error is `OutFault::Start` if the block does not begin from 0 to 2^60 sampling instants.
+    pub fn aligned_to(self, time: i64) -> Result<OutSpec, OutFault>
+        requires low { pos 0 ≤ℤ time }
+        requires high { time ≤ℤ pos (2 ^ 60) }
+        ensures ok { IfOk result (λ s. s ≡ aligned time self) }
+        ensures fine { OnOk result (is_start (aligned time self).start ≡ true) }
+        ensures fault { IfErr result (λ e. e ≡ Start) }
+        ensures late { OnErr result (is_start (aligned time self).start ≡ false) }
+    {
+        let frames = i64::from(self.output.frames);
+        let ahead = self.output.start - time;
+        let start = time + ahead.rem_euclid(frames);
+        if start > MAX_START {
+            return Err(OutFault::Start);
+        }
+        let block = -ahead.div_euclid(frames);
+        let seq0 = (i64::from(self.output.seq0) + block).rem_euclid(65_536) as u16;
+        Ok(OutSpec {
+            output: Output {
+                seq0,
                 start,
                 ..self.output
             },

@@ -2,11 +2,12 @@
 use Rattle.std.proofs.Common.{◌≡◌, ℕ, List, [], ◌∷◌, ◌++◌, map, Option, Some, None, option_map, refl, ap, ◌∙◌}
 use Rattle.toml.specs.Data.{Members}
 use Rattle.studio_config.specs.Studio.{channel_total}
-use Rattle.studio_config.specs.Config.{top_rows, streams_of, config_fault_of}
+use Rattle.studio_config.specs.Config.{top_rows, streams_of, output_clock_of, run_studio_of, config_fault_of}
+use Rattle.studio_config.specs.OutputClock.{clock_fault_of}
 use Rattle.studio_config.specs.Rows.{Row, required, whole, few_tables, a_table, key_of, first_of, first_in, at_table, row_fault, rows_fault, unknown_fault, table_fault}
 use Rattle.studio_config.specs.NetworkTable.{path_rows, sender_rows}
 use Rattle.studio_config.specs.StreamTable.{packet_rows, source_rows, wait_rows, port_rows, name_rows, stream_rows, stream_fault}
-use Rattle.studio_config.specs.OutputTable.{number_rows, gains_row, change_row, address_rows, output_rows, output_of, each_fault, change_fault, schedule_fault, output_fault}
+use Rattle.studio_config.specs.OutputTable.{number_rows, gains_row, change_row, address_rows, clock_row, output_rows, output_of, each_fault, change_fault, schedule_fault, output_fault}
 use Rattle.studio_config.specs.declared.config.fault.ConfigTable.{ConfigTable}
 use Rattle.studio_config.specs.declared.config.fault.ConfigTable.TheVariants as at
 use Rattle.studio_config.specs.declared.config.fault.SpecErrorKind.TheVariants as kind
@@ -51,19 +52,25 @@ first_of-some a later e is = rw is
 pub first_of-none : {E : Type 0} (a later : Option E) (e : E) → a ≡ None → later ≡ Some e → first_of a later ≡ Some e
 first_of-none a later e none is = rw (none, is)
 
--- the first of four faults and a later one
-module _ {E : Type 0} (a b c d later : Option E) (e : E) where
-  first_in-1 : a ≡ Some e → first_of a (first_of b (first_of c (first_of d later))) ≡ Some e
+-- the first of five faults and a later one
+module _ {E : Type 0} (a b c d f later : Option E) (e : E) where
+  abbrev all : Option E
+  all = first_of a (first_of b (first_of c (first_of d (first_of f later))))
+
+  first_in-1 : a ≡ Some e → all ≡ Some e
   first_in-1 is = rw is
 
-  first_in-2 : a ≡ None → b ≡ Some e → first_of a (first_of b (first_of c (first_of d later))) ≡ Some e
+  first_in-2 : a ≡ None → b ≡ Some e → all ≡ Some e
   first_in-2 none is = rw (none, is)
 
-  first_in-3 : a ≡ None → b ≡ None → c ≡ Some e → first_of a (first_of b (first_of c (first_of d later))) ≡ Some e
+  first_in-3 : a ≡ None → b ≡ None → c ≡ Some e → all ≡ Some e
   first_in-3 none second is = rw (none, second, is)
 
-  first_in-4 : a ≡ None → b ≡ None → c ≡ None → d ≡ Some e → first_of a (first_of b (first_of c (first_of d later))) ≡ Some e
+  first_in-4 : a ≡ None → b ≡ None → c ≡ None → d ≡ Some e → all ≡ Some e
   first_in-4 none second third is = rw (none, second, third, is)
+
+  first_in-5 : a ≡ None → b ≡ None → c ≡ None → d ≡ None → f ≡ Some e → all ≡ Some e
+  first_in-5 none second third fourth is = rw (none, second, third, fourth, is)
 
 -- the first fault of the output's table after the faults of its keys
 abbrev after_keys : ℕ → Members → Option SpecError
@@ -77,7 +84,7 @@ after_keys ins m =
 abbrev after_changes : ℕ → Members → Option SpecError
 after_changes ins m =
     first_of (each_fault change_fault 0 (tables_at m key.Change))
-    (first_of (rows_fault at.Output m address_rows) (first_of (rows_fault at.Output m sender_rows) (first_of (unknown_fault at.Output (map key_of output_rows) m) (after_keys ins m))))
+    (first_of (rows_fault at.Output m address_rows) (first_of (rows_fault at.Output m sender_rows) (first_of (row_fault at.Output m clock_row) (first_of (unknown_fault at.Output (map key_of output_rows) m) (after_keys ins m)))))
 
 -- the first fault of the output's table after its gains
 abbrev after_gains : ℕ → Members → Option SpecError
@@ -115,16 +122,19 @@ module _ (ins : ℕ) (m : Members) (e : SpecError) (packets : rows_fault at.Outp
     output_fault-later is = output_fault-after (first_of-none (row_fault at.Output m change_row) (after_changes ins m) e changes is)
 
     pub output_fault-each : each_fault change_fault 0 (tables_at m key.Change) ≡ Some e → output_fault ins m ≡ Some e
-    output_fault-each is = output_fault-later (first_in-1 (each_fault change_fault 0 (tables_at m key.Change)) (rows_fault at.Output m address_rows) (rows_fault at.Output m sender_rows) (unknown_fault at.Output (map key_of output_rows) m) (after_keys ins m) e is)
+    output_fault-each is = output_fault-later (first_in-1 (each_fault change_fault 0 (tables_at m key.Change)) (rows_fault at.Output m address_rows) (rows_fault at.Output m sender_rows) (row_fault at.Output m clock_row) (unknown_fault at.Output (map key_of output_rows) m) (after_keys ins m) e is)
 
     pub output_fault-addresses : each_fault change_fault 0 (tables_at m key.Change) ≡ None → rows_fault at.Output m address_rows ≡ Some e → output_fault ins m ≡ Some e
-    output_fault-addresses each is = output_fault-later (first_in-2 (each_fault change_fault 0 (tables_at m key.Change)) (rows_fault at.Output m address_rows) (rows_fault at.Output m sender_rows) (unknown_fault at.Output (map key_of output_rows) m) (after_keys ins m) e each is)
+    output_fault-addresses each is = output_fault-later (first_in-2 (each_fault change_fault 0 (tables_at m key.Change)) (rows_fault at.Output m address_rows) (rows_fault at.Output m sender_rows) (row_fault at.Output m clock_row) (unknown_fault at.Output (map key_of output_rows) m) (after_keys ins m) e each is)
 
     pub output_fault-senders : each_fault change_fault 0 (tables_at m key.Change) ≡ None → rows_fault at.Output m address_rows ≡ None → rows_fault at.Output m sender_rows ≡ Some e → output_fault ins m ≡ Some e
-    output_fault-senders each addresses is = output_fault-later (first_in-3 (each_fault change_fault 0 (tables_at m key.Change)) (rows_fault at.Output m address_rows) (rows_fault at.Output m sender_rows) (unknown_fault at.Output (map key_of output_rows) m) (after_keys ins m) e each addresses is)
+    output_fault-senders each addresses is = output_fault-later (first_in-3 (each_fault change_fault 0 (tables_at m key.Change)) (rows_fault at.Output m address_rows) (rows_fault at.Output m sender_rows) (row_fault at.Output m clock_row) (unknown_fault at.Output (map key_of output_rows) m) (after_keys ins m) e each addresses is)
 
-    pub output_fault-unknown : each_fault change_fault 0 (tables_at m key.Change) ≡ None → rows_fault at.Output m address_rows ≡ None → rows_fault at.Output m sender_rows ≡ None → unknown_fault at.Output (map key_of output_rows) m ≡ Some e → output_fault ins m ≡ Some e
-    output_fault-unknown each addresses senders is = output_fault-later (first_in-4 (each_fault change_fault 0 (tables_at m key.Change)) (rows_fault at.Output m address_rows) (rows_fault at.Output m sender_rows) (unknown_fault at.Output (map key_of output_rows) m) (after_keys ins m) e each addresses senders is)
+    pub output_fault-clock : each_fault change_fault 0 (tables_at m key.Change) ≡ None → rows_fault at.Output m address_rows ≡ None → rows_fault at.Output m sender_rows ≡ None → row_fault at.Output m clock_row ≡ Some e → output_fault ins m ≡ Some e
+    output_fault-clock each addresses senders is = output_fault-later (first_in-4 (each_fault change_fault 0 (tables_at m key.Change)) (rows_fault at.Output m address_rows) (rows_fault at.Output m sender_rows) (row_fault at.Output m clock_row) (unknown_fault at.Output (map key_of output_rows) m) (after_keys ins m) e each addresses senders is)
+
+    pub output_fault-unknown : each_fault change_fault 0 (tables_at m key.Change) ≡ None → rows_fault at.Output m address_rows ≡ None → rows_fault at.Output m sender_rows ≡ None → row_fault at.Output m clock_row ≡ None → unknown_fault at.Output (map key_of output_rows) m ≡ Some e → output_fault ins m ≡ Some e
+    output_fault-unknown each addresses senders clock is = output_fault-later (first_in-5 (each_fault change_fault 0 (tables_at m key.Change)) (rows_fault at.Output m address_rows) (rows_fault at.Output m sender_rows) (row_fault at.Output m clock_row) (unknown_fault at.Output (map key_of output_rows) m) (after_keys ins m) e each addresses senders clock is)
 
 -- the first of a fault and of no fault
 first_of-nothing : {E : Type 0} (a : Option E) → first_of a None ≡ a
@@ -135,13 +145,15 @@ first_of-nothing None = refl
 pub top_fault-none : (m : Members) → row_fault at.Top m (required key.OpenAt (whole 0 1152921504606846976)) ≡ None → row_fault at.Top m (required key.Stream (few_tables 1 16)) ≡ None → row_fault at.Top m (required key.Output a_table) ≡ None → unknown_fault at.Top (map key_of top_rows) m ≡ None → table_fault at.Top top_rows m ≡ None
 top_fault-none m open_at streams output known = rw (open_at, streams, output, known)
 
--- a configuration has the fault of its output, if nothing else has one
-pub config_fault-output : (m : Members) (fault : Option SpecError) → table_fault at.Top top_rows m ≡ None → each_fault (λ n. stream_fault (at.Stream n)) 0 (tables_at m key.Stream) ≡ None → output_fault (channel_total (streams_of m)) (table_at m key.Output) ≡ fault → config_fault_of m ≡ fault
-config_fault-output m fault top streams is =
-    ap (λ first. first_of first (first_of (each_fault (λ n. stream_fault (at.Stream n)) 0 (tables_at m key.Stream)) (first_of (output_fault (channel_total (streams_of m)) (table_at m key.Output)) None))) top
-    ∙ ap (λ first. first_of first (first_of (output_fault (channel_total (streams_of m)) (table_at m key.Output)) None)) streams
-    ∙ first_of-nothing (output_fault (channel_total (streams_of m)) (table_at m key.Output))
-    ∙ is
+-- the tables of a configuration before its output's have no fault
+module _ (m : Members) (top : table_fault at.Top top_rows m ≡ None) (streams : each_fault (λ n. stream_fault (at.Stream n)) 0 (tables_at m key.Stream) ≡ None) where
+  -- it has the fault of its output, if there is one
+  pub config_fault-output : (e : SpecError) → output_fault (channel_total (streams_of m)) (table_at m key.Output) ≡ Some e → config_fault_of m ≡ Some e
+  config_fault-output e is = rw (top, streams, is)
+
+  -- and that of its output's clock otherwise
+  pub config_fault-clock : output_fault (channel_total (streams_of m)) (table_at m key.Output) ≡ None → config_fault_of m ≡ clock_fault_of (output_clock_of m) (run_studio_of m)
+  config_fault-clock none = rw (top, streams, none) (first_of-nothing (clock_fault_of (output_clock_of m) (run_studio_of m)))
 
 -- the first fault of a table of three rows, and of what comes after it
 module _ {E : Type 0} (a b c unknown later : Option E) (e : E) where
@@ -175,7 +187,7 @@ module _ (m : Members) (e : SpecError) where
   streams_fault = each_fault (λ n. stream_fault (at.Stream n)) 0 (tables_at m key.Stream)
 
   abbrev later_fault : Option SpecError
-  later_fault = first_of (output_fault (channel_total (streams_of m)) (table_at m key.Output)) None
+  later_fault = first_of (output_fault (channel_total (streams_of m)) (table_at m key.Output)) (first_of (clock_fault_of (output_clock_of m) (run_studio_of m)) None)
 
   pub config_fault-open_at : open_at_fault ≡ Some e → config_fault_of m ≡ Some e
   config_fault-open_at is = three-1 open_at_fault tables_fault output_table_fault key_fault (first_of streams_fault later_fault) e is

@@ -5,7 +5,10 @@ use Rattle.toml.specs.Data.{Members}
 use Rattle.rtp_stream.specs.declared.stream_spec.Stream.{Stream}
 use Rattle.studio_config.specs.Ports.{absent_rows}
 use Rattle.studio_config.specs.Studio.{Studio, channel_total}
-use Rattle.studio_config.specs.Values.{number_at, number_or, tables_at, table_at}
+use Rattle.studio_config.specs.OutputClock.{by_clock, clock_fault_of}
+use Rattle.studio_config.specs.declared.output_clock.OutputClock.{OutputClock}
+use Rattle.studio_config.specs.declared.output_clock.OutputClock.TheVariants.{Run}
+use Rattle.studio_config.specs.Values.{number_at, number_or, output_clock_at, tables_at, table_at}
 use Rattle.studio_config.specs.Rows.{Row, required, whole, few_tables, a_table, first_in, table_fault}
 use Rattle.studio_config.specs.NetworkTable.{binds_of, sender_addresses_of, senders_of}
 use Rattle.studio_config.specs.StreamTable.{stream_of, ports_of, stream_fault}
@@ -40,12 +43,17 @@ bind_table = row_table binds_of
 abbrev pub sender_table : List Members → List (List (Option Ipv4Addr))
 sender_table = row_table sender_addresses_of
 
--- the studio that a configuration describes
-abbrev pub studio_of : Members → Studio
-studio_of members = record {
+-- the clock of the output that a configuration describes
+abbrev pub output_clock_of : Members → OutputClock
+output_clock_of members = output_clock_at (table_at members key.Output) key.Clock
+
+-- the studio that a configuration describes, with its output by the clock of the run
+abbrev pub run_studio_of : Members → Studio
+run_studio_of members = record {
   open_at = pos (number_or members key.OpenAt 0);
   streams = streams_of members;
   output = output_of (table_at members key.Output);
+  clock = Run;
   schedule = schedule_of (table_at members key.Output);
   ports = record {
     paths = port_table (tables_at members key.Stream);
@@ -59,13 +67,19 @@ studio_of members = record {
   };
 }
 
--- the first fault of a configuration: of the top table, then of each stream's table, then of the output's table
+-- the studio that a configuration describes
+abbrev pub studio_of : Members → Studio
+studio_of members = by_clock (output_clock_of members) (run_studio_of members)
+
+-- the first fault of a configuration: of the top table, then of each stream's table, then of the output's table, then of
+-- the output's clock
 abbrev pub config_fault_of : Members → Option SpecError
 config_fault_of members =
     first_in (
     table_fault place.Top top_rows members
     ∷ each_fault (λ n. stream_fault (place.Stream n)) 0 (tables_at members key.Stream)
     ∷ output_fault (channel_total (streams_of members)) (table_at members key.Output)
+    ∷ clock_fault_of (output_clock_of members) (run_studio_of members)
     ∷ [])
 
 -- the error for an allocation failure

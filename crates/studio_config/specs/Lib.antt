@@ -6,6 +6,7 @@ pub mod Keys
 pub mod Values
 pub mod Rows
 pub mod Shift
+pub mod OutputClock
 pub mod NetworkTable
 pub mod StreamTable
 pub mod OutputTable
@@ -14,3 +15,4 @@ pub use Rattle.rtp_stream.specs.StreamSpecFacts
 pub use Rattle.gain_mix.specs.Gain
 pub use Rattle.gain_mix.specs.Changes
 pub use Rattle.mix_packets.specs.OutSpec
+pub use Rattle.mix_packets.specs.Aligned

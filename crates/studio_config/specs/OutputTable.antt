@@ -11,7 +11,7 @@ use Rattle.mix_packets.specs.declared.out_spec.Output.{Output}
 use Rattle.mix_packets.specs.OutSpec.{out_fault_of}
 use Rattle.toml.specs.Data.{Members}
 use Rattle.studio_config.specs.Values.{number_or, encoding_at, tables_at, gains_at}
-use Rattle.studio_config.specs.Rows.{Row, required, optional, whole, tables, gains, key_of, first_of, first_in, at_key, at_table, row_fault, rows_fault, unknown_fault, table_fault}
+use Rattle.studio_config.specs.Rows.{Row, required, optional, whole, one_of, output_clocks, tables, gains, key_of, first_of, first_in, at_key, at_table, row_fault, rows_fault, unknown_fault, table_fault}
 use Rattle.studio_config.specs.NetworkTable.{sender_rows}
 use Rattle.studio_config.specs.StreamTable.{packet_rows}
 use Rattle.studio_config.specs.declared.config.keys.Key.TheVariants as key
@@ -44,8 +44,12 @@ address_rows =
     ∷ optional key.ToB (whole 1 65535)
     ∷ []
 
+-- the row of the output's clock
+abbrev pub clock_row : Row
+clock_row = optional key.Clock (one_of output_clocks)
+
 abbrev pub output_rows : List Row
-output_rows = packet_rows ++ number_rows ++ gains_row ∷ change_row ∷ address_rows ++ sender_rows
+output_rows = packet_rows ++ number_rows ++ gains_row ∷ change_row ∷ address_rows ++ sender_rows ++ clock_row ∷ []
 
 -- the rows of a change: its time, and the gains from then on
 abbrev pub change_rows : List Row
@@ -121,6 +125,7 @@ output_fault ins members =
     ∷ each_fault change_fault 0 (tables_at members key.Change)
     ∷ rows_fault place.Output members address_rows
     ∷ rows_fault place.Output members sender_rows
+    ∷ row_fault place.Output members clock_row
     ∷ unknown_fault place.Output (map key_of output_rows) members
     ∷ at_table place.Output (option_map kind.Output (out_fault_of (output_of members)))
     ∷ schedule_fault (number_or members key.Channels 0) ins members

@@ -38,6 +38,10 @@ encodings = codes "L16" ∷ codes "L24" ∷ []
 abbrev pub clocks : List (List ℕ)
 clocks = codes "media" ∷ codes "arrival" ∷ codes "follow" ∷ []
 
+-- the texts that name the clock of an output
+abbrev pub output_clocks : List (List ℕ)
+output_clocks = codes "run" ∷ codes "media" ∷ []
+
 -- a row of a table: a key, and the values that it may have
 pub data Row : Type 0 where
   required : Key → Range → Row

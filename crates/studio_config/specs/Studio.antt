@@ -6,12 +6,14 @@ use Rattle.gain_mix.specs.Changes.{Changes}
 use Rattle.mix_packets.specs.declared.out_spec.Output.{Output}
 use Rattle.studio_config.specs.declared.ports.Ports.{Ports}
 use Rattle.studio_config.specs.declared.networks.Networks.{Networks}
+use Rattle.studio_config.specs.declared.output_clock.OutputClock.{OutputClock}
 
 -- the specification of a studio, as contracts see it
 pub record Studio : Type 0 where
   pub open_at : ℤ
   pub streams : List Stream
   pub output : Output
+  pub clock : OutputClock
   pub schedule : Changes
   pub ports : Ports
   pub networks : Networks

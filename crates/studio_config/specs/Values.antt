@@ -11,6 +11,8 @@ use Rattle.toml.specs.Data.{Data, Items, no_items, item, Members, no_members, as
 use Rattle.studio_config.specs.Address.{address_of}
 use Rattle.studio_config.specs.Keys.{name_of}
 use Rattle.studio_config.specs.declared.config.keys.Key.{Key}
+use Rattle.studio_config.specs.declared.output_clock.OutputClock.{OutputClock}
+use Rattle.studio_config.specs.declared.output_clock.OutputClock.TheVariants as output_clock
 
 -- the items of an array, one after the other
 abbrev pub list_of : Items → List Data
@@ -113,6 +115,16 @@ address_at members key = option_and_then address_in (value_at members key)
 -- the clock that a text names; the media clock without its offset
 abbrev pub clock_named : List ℕ → StreamClock
 clock_named text = if bytes_eq text (codes "media") then Media 0 else if bytes_eq text (codes "follow") then Follow else Arrival
+
+-- the clock of an output that a text names, and that a value names; at a key that is absent, the clock of the run
+abbrev pub output_clock_named : List ℕ → OutputClock
+output_clock_named text = if bytes_eq text (codes "media") then output_clock.Media else output_clock.Run
+
+abbrev pub output_clock_in : Data → OutputClock
+output_clock_in d = output_clock_named (text_in d)
+
+abbrev pub output_clock_at : Members → Key → OutputClock
+output_clock_at members key = output_clock_named (text_at members key)
 
 -- the media clock with this offset, or another clock
 abbrev pub with_offset : StreamClock → ℕ → StreamClock

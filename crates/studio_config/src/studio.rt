@@ -4,10 +4,13 @@ ghost use Rattle.gain_mix.specs.Gain.{ins_of};
 ghost use Rattle.studio_config.specs.Ports.{absent_rows};
 ghost use Rattle.studio_config.specs.Networks.{absent_networks};
 ghost use Rattle.studio_config.specs.Studio.{Studio, IsStudio, channel_total};
+ghost use Rattle.studio_config.specs.declared.output_clock.OutputClock.TheVariants.{Run};
 
+mod media;
 mod shift;
 
 use crate::networks::Networks;
+use crate::output_clock::OutputClock;
 use crate::ports::Ports;
 use gain_mix::Schedule;
 use mix_packets::OutSpec;
@@ -20,6 +23,7 @@ pub struct StudioSpec {
     open_at: i64,
     streams: Vec<StreamSpec>,
     output: OutSpec,
+    clock: OutputClock,
     schedule: Schedule,
     ports: Ports,
     networks: Networks,
@@ -30,14 +34,14 @@ impl Model for StudioSpec {
 
     ghost Value = { Studio };
 
-    ghost view = { λ s. record { open_at = s.open_at; streams = s.streams.items; output = s.output; schedule = s.schedule; ports = s.ports; networks = s.networks } };
+    ghost view = { λ s. record { open_at = s.open_at; streams = s.streams.items; output = s.output; clock = s.clock; schedule = s.schedule; ports = s.ports; networks = s.networks } };
 
     ghost invariant = { λ s. IsStudio (view s) };
 }
 
 impl StudioSpec {
-    /// Returns a studio whose merges open at `open_at`, in sampling instants at 48 kHz, with no known port or
-    /// address.
+    /// Returns a studio whose merges open at `open_at`, in sampling instants at 48 kHz, with its output by the clock of
+    /// the run, and with no known port or address.
     pub fn new(
         open_at: i64,
         streams: Vec<StreamSpec>,
@@ -50,12 +54,13 @@ impl StudioSpec {
         requires few { length streams.items ≤ 16 }
         requires outs { length schedule.first ≡ output.channels }
         requires ins { ins_of schedule.first ≡ channel_total streams.items }
-        ensures { result ≡ record { open_at = open_at; streams = streams.items; output = output; schedule = schedule; ports = record { paths = absent_rows 16; to_a = None; to_b = None }; networks = absent_networks } }
+        ensures { result ≡ record { open_at = open_at; streams = streams.items; output = output; clock = Run; schedule = schedule; ports = record { paths = absent_rows 16; to_a = None; to_b = None }; networks = absent_networks } }
     {
         StudioSpec {
             open_at,
             streams,
             output,
+            clock: OutputClock::Run,
             schedule,
             ports: Ports::absent(),
             networks: Networks::absent(),
@@ -75,6 +80,15 @@ impl StudioSpec {
         ensures { result ≡ record self { networks = networks } }
     {
         self.networks = networks;
+        self
+    }
+
+    /// Returns the studio with this clock of its output, which says how the output moves with the opening. The output
+    /// stays as it is: `by_media_clock` aligns it.
+    pub fn with_output_clock(mut self, clock: OutputClock) -> StudioSpec
+        ensures { result ≡ record self { clock = clock } }
+    {
+        self.clock = clock;
         self
     }
 
@@ -99,6 +113,13 @@ impl StudioSpec {
         ensures { result.now ≡ self.now.output }
     {
         &self.output
+    }
+
+    /// Returns the clock of the output.
+    pub fn output_clock(&self) -> OutputClock
+        ensures { result ≡ self.now.clock }
+    {
+        self.clock
     }
 
     /// Returns the gains and their changes.

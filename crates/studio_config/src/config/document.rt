@@ -60,7 +60,11 @@ impl StudioSpec {
         ports.to_b = output.addresses.to_b;
         networks.output = output.senders;
         let studio = StudioSpec::new(open_at, streams, output.spec, output.schedule);
-        Ok(studio.with_ports(ports).with_networks(networks))
+        // This fault comes last, since it is one of the whole.
+        studio
+            .with_ports(ports)
+            .with_networks(networks)
+            .by_clock(output.clock)
     }
 }
 

@@ -42,6 +42,8 @@ pub enum SpecErrorKind {
     Gains(MatrixFault),
     /// The changes of the gains break a rule of schedules.
     Schedule(ScheduleFault),
+    /// The output is by the media clock, and a stream has another one.
+    Streams,
     /// An allocation failed.
     Memory,
 }
@@ -114,6 +116,7 @@ impl SpecErrorKind {
             SpecErrorKind::Output(fault) => ("output", Some(fault as u8 + 1)),
             SpecErrorKind::Gains(fault) => ("gains", Some(fault as u8 + 1)),
             SpecErrorKind::Schedule(fault) => ("schedule", Some(fault as u8 + 1)),
+            SpecErrorKind::Streams => ("streams", None),
             SpecErrorKind::Memory => ("memory", None),
         }
     }

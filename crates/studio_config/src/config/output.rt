@@ -3,7 +3,7 @@ ghost use Rattle.std.specs.Prelude.{◌≡◌, ◌≤◌, ◌⊎◌, None, Some,
 ghost use Rattle.toml.specs.View.{table_view};
 ghost use Rattle.gain_mix.specs.Gain.{ins_of};
 ghost use Rattle.mix_packets.specs.OutSpec.{out_fault_of};
-ghost use Rattle.studio_config.specs.Values.{number_at, number_or};
+ghost use Rattle.studio_config.specs.Values.{number_at, number_or, output_clock_at};
 ghost use Rattle.studio_config.specs.Rows.{at_table, rows_fault};
 ghost use Rattle.studio_config.specs.NetworkTable.{senders_of};
 ghost use Rattle.studio_config.specs.OutputTable.{number_rows, address_rows, output_of, schedule_of, output_fault};
@@ -12,6 +12,7 @@ ghost use Rattle.studio_config.specs.declared.config.keys.Key.TheVariants as key
 ghost use Rattle.studio_config.specs.declared.config.fault.ConfigTable.TheVariants as at;
 ghost use Rattle.studio_config.specs.declared.config.fault.SpecErrorKind.TheVariants as kind;
 
+use crate::config::enums::output_clock;
 use crate::config::fault::{ConfigTable, SpecError, SpecErrorKind};
 use crate::config::gain_rows::check_gains;
 use crate::config::integers::{port, whole, whole_or};
@@ -22,6 +23,7 @@ use crate::config::schedule::{check_changes, read_schedule};
 use crate::config::tables::optional_tables;
 use crate::config::unknown_keys::check_known;
 use crate::networks::OutputAddresses;
+use crate::output_clock::OutputClock;
 use gain_mix::Schedule;
 use mix_packets::{OutSpec, Output};
 use rtp_stream::MAX_TIME;
@@ -44,18 +46,19 @@ pub(crate) struct Addresses {
     pub to_b: Option<u16>,
 }
 
-/// The contents of the output's table: the output, its gains and their changes, and the ports and addresses of its
-/// two copies.
+/// The contents of the output's table: the output, its gains and their changes, the ports and addresses of its two
+/// copies, and its clock.
 #[derive(Drop)]
 pub(crate) struct OutputEntry {
     pub spec: OutSpec,
     pub schedule: Schedule,
     pub addresses: Addresses,
     pub senders: OutputAddresses,
+    pub clock: OutputClock,
 }
 
 /// The keys of the output's table.
-const KEYS: [Key; 17] = [
+const KEYS: [Key; 18] = [
     Key::Encoding,
     Key::Channels,
     Key::Frames,
@@ -73,6 +76,7 @@ const KEYS: [Key; 17] = [
     Key::ToAddressA,
     Key::ToAddressB,
     Key::Ttl,
+    Key::Clock,
 ];
 
 /// Reads the output's table, for streams that have `ins` channels in all.
@@ -89,6 +93,7 @@ pub(crate) fn read_output(
     ensures to_a { IfOk result (λ o. number_at (table_view table.now) key.ToA ≡ o.addresses.to_a) }
     ensures to_b { IfOk result (λ o. number_at (table_view table.now) key.ToB ≡ o.addresses.to_b) }
     ensures senders { IfOk result (λ o. o.senders ≡ senders_of (table_view table.now)) }
+    ensures clock { IfOk result (λ o. output_clock_at (table_view table.now) key.Clock ≡ o.clock) }
     ensures outs { IfOk result (λ o. length o.schedule.first ≡ o.spec.channels) }
     ensures ins { IfOk result (λ o. ins_of o.schedule.first ≡ ins) }
     ensures fault { IfErr result (λ e. (e ≡ no_memory) ⊎ (output_fault ins (table_view table.now) ≡ Some e)) }
@@ -101,6 +106,7 @@ pub(crate) fn read_output(
     check_changes(changes)?;
     let addresses = read_addresses(table, place)?;
     let senders = read_senders(table, place)?;
+    let clock = output_clock(table, place, Key::Clock)?;
     check_known(table, place, &KEYS)?;
     // Each key is tested, an unknown one too, before the output as a whole. The gains come last, since their shape
     // depends on the output's channels.
@@ -120,6 +126,7 @@ pub(crate) fn read_output(
         schedule,
         addresses,
         senders,
+        clock,
     })
 }
 

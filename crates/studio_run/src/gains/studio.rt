@@ -34,7 +34,10 @@ pub fn studio_with_gains(
         return Err(out_of_memory());
     };
     match read_lines(alloc, schedule, text) {
-        Ok(changed) => Ok(StudioSpec::new(studio.open_at(), streams, *studio.output(), changed)),
+        Ok(changed) => {
+            let changed = StudioSpec::new(studio.open_at(), streams, *studio.output(), changed);
+            Ok(changed.with_output_clock(studio.output_clock()))
+        }
         Err(fault) => Err(fault),
     }
 }

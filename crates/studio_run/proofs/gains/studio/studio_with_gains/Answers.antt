@@ -3,20 +3,20 @@ use Rattle.std.proofs.lemmas.Grind.{elements}
 use Rattle.std.proofs.Common.{arith}
 use Rattle.studio_run.proofs.gains.studio.studio_with_gains.Goals as goal
 
-pub new-requires-clause-few : goal.new-requires-clause-few
-new-requires-clause-few c = grind (arith, elements)
+pub new-changed-requires-clause-few : goal.new-changed-requires-clause-few
+new-changed-requires-clause-few c = grind (arith, elements)
 
-pub new-requires-clause-some : goal.new-requires-clause-some
-new-requires-clause-some c = grind (arith, elements)
+pub new-changed-requires-clause-some : goal.new-changed-requires-clause-some
+new-changed-requires-clause-some c = grind (arith, elements)
 
-pub new-requires-clause-outs : goal.new-requires-clause-outs
-new-requires-clause-outs c = grind (arith, elements)
+pub new-changed-requires-clause-outs : goal.new-changed-requires-clause-outs
+new-changed-requires-clause-outs c = grind (arith, elements)
 
-pub new-requires-clause-not_high : goal.new-requires-clause-not_high
-new-requires-clause-not_high c = grind (arith, elements)
+pub new-changed-requires-clause-not_high : goal.new-changed-requires-clause-not_high
+new-changed-requires-clause-not_high c = grind (arith, elements)
 
-pub new-requires-clause-ins : goal.new-requires-clause-ins
-new-requires-clause-ins c = grind (arith, elements)
+pub new-changed-requires-clause-ins : goal.new-changed-requires-clause-ins
+new-changed-requires-clause-ins c = grind (arith, elements)
 
 pub returns-in_default-from_slice-clause-fault : goal.returns-in_default-from_slice-clause-fault
 returns-in_default-from_slice-clause-fault c = grind (arith, elements)

@@ -1,7 +1,7 @@
 use Rattle.std.proofs.Common.{◌≡◌, ◌^◌, ℤ, pos, negsuc, ◌+ℤ◌, ◌≤ℤ◌, FitsSigned, true, false, arith, ap, sym, ◌∙◌, to_z, of_z, w64}
 use Rattle.std.proofs.lemmas.Int.{ints}
 use Rattle.mix_packets.specs.OutSpec.{is_start}
-use Rattle.studio_config.proofs.studio.shift.shifted_output.Goals as goal
+use Rattle.studio_config.proofs.studio.shift.moved_output.Goals as goal
 
 -- the sum of a start and the amount by which it moves
 sum : (start by : ℤ) → pos 0 ≤ℤ start → start ≤ℤ pos (2 ^ 60) → negsuc (2 ^ 60) ≤ℤ by → by ≤ℤ pos (2 ^ 60) → to_z w64 (of_z w64 (to_z w64 (of_z w64 start) +ℤ to_z w64 (of_z w64 by))) ≡ start +ℤ by

@@ -3,7 +3,7 @@ use Rattle.std.proofs.lemmas.Int.{to_z-of_z}
 use Rattle.gain_mix.specs.Schedule.{schedule_fault_of}
 use Rattle.studio_config.specs.Shift.{shifted_changes}
 use Rattle.studio_config.proofs.ShiftLemmas.{has_times-refused}
-use Rattle.studio_config.proofs.studio.shift.shifted_schedule.Goals as goal
+use Rattle.studio_config.proofs.studio.shift.moved_schedule.Goals as goal
 
 pub returns-in-Err-clause-fault : goal.returns-in-Err-clause-fault
 returns-in-Err-clause-fault c =
