@@ -2,8 +2,7 @@
 use Rattle.std.specs.Prelude.{◌≡◌, true, List, [], ◌∷◌, refl}
 use Rattle.std.proofs.Common.{arith}
 use Rattle.studio_io.specs.Answers.{Answer, Gives, Fails, Stops, reaches_end}
-use Rattle.studio_io.specs.FaultCounts.{told_faults}
-use Rattle.engine_run.specs.FeedFaults.{AreFaultNumbers}
+use Rattle.studio_io.specs.FaultCounts.{AreFaultNumbers, told_faults}
 
 -- the first feed failed once, and the second one twice
 abbrev two_feeds : List (List Answer)

@@ -8,9 +8,9 @@ use Rattle.std.proofs.lemmas.List.{drop-map, length-drop, map-append, take-appen
 use Rattle.std.proofs.lemmas.List.Sums.{sum_by-append}
 use Rattle.rtp_stream.specs.declared.stream_spec.Stream.{Stream}
 use Rattle.studio_io.specs.Answers.{Answer}
-use Rattle.studio_io.specs.FaultCounts.{IsFaultNumber}
+use Rattle.studio_io.specs.FaultCounts.{AreFaultNumbers, IsFaultNumber}
 use Rattle.studio_io.proofs.FaultLemmas.{counts-ended, counts-none}
-use Rattle.engine_run.specs.FeedFaults.{AllKeepFaults, AreFaultNumbers, ReaderKeepsFaults, StreamKeepsFaults}
+use Rattle.engine_run.specs.FeedFaults.{AllKeepFaults, ReaderKeepsFaults, StreamKeepsFaults}
 use Rattle.engine_run.specs.Grouping.{grouped, path_total}
 use Rattle.engine_run.specs.Intake.{AllEnded, HaveBegun, HaveEnded, fault_number, fault_numbers, new_reader}
 use Rattle.engine_run.specs.declared.feed_reader.FeedReader.{FeedReader}

@@ -14,11 +14,11 @@ use Rattle.studio_engine.specs.Session.{HasSession, shut, turned}
 use Rattle.studio_engine.proofs.CountsLemmas.{settled_ready}
 use Rattle.studio_io.specs.Answers.{Answer}
 use Rattle.studio_io.specs.Clocks.{TellsTime, time_with}
+use Rattle.studio_io.specs.FaultCounts.{AreFaultNumbers}
 use Rattle.studio_io.specs.Sinks.{Hands}
 use Rattle.studio_io.specs.declared.report.WorkReport.{WorkReport}
 use Rattle.engine_run.specs.Asked.{left_by, until_end}
 use Rattle.engine_run.specs.Rounds.{AreNext, AreRounds, GivesByRounds, Round, answers_of, datagrams_on, events_by, events_of, time_by}
-use Rattle.engine_run.specs.FeedFaults.{AreFaultNumbers}
 use Rattle.engine_run.specs.Grouping.{grouped}
 use Rattle.engine_run.specs.Runs.{AreTakenByRounds, HaveAllArrived, IsDone, IsSettledRun, IsTurned, IsUnderWay}
 use Rattle.engine_run.specs.Output.{HasSent}

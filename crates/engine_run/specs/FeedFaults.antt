@@ -1,10 +1,10 @@
--- The numbers of faults of a run's feeds, in their readers and in a report.
-use Rattle.std.specs.Prelude.{ℕ, List}
+-- The faults of a run's feeds, in their readers.
+use Rattle.std.specs.Prelude.{List}
 use Rattle.std.specs.List.{AllZip}
 use Rattle.std.specs.declared.vec.Vec.{Vec}
 use Rattle.std.specs.declared.alloc.Global.{Global}
 use Rattle.studio_io.specs.Answers.{Answer}
-use Rattle.studio_io.specs.FaultCounts.{IsFaultNumber, KeepsFaults}
+use Rattle.studio_io.specs.FaultCounts.{KeepsFaults}
 use Rattle.engine_run.specs.declared.feed_reader.FeedReader.{FeedReader}
 
 module _ {F : Type 0} where
@@ -19,7 +19,3 @@ module _ {F : Type 0} where
   -- the same of each reader of all streams
   abbrev pub AllKeepFaults : (F → List Answer) → List (Vec (FeedReader F) Global) → List (Vec (FeedReader F) Global) → Type 0
   AllKeepFaults feed_told olds news = AllZip (λ (old new : Vec (FeedReader F) Global). StreamKeepsFaults feed_told old.items new.items) olds news
-
--- the numbers of faults of feeds with these results: one for each feed, in their order
-abbrev pub AreFaultNumbers : List (List Answer) → List ℕ → Type 0
-AreFaultNumbers all numbers = AllZip IsFaultNumber all numbers

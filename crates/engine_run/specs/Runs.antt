@@ -8,12 +8,12 @@ use Rattle.studio_session.specs.Run.{AreDatagrams}
 use Rattle.studio_engine.specs.Engine.{HasAllMarks}
 use Rattle.studio_engine.specs.Session.{HasSession}
 use Rattle.studio_io.specs.Answers.{Answer, reaches_end, told_datagrams}
+use Rattle.studio_io.specs.FaultCounts.{AreFaultNumbers}
 use Rattle.studio_io.specs.Sinks.{Hands}
 use Rattle.studio_io.specs.declared.report.WorkReport.{WorkReport}
 use Rattle.engine_run.specs.Asked.{until_end}
 use Rattle.engine_run.specs.Rounds.{AreNext, AreRounds, GivesByRounds, Round, answers_of, datagrams_on, events_by, events_of, time_by}
 use Rattle.engine_run.specs.Grouping.{grouped}
-use Rattle.engine_run.specs.FeedFaults.{AreFaultNumbers}
 use Rattle.engine_run.specs.Intake.{HaveGiven}
 use Rattle.engine_run.specs.Observers.{Heard, Hears, heard_by}
 use Rattle.engine_run.specs.declared.state.RunState.{RunState}

@@ -1,10 +1,10 @@
 //! Why the outputs of a run ended before it.
 ghost use Rattle.std.specs.Prelude.{◌≡◌};
-ghost use Rattle.run_outputs.specs.Ends.{AreEndsOf, either_end, end_in};
+ghost use Rattle.run_outputs.specs.Ends.{AreEndsOf, either_end, end_in, fault_of, first_fault_in};
 
 use crate::events::EventOutput;
 use crate::mix::MixOutput;
-use studio_io::{OutputEnd, OutputKind};
+use studio_io::{OUTPUT_KINDS, OutputEnd, OutputKind, OutputStates};
 
 /// The reason why the output of each kind ended before its run, as the run's own parts of the outputs say: a part that
 /// was too slow, or could not write what came, has ended. What happens to the file of an output, they do not know.
@@ -37,6 +37,42 @@ impl OutputEnds {
             OutputKind::Pcm => self.pcm,
         }
     }
+
+    /// Returns the first output, in the order of `OUTPUT_KINDS`, that ended before its run by a fault, with the reason:
+    /// that of the run's own part of it, or else that of its state, which its writer set. A reader that went away is no
+    /// fault of the run.
+    pub fn first_fault(&self, states: &OutputStates) -> Option<(OutputKind, OutputEnd)>
+        ensures { result ≡ first_fault_in OUTPUT_KINDS self.now states.now }
+    {
+        first_fault_among(&OUTPUT_KINDS, self, states)
+    }
+
+    /// Returns the fault by which the output of a kind ended, if it has one.
+    fn fault_of(&self, kind: OutputKind, states: &OutputStates) -> Option<OutputEnd>
+        ensures { result ≡ fault_of self.now states.now kind }
+    {
+        match self.of(kind).or(states.of(kind).end()) {
+            None | Some(OutputEnd::Closed) => None,
+            Some(end) => Some(end),
+        }
+    }
+}
+
+/// Returns the first output of these kinds that has a fault, with the fault.
+#[tactic(auto, unfolding(crate::specs::Ends::first_fault_in))]
+fn first_fault_among(
+    kinds: &[OutputKind],
+    ends: &OutputEnds,
+    states: &OutputStates,
+) -> Option<(OutputKind, OutputEnd)>
+    ensures { result ≡ first_fault_in kinds.now ends.now states.now }
+{
+    for kind in kinds {
+        if let Some(end) = ends.fault_of(*kind, states) {
+            return Some((*kind, end));
+        }
+    }
+    None
 }
 
 /// Returns the reason why the output of a kind ended, as these two parts say.

@@ -3,6 +3,9 @@ pub mod CellSizeLemmas
 pub mod FormatLemmas
 pub mod FittingLemmas
 pub mod TurnLemmas
+pub mod NoteLemmas
+pub mod TakeLemmas
+mod StatsCases
 pub mod MarkLemmas
 pub mod LookLemmas
 pub mod StreamLemmas

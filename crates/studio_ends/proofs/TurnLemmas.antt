@@ -1,7 +1,7 @@
 -- The parts of a turn, after one more step.
 use Rattle.std.proofs.Common.{◌≡◌, ◌≢◌, ℕ, zero, suc, take, drop, get_or, set, inl, inr, ◌+◌, ◌≤◌, ◌<◌, List, [], ◌∷◌, ◌++◌, length, ℤ, refl, sym, ap, subst, ◌∙◌, arith, append_assoc, append-nil, length-append}
 use Rattle.std.proofs.lemmas.Bool.{cases_eq}
-use Rattle.std.proofs.lemmas.List.{take_more, take_more_set, length-set, drop-set-lt, drop-drop, get_or-drop, get_or-set_same, get_or-set_other}
+use Rattle.std.proofs.lemmas.List.{take_more, take_more_set, drop-set-lt, drop-drop, get_or-drop, get_or-set_same, get_or-set_other}
 use Rattle.rtrb.specs.Ring.{received, known_items, ConsumerLooked, SameConsumer, SameProducer}
 use mathlib.Core.List.{IsPrefix}
 use Rattle.rtrb.specs.declared.consumer.Consumer.{Consumer}
@@ -172,40 +172,3 @@ counts_more from taken xs n count four lt len same all i = elim (cases_eq i n) [
   | inl e ↦ ap (λ k. get_or (set from n count) k 0) e ∙ (get_or-set_same from n count 0 (omega (arith, lt, four)) ∙ (sym same ∙ ap length (sym (ap (λ k. get_or (taken ++ xs ∷ []) k []) (e ∙ sym len) ∙ at_snoc taken xs))))
   | inr ne ↦ get_or-set_other from n i count 0 ne ∙ (all i ∙ ap length (sym (off_snoc taken xs i (λ e. ne (e ∙ len)))))
 ]
-
--- the packets of the first `n` paths were taken
-pub record TakesUpTo (olds items : List (TokenConsumer Packet)) (from : List ℕ) (m w : MergeState) (n : ℕ) : Type 0 where
-  pub count : length items ≡ length olds
-  pub four : length from ≡ 4
-  pub later : drop n items ≡ drop n olds
-  pub taken : List (List Packet)
-  pub taken_of : length taken ≡ n
-  pub all : AllTakePackets (take n olds) (take n items) taken
-  pub counts : (i : ℕ) → get_or from i 0 ≡ length (get_or taken i [])
-  pub joined : Joins m w (λ stream. arrivals_from stream 0 taken)
-
-pub took_to-none : (olds : List (TokenConsumer Packet)) (from : List ℕ) (m : MergeState) → length from ≡ 4 → ((i : ℕ) → get_or from i 0 ≡ 0) → TakesUpTo olds olds from m m 0
-took_to-none olds from m four zeros = record { count = refl; four = four; later = refl; taken = []; taken_of = refl; all = tt; counts = zeros; joined = joined-none m }
-
--- the packets of one path were taken
-pub record TakesPath (old new : TokenConsumer Packet) (m w : MergeState) (path count : ℕ) : Type 0 where
-  pub packets : List Packet
-  pub of : TakesPackets old new packets
-  pub count_is : length packets ≡ count
-  pub joined : Joins m w (λ stream. arrivals_by path (fitting stream packets))
-
-pub took_to-more : (olds items : List (TokenConsumer Packet)) (from : List ℕ) (m w v : MergeState) (n place path count : ℕ) (old new : TokenConsumer Packet)
-    → place ≡ n → path ≡ n → n < length olds → length olds ≤ 4 → old ≡ get_or items place old
-    → TakesUpTo olds items from m w n → TakesPath old new w v path count
-    → TakesUpTo olds (set items place new) (set from place count) m v (n + 1)
-took_to-more olds items from m w v n place path count old new at by lt few is h t =
-    subst (λ p. TakesUpTo olds (set items p new) (set from p count) m v (n + 1)) (sym at) (record {
-      count = length-set items n new ∙ h.count;
-      four = length-set from n count ∙ h.four;
-      later = later_same olds items n new h.later;
-      taken = h.taken ++ t.packets ∷ [];
-      taken_of = (let e = h.taken_of in omega (arith, e, length-append h.taken (t.packets ∷ [])));
-      all = all_took-more olds items n old new h.taken t.packets lt h.count h.later (subst (λ p. old ≡ get_or items p old) at is) h.all t.of;
-      counts = counts_more from h.taken t.packets n count h.four (omega (arith, lt, few)) h.taken_of t.count_is h.counts;
-      joined = joined-path m w v n h.taken t.packets h.taken_of h.joined (subst (λ p. Joins w v (λ stream. arrivals_by p (fitting stream t.packets))) by t.joined);
-    })

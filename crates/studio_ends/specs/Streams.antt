@@ -1,7 +1,8 @@
 -- The history of a stream's end, and the events that its calls add to it.
-use Rattle.std.specs.Prelude.{◌≡◌, ℕ, suc, ◌+◌, ◌<◌, ◌≤◌, false, nat_eq, List, [], ◌∷◌, ◌++◌, length, take, get_or, ℤ, ◌≤ℤ◌, if◌then◌else◌, ◌⊎◌}
+use Rattle.std.specs.Prelude.{◌≡◌, ℕ, suc, ◌+◌, ◌<◌, ◌≤◌, false, nat_eq, List, [], ◌∷◌, ◌++◌, length, take, get_or, ℤ, ◌≤ℤ◌, Option, if◌then◌else◌, ◌⊎◌}
 use Rattle.rtrb.specs.Ring.{sent, received, known_free, SameProducer}
 use Rattle.rtrb.specs.declared.producer.Producer.{Producer}
+use Rattle.rtp_stats.specs.declared.channel.stream.StreamStatsSender.{StreamStatsSender}
 use Rattle.rtp_stream.specs.declared.stream_spec.Stream.{Stream}
 use Rattle.rtp_stream.specs.CountsFacts.{Tally}
 use Rattle.rtp_stream.specs.Counts.{tally_of}
@@ -13,7 +14,8 @@ use Rattle.rtp_stream.specs.declared.event.Event.{Event}
 use Rattle.rtp_stream.specs.declared.event.Event.TheVariants.{Arrive, Tick, Close}
 use Rattle.studio_ends.specs.StopReasons.{StopsFor}
 use Rattle.studio_ends.specs.Fitting.{fitting}
-use Rattle.studio_ends.specs.StreamTurns.{AllTakePackets, turn_events}
+use Rattle.studio_ends.specs.Stats.{NotesAll, TellsStream}
+use Rattle.studio_ends.specs.StreamTurns.{AllTakePackets, arrivals_from, turn_events}
 use Rattle.studio_ends.specs.declared.rings.TokenConsumer.{TokenConsumer}
 use Rattle.studio_ends.specs.declared.stream_end.StreamEnd.{StreamEnd}
 use Rattle.studio_ends.specs.declared.stream_end.marks_out.StopReason.{StopReason}
@@ -79,3 +81,12 @@ pub record TakesTurn (s : StreamEnd) (now : ℤ) (note : TurnNote) (t : StreamEn
   pub spec : t.spec ≡ s.spec
   pub stands : (stream : Stream) (open_at : ℤ) (events : List Event)
       → StreamHasHistory stream open_at s events → StreamHasHistory stream open_at t (events ++ turn_events stream taken note.reached)
+
+-- if the stream has a sender of statistics, it noted each packet that was taken and has the stream's length, path by
+-- path, and then sent the statistics
+pub record TellsTurn (s t : StreamEnd) : Type 0 where
+  pub taken : List (List Packet)
+  pub took : AllTakePackets s.sides.items t.sides.items taken
+  pub noted : Option StreamStatsSender
+  pub notes : NotesAll s.merge (λ stream. arrivals_from stream 0 taken) s.sender noted
+  pub tells : TellsStream t.merge noted t.sender

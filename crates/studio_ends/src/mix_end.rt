@@ -199,6 +199,7 @@ impl MixEnd {
         ensures given { (studio : Studio) (datagrams : List (List ℕ)) → HasGiven studio self.old datagrams
             → HasGiven (with_changes studio (changes_in result gains.new)) self.new datagrams }
         ensures sides { self.new.sides ≡ self.old.sides }
+        ensures sender { self.new.sender ≡ self.old.sender }
     {
         self.mixer.answer_request(request, gains)
     }
@@ -210,6 +211,7 @@ impl MixEnd {
             → IsFinishedOf done.token side.ring }
         ensures sides { HandsIn self.old.sides.items stream (all_sent done.token) self.new.sides.items }
         ensures mixer { self.new.mixer ≡ self.old.mixer }
+        ensures sender { self.new.sender ≡ self.old.sender }
         ensures stands { (studio : Studio) (number : ℕ) → MixHasFeeds studio self.old number
             → MixHasFeeds studio self.new number }
         ensures given { (studio : Studio) (datagrams : List (List ℕ)) → HasGiven studio self.old datagrams
@@ -225,6 +227,7 @@ impl MixEnd {
         ensures value { IsTrue result ↔ AllDrained self.new.sides.items }
         ensures rings { AllLookAt self.old.sides.items self.new.sides.items }
         ensures mixer { self.new.mixer ≡ self.old.mixer }
+        ensures sender { self.new.sender ≡ self.old.sender }
         ensures stands { (studio : Studio) (number : ℕ) → MixHasFeeds studio self.old number
             → MixHasFeeds studio self.new number }
         ensures given { (studio : Studio) (datagrams : List (List ℕ)) → HasGiven studio self.old datagrams

@@ -1,5 +1,6 @@
 -- The number of faults among a feed's results, and the count of them in its state.
 use Rattle.std.specs.Prelude.{◌≡◌, ℕ, suc, ◌+◌, ◌<◌, ◌≤◌, ◌^◌, Bool, true, false, nat_eq, List, [], ◌∷◌, if◌then◌else◌}
+use Rattle.std.specs.List.{AllZip}
 use Rattle.studio_io.specs.Answers.{Answer, Gives, Waits, Fails, Stops, reaches_end}
 use Rattle.studio_io.specs.declared.feed_state.FeedState.{FeedState}
 
@@ -39,3 +40,7 @@ KeepsFaults old left new rest = (told : List Answer) → CountsFaults told old l
 -- the number of the faults of a feed, if its results are known to its end and fewer than 2^64 of them are faults
 abbrev pub IsFaultNumber : List Answer → ℕ → Type 0
 IsFaultNumber told number = reaches_end 0 told ≡ true → told_faults 0 told < 2 ^ 64 → number ≡ told_faults 0 told
+
+-- the numbers of faults of feeds with these results: one for each feed, in their order
+abbrev pub AreFaultNumbers : List (List Answer) → List ℕ → Type 0
+AreFaultNumbers all numbers = AllZip IsFaultNumber all numbers

@@ -75,6 +75,13 @@ counts_in (Waiting counts) = Some counts
 counts_in (Writing counts) = Some counts
 counts_in (Ended counts end) = Some counts
 
+-- the reason why the output ended before its run, if it did
+abbrev pub end_of : OutputState → Option OutputEnd
+end_of Absent = None
+end_of (Waiting counts) = None
+end_of (Writing counts) = None
+end_of (Ended counts end) = Some end
+
 -- the number of units that were written, if there is the output
 abbrev pub written_units : OutputState → Option ℕ
 written_units Absent = None

@@ -1,6 +1,6 @@
 //! The state of an output of a run, with its counts and the reason of its end.
 ghost use Rattle.std.specs.Prelude.{◌≡◌, ◌≤◌, length};
-ghost use Rattle.studio_io.specs.Outputs.{counts_in, left_out_units, state_name, written_units};
+ghost use Rattle.studio_io.specs.Outputs.{counts_in, end_of, left_out_units, state_name, written_units};
 
 use thiserror::Error;
 
@@ -68,6 +68,16 @@ impl OutputState {
             OutputState::Waiting(counts)
             | OutputState::Writing(counts)
             | OutputState::Ended(counts, _) => Some(counts),
+        }
+    }
+
+    /// Returns the reason why the output ended before its run, or `None` if it did not.
+    pub fn end(self) -> Option<OutputEnd>
+        ensures { result ≡ end_of self }
+    {
+        match self {
+            OutputState::Absent | OutputState::Waiting(_) | OutputState::Writing(_) => None,
+            OutputState::Ended(_, end) => Some(end),
         }
     }
 

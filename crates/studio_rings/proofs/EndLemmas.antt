@@ -32,7 +32,7 @@ use Rattle.studio_ends.specs.declared.stream_end.turns.StreamDone.{StreamDone}
 use Rattle.studio_ends.specs.declared.stream_end.StreamEnd.{StreamEnd}
 use Rattle.studio_ends.proofs.StreamLemmas.{packets_by-append}
 use Rattle.studio_io.specs.Answers.{Answer, CountsOthers, IsPartOf, reaches_end, told_datagrams, told_packets}
-use Rattle.studio_io.specs.FaultCounts.{IsFaultNumber}
+use Rattle.studio_io.specs.FaultCounts.{AreFaultNumbers}
 use Rattle.studio_rings.specs.ClockTurns.{GoByClock, events_in}
 use Rattle.studio_rings.specs.PathWorkers.{IsPathResult, SendsFeed}
 use Rattle.studio_rings.specs.Runs.{HasPathHistory, HavePathHistories, sent_total}
@@ -278,7 +278,7 @@ module _ {F : Type 0} (told : F → List Answer) where
 
 -- the number of faults of each path is that of its feed, if each path returned its token
 faults_told : {F : Type 0} (told : F → List Answer) (paths : List (PathJob F)) (results : List PathResult) → AllZip (IsPathResult told) paths results → PathsGiveTokens results
-    → AllZip IsFaultNumber (told_of told paths) (map (λ (r : PathResult). r.faults) results)
+    → AreFaultNumbers (told_of told paths) (map (λ (r : PathResult). r.faults) results)
 faults_told told [] [] zip given = tt
 faults_told told [] (r ∷ rs) zip given = absurd zip
 faults_told told (p ∷ ps) [] zip given = absurd zip
@@ -291,7 +291,7 @@ is-stream-result told clock_told job s t results result end_is clock_is now_is z
       let own = ap length ends.faults in
       let ok = result.faults.ok.0 in
       omega (arith, own, ok, length-map results (λ (r : PathResult). r.faults), zip-length _ job.paths.items results zip);
-  numbers = IfSome_then result.done ends.given (λ d given. subst (λ (l : List ℕ). AllZip IsFaultNumber (told_of told job.paths.items) l) (sym ends.faults) (faults_told told job.paths.items results zip given));
+  numbers = IfSome_then result.done ends.given (λ d given. subst (λ (l : List ℕ). AreFaultNumbers (told_of told job.paths.items) l) (sym ends.faults) (faults_told told job.paths.items results zip given));
   token = its_token job.end t.end result.done (subst (λ (x : StreamEnd). SameProducer x.marks t.end.marks) end_is goes.marks) ends.token;
   history = stream-result told clock_told job.paths.items job.end job.clock s t results result end_is clock_is now_is zip goes ends;
 }

@@ -25,7 +25,7 @@ use Rattle.studio_ends.specs.declared.stream_end.turns.StreamDone.{StreamDone}
 use Rattle.studio_ends.specs.declared.stream_end.StreamEnd.{StreamEnd}
 use Rattle.studio_ends.specs.declared.mix_end.MixEnd.{MixEnd}
 use Rattle.studio_io.specs.Answers.{Answer}
-use Rattle.studio_io.specs.FaultCounts.{IsFaultNumber}
+use Rattle.studio_io.specs.FaultCounts.{AreFaultNumbers, IsFaultNumber}
 use Rattle.studio_io.specs.declared.report.WorkReport.{WorkReport}
 use Rattle.studio_rings.specs.MixWorker.{MixesWith}
 use Rattle.studio_rings.specs.Runs.{HaveStreamHistories, IsSettledRun, IsSettledRunWith, feeds_of}
@@ -159,8 +159,8 @@ module _ {F C : Type 0} where
       omega (arith, own, ok, rest, all, length-append r.faults.items (faults_in rs), length-append (feeds_in job.paths.items) h.1, map_length (λ (p : PathJob F). p.feed) job.paths.items)
 
   -- if each stream returned its token, each number is that of the feed at its place
-  pub faults-told : (told : F → List Answer) (clock_told : C → List ℤ) (paths : List PathEnd) (feeds : List F) (clocks : List C) (ends : List StreamEnd) (jobs : List (StreamJob F C)) (results : List StreamResult) → AreJobsOf paths feeds clocks ends jobs → AllZip (IsStreamResult told clock_told) jobs results → AllGiveTokens (dones_in results) → AllZip IsFaultNumber (map told feeds) (faults_in results)
-  faults-told told clock_told paths feeds clocks [] [] [] h zip given = subst (λ (l : List F). AllZip IsFaultNumber (map told l) []) (sym h.1) tt
+  pub faults-told : (told : F → List Answer) (clock_told : C → List ℤ) (paths : List PathEnd) (feeds : List F) (clocks : List C) (ends : List StreamEnd) (jobs : List (StreamJob F C)) (results : List StreamResult) → AreJobsOf paths feeds clocks ends jobs → AllZip (IsStreamResult told clock_told) jobs results → AllGiveTokens (dones_in results) → AreFaultNumbers (map told feeds) (faults_in results)
+  faults-told told clock_told paths feeds clocks [] [] [] h zip given = subst (λ (l : List F). AreFaultNumbers (map told l) []) (sym h.1) tt
   faults-told told clock_told paths feeds clocks [] [] (r ∷ rs) h zip given = absurd zip
   faults-told told clock_told paths feeds clocks [] (job ∷ jobs) results h zip given = absurd h
   faults-told told clock_told paths feeds clocks (end ∷ ends) [] results h zip given = absurd h
@@ -168,7 +168,7 @@ module _ {F C : Type 0} where
   faults-told told clock_told paths feeds clocks (end ∷ ends) (job ∷ jobs) (r ∷ rs) h zip given =
       let own = (some_of _ r.done given.0 zip.0.numbers).2 in
       let rest = faults-told told clock_told h.0 h.1 h.2 ends jobs rs h.8 zip.1 given.1 in
-      subst (λ (l : List (List Answer)). AllZip IsFaultNumber l (r.faults.items ++ faults_in rs)) (sym (told_split told job.paths.items feeds h.1 h.4)) (zip-append IsFaultNumber (told_of told job.paths.items) (map told h.1) r.faults.items (faults_in rs) own rest)
+      subst (λ (l : List (List Answer)). AreFaultNumbers l (r.faults.items ++ faults_in rs)) (sym (told_split told job.paths.items feeds h.1 h.4)) (zip-append IsFaultNumber (told_of told job.paths.items) (map told h.1) r.faults.items (faults_in rs) own rest)
 
   have_all : (told : F → List Answer) (clock_told : C → List ℤ) (open_at : ℤ) (places : ℕ) (specs : List Stream) (paths : List PathEnd) (feeds : List F) (clocks : List C) (ends : List StreamEnd) (jobs : List (StreamJob F C)) (results : List StreamResult)
       → AreFreshJobs open_at places specs jobs → HavePlaces places ends → AreJobsOf paths feeds clocks ends jobs → AllZip (IsStreamResult told clock_told) jobs results → AllGiveTokens (dones_in results) → HaveAll open_at places specs (map told feeds) (map clock_told clocks) results
@@ -214,7 +214,7 @@ module _ {F C : Type 0} where
         run = record {
           histories = all.histories;
           streams = subst (λ (l : List StreamCounts). HaveStreamHistories studio.open_at places studio.streams (map told feeds) (map clock_told clocks) l all.histories) (sym streams) all.streams;
-          faults = subst (λ (l : List ℕ). AllZip IsFaultNumber (map told feeds) l) (sym faults) (faults-told told clock_told paths feeds clocks own jobs results h zip tokens);
+          faults = subst (λ (l : List ℕ). AreFaultNumbers (map told feeds) l) (sym faults) (faults-told told clock_told paths feeds clocks own jobs results h zip tokens);
           datagrams = mixes.datagrams;
           blocks = settles (with_changes studio mixes.changes) (feeds_of studio.open_at studio.streams all.histories) mixes.datagrams (all.of_these, all.tells) (mixes.all refl studio [] opened.mix);
           count = λ few. let n = mixes.count (omega (arith, few)) in omega (arith, n);

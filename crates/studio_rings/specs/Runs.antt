@@ -1,6 +1,5 @@
 -- The streams' histories and the datagrams of a run, as its report has them.
 use Rattle.std.specs.Prelude.{◌≡◌, ℕ, suc, ◌-◌, ◌*◌, ◌<◌, ◌≤◌, ◌^◌, true, List, [], ◌∷◌, ◌++◌, length, sum_by, ℤ, Option}
-use Rattle.std.specs.List.{AllZip}
 use Rattle.rtp_stream.specs.declared.stream_spec.Stream.{Stream}
 use Rattle.rtp_stream.specs.History.{is_closed, is_well_timed}
 use Rattle.rtp_stream.specs.Marks.{marks_of}
@@ -16,7 +15,7 @@ use Rattle.rtp_stream.specs.declared.stream_counts.PathCounts.{PathCounts}
 use Rattle.rtp_stream.specs.declared.stream_counts.StreamCounts.{StreamCounts}
 use Rattle.studio_ends.specs.Streams.{packets_by}
 use Rattle.studio_io.specs.Answers.{Answer, CountsOthers, IsPartOf, reaches_end, told_datagrams, told_packets}
-use Rattle.studio_io.specs.FaultCounts.{IsFaultNumber}
+use Rattle.studio_io.specs.FaultCounts.{AreFaultNumbers}
 use Rattle.studio_rings.specs.ClockTurns.{GoByClock, events_in}
 use Rattle.studio_io.specs.Sinks.{Hands}
 use Rattle.studio_io.specs.declared.report.WorkReport.{WorkReport}
@@ -81,7 +80,7 @@ feeds_of open_at (stream ∷ streams) (events ∷ histories) = record { stream =
 pub record IsSettledRun (studio : Studio) (places : ℕ) (told : List (List Answer)) (clocks : List (List ℤ)) (report : WorkReport) (before after : Option (List (List ℕ))) : Type 0 where
   pub histories : List (List Event)
   pub streams : HaveStreamHistories studio.open_at places studio.streams told clocks report.streams.items histories
-  pub faults : AllZip IsFaultNumber told report.feed_faults.items
+  pub faults : AreFaultNumbers told report.feed_faults.items
   pub datagrams : List (List ℕ)
   pub blocks : AreBlocks studio (feeds_of studio.open_at studio.streams histories) datagrams
   pub count : length datagrams < 2 ^ 64 → report.blocks ≡ length datagrams

@@ -1,6 +1,5 @@
 -- The job of a stream's worker, and its result.
 use Rattle.std.specs.Prelude.{◌≡◌, ℕ, ◌<◌, ◌≤◌, ◌^◌, Bool, true, false, List, [], ◌∷◌, ◌++◌, length, map, slice_get, ℤ, pos, ◌≤ℤ◌, vec_len, vec_capacity, Option, Some, None, IsSome, IfSome}
-use Rattle.std.specs.List.{AllZip}
 use Rattle.rtrb.specs.Ends.{SameRing}
 use Rattle.rtrb.specs.Ring.{all_sent, producer_capacity, IsFinishedOf, IsPair}
 use Rattle.rtp_stream.specs.declared.stream_spec.Stream.{Stream}
@@ -18,7 +17,7 @@ use Rattle.studio_ends.specs.declared.path_end.PathDone.{PathDone}
 use Rattle.studio_ends.specs.declared.path_end.PathEnd.{PathEnd}
 use Rattle.studio_ends.specs.declared.rings.TokenConsumer.{TokenConsumer}
 use Rattle.studio_io.specs.Answers.{Answer}
-use Rattle.studio_io.specs.FaultCounts.{IsFaultNumber}
+use Rattle.studio_io.specs.FaultCounts.{AreFaultNumbers}
 use Rattle.studio_rings.specs.ClockTurns.{GoByClock, events_in}
 use Rattle.studio_rings.specs.Runs.{HasStreamHistory}
 use Rattle.studio_rings.specs.Turns.{HaveArrived}
@@ -124,7 +123,7 @@ module _ {F C : Type 0} where
   -- reports all marks of a whole history. If there is a token, each number is that of the path's feed
   pub record IsStreamResult (told : F → List Answer) (clock_told : C → List ℤ) (job : StreamJob F C) (result : StreamResult) : Type 0 where
     pub faults : vec_len result.faults ≡ length job.paths.items
-    pub numbers : IfSome result.done (λ done. AllZip IsFaultNumber (told_of told job.paths.items) result.faults.items)
+    pub numbers : IfSome result.done (λ done. AreFaultNumbers (told_of told job.paths.items) result.faults.items)
     pub token : IfSome result.done (λ done. SameRing job.end.marks.end done.token.end)
     pub history : IfSome result.done (λ done. (stream : Stream) (open_at : ℤ) (places : ℕ) → IsFreshStream open_at places stream (ends_of job.paths.items) job.end
         → HasMarks open_at (producer_capacity job.end.marks) stream (told_of told job.paths.items) (clock_told job.clock) result (all_sent done.token))

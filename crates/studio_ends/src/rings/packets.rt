@@ -35,6 +35,7 @@ ghost use Rattle.rtp_stream.specs.declared.packet.Packet.{Packet};
 ghost use Rattle.studio_ends.specs.Fitting.{fitting};
 ghost use Rattle.studio_ends.specs.CellSizes.{HasCellsFor};
 ghost use Rattle.studio_ends.specs.DrainedRing.{IsDrained};
+ghost use Rattle.studio_ends.specs.Stats.{NotesAll};
 ghost use Rattle.studio_ends.specs.StreamTurns.{Joins, TakesPackets, arrivals_by};
 
 use crate::rings::TokenConsumer;
@@ -181,7 +182,8 @@ impl PacketConsumer {
         requires spec { merge.old.spec ≡ spec.now }
         requires path { path < spec.now.paths }
         ensures took { (packets : List Packet) × TakesPackets self.old self.new packets × (length packets ≡ result)
-            × Joins merge.old merge.new (λ stream. arrivals_by path (fitting stream packets)) }
+            × Joins merge.old merge.new (λ stream. arrivals_by path (fitting stream packets))
+            × NotesAll merge.old (λ stream. arrivals_by path (fitting stream packets)) sender.old sender.new }
     {
         match &mut self.end {
             ConsumerBySize::Short(side) => take_path(side, spec, merge, path, sender),

@@ -5,7 +5,7 @@ ghost use Rattle.studio_ends.specs.Fitting.{fitting};
 ghost use Rattle.path_merge.specs.Steps.{next_deadline_of};
 ghost use Rattle.rtp_stream.specs.PacketRef.{packet_of};
 ghost use Rattle.rtp_stream.specs.StreamSpec.{Fits};
-ghost use Rattle.studio_ends.specs.Stats.{Notes, NotesPacket};
+ghost use Rattle.studio_ends.specs.Stats.{Notes, NotesAll, NotesPacket};
 ghost use Rattle.studio_ends.specs.StreamTurns.{AllTakePackets, Joins, TakesPackets, arrivals_by, arrivals_from};
 
 use crate::rings::TokenConsumer;
@@ -47,6 +47,7 @@ fn offer_packet<const N: usize>(
     requires path { path < spec.now.paths }
     ensures joins { Joins merge.old merge.new (λ stream. arrivals_by path (fitting stream (cell.now ∷ []))) }
     ensures noted { Fits spec.now cell.now → NotesPacket merge.old path cell.now merge.new sender.old sender.new }
+    ensures unfit { (Fits spec.now cell.now → ⊥) → sender.new ≡ sender.old }
 {
     let packet = cell.as_ref();
     if packet.payload.len() == spec.payload_len() {
@@ -66,7 +67,8 @@ pub(crate) fn take_path<const N: usize>(
     requires spec { merge.old.spec ≡ spec.now }
     requires path { path < spec.now.paths }
     ensures took { (packets : List Packet) × TakesPackets side.old side.new packets × (length packets ≡ result)
-        × Joins merge.old merge.new (λ stream. arrivals_by path (fitting stream packets)) }
+        × Joins merge.old merge.new (λ stream. arrivals_by path (fitting stream packets))
+        × NotesAll merge.old (λ stream. arrivals_by path (fitting stream packets)) sender.old sender.new }
 {
     let mut taken = 0;
     while taken < BATCH {
@@ -92,7 +94,8 @@ pub(crate) fn take_all(
     requires paths { vec_len sides.old ≡ spec.now.paths }
     ensures took { (taken : List (List Packet)) × AllTakePackets sides.old.items sides.new.items taken
         × ((i : ℕ) → get_or result i 0 ≡ length (get_or taken i []))
-        × Joins merge.old merge.new (λ stream. arrivals_from stream 0 taken) }
+        × Joins merge.old merge.new (λ stream. arrivals_from stream 0 taken)
+        × NotesAll merge.old (λ stream. arrivals_from stream 0 taken) sender.old sender.new }
     ensures count { vec_len sides.new ≡ vec_len sides.old }
 {
     let mut from = [0u32; 4];

@@ -22,9 +22,7 @@ ghost use Rattle.std.specs.Prelude.{
   OnErr,
   Some,
   None,
-  Option,
 };
-ghost use Rattle.rtp_stats.specs.declared.channel.stream.StreamStatsSender.{StreamStatsSender};
 ghost use Rattle.rtrb.specs.Ring.{all_sent, sent, known_free, Finishes, IsFinishedOf, SameProducer};
 ghost use Rattle.rtp_stream.specs.declared.stream_spec.Stream.{Stream};
 ghost use Rattle.rtp_stream.specs.Marks.{marks_of};
@@ -37,7 +35,7 @@ ghost use Rattle.rtp_stream.specs.Counts.{tally_of};
 ghost use Rattle.path_merge.specs.Clock.{clock_fault_of};
 ghost use Rattle.path_merge.specs.Steps.{next_deadline_of};
 ghost use Rattle.studio_ends.specs.Stats.{TellsStream};
-ghost use Rattle.studio_ends.specs.Streams.{ReadsClock, ShowsCounts, StreamHasHistory, TakesTurn};
+ghost use Rattle.studio_ends.specs.Streams.{ReadsClock, ShowsCounts, StreamHasHistory, TakesTurn, TellsTurn};
 ghost use Rattle.studio_ends.specs.Tokens.{HandsIn};
 
 use crate::path_end::PathDone;
@@ -88,12 +86,13 @@ impl StreamEnd {
     /// Takes packets of all paths, path by path, and then pushes marks up to `now`, in sampling instants at 48 kHz.
     ///
     /// Takes at most 64 packets of each path and pushes at most 64 marks; no mark is dropped. A packet is judged at
-    /// the merge's time before the turn. Returns a `ClockFault` if `now` is before that time, past 2^60 or after the
-    /// close; nothing changes then.
+    /// the merge's time before the turn. With statistics, its fate is noted, and the statistics are sent after the
+    /// marks.
+    ///
+    /// Returns a `ClockFault` if `now` is before that time, past 2^60 or after the close; nothing changes then.
     pub fn turn(&mut self, now: i64) -> Result<TurnNote, ClockFault>
         ensures turned { IfOk result (λ note. TakesTurn self.old now note self.new) }
-        ensures told { IfOk result (λ _. (noted : Option StreamStatsSender)
-            × TellsStream self.new.merge noted self.new.sender) }
+        ensures told { IfOk result (λ _. TellsTurn self.old self.new) }
         ensures fine { IfOk result (λ note. clock_fault_of self.old.merge.time self.old.merge.closed now ≡ None) }
         ensures fault { IfErr result (λ fault. clock_fault_of self.old.merge.time self.old.merge.closed now
             ≡ Some fault) }
@@ -130,6 +129,7 @@ impl StreamEnd {
         ensures fault { IfErr result (λ fault. clock_fault_of self.old.merge.time self.old.merge.closed now
             ≡ Some fault) }
         ensures err { OnErr result (self.new ≡ self.old) }
+        ensures sender { self.new.sender ≡ self.old.sender }
     {
         if let Some(fault) = clock_fault(self.merge.time(), self.merge.closed(), now) {
             return Err(fault);
@@ -168,6 +168,7 @@ impl StreamEnd {
         ensures sides { HandsIn self.old.sides.items path (all_sent done.token) self.new.sides.items }
         ensures others { (self.new.merge ≡ self.old.merge) × (self.new.marks ≡ self.old.marks)
             × (self.new.monitor ≡ self.old.monitor) × (self.new.spec ≡ self.old.spec) }
+        ensures sender { self.new.sender ≡ self.old.sender }
         ensures stands { (stream : Stream) (open_at : ℤ) (events : List Event)
             → StreamHasHistory stream open_at self.old events → StreamHasHistory stream open_at self.new events }
     {
@@ -188,6 +189,7 @@ impl StreamEnd {
         ensures again { self.old.merge.closed ≡ true → (self.new ≡ self.old) × IsOk result }
         ensures others { (self.new.marks ≡ self.old.marks) × (self.new.monitor ≡ self.old.monitor)
             × (self.new.spec ≡ self.old.spec) }
+        ensures sender { self.new.sender ≡ self.old.sender }
         ensures stands { OnOk result (self.old.merge.closed ≡ false
             → (stream : Stream) (open_at : ℤ) (events : List Event) → StreamHasHistory stream open_at self.old events
             → StreamHasHistory stream open_at self.new (events ++ Close ∷ [])) }
@@ -219,6 +221,7 @@ impl StreamEnd {
             → StreamHasHistory stream open_at self.new events → sent self.new.marks ≡ marks_of stream open_at events }
         ensures others { (self.new.sides ≡ self.old.sides) × (self.new.monitor ≡ self.old.monitor)
             × (self.new.spec ≡ self.old.spec) }
+        ensures sender { self.new.sender ≡ self.old.sender }
     {
         if !self.merge.closed() {
             return false;

@@ -2,8 +2,8 @@ use Rattle.std.proofs.Common.{◌≡◌, true, List, length, map, refl, sym, ap,
 use Rattle.std.proofs.lemmas.Bool.{false≢true}
 use Rattle.rtp_stream.specs.declared.stream_spec.Stream.{Stream}
 use Rattle.studio_io.proofs.SumLemmas.{sums-none, sums-reported}
+use Rattle.studio_io.specs.FaultCounts.{AreFaultNumbers}
 use Rattle.studio_mix.specs.Changed.{with_changes}
-use Rattle.engine_run.specs.FeedFaults.{AreFaultNumbers}
 use Rattle.engine_run.specs.Grouping.{grouped, path_total}
 use Rattle.engine_run.specs.Intake.{fault_numbers}
 use Rattle.engine_run.specs.Rounds.{events_of}

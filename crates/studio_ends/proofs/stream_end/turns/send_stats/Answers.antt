@@ -13,4 +13,5 @@ returns-in-Some c =
       λ stream offers h.
           subst (λ (t : ℤ). Tells stream offers c.counts.result c.in-Some.sender.next t c.in-Some.sender.ring c.send.new.self.ring)
           (at ∙ c.time.ensures) (c.send.ensures.told stream offers h),
+      c.send.ensures.tracker,
     )
