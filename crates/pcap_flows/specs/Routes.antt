@@ -1,6 +1,6 @@
 -- The routes of a capture's flows: which path of which stream of a trace each of them is.
-use Rattle.std.specs.Prelude.{ℕ, ◌+◌, Bool, false, List, [], ◌∷◌, length, map, filter, min, nat_lt, slice_get, Option, Some, None, ◌==◌, ◌&&◌, not}
-use Rattle.std.specs.List.{list_any}
+use Rattle.std.specs.Prelude.{◌≡◌, ◌⊎◌, ℕ, ◌+◌, Bool, false, List, [], ◌∷◌, length, map, filter, min, nat_lt, slice_get, Option, Some, None, ◌==◌, ◌&&◌, not, if◌then◌else◌}
+use Rattle.std.specs.List.{list_all, list_any}
 use Rattle.std.specs.Net.Addr.{ipv4_bits}
 use Rattle.std.specs.Net.Socket.{v4_ip, v4_port}
 use Rattle.std.specs.declared.net.socket_addr.SocketAddrV4.{SocketAddrV4}
@@ -11,10 +11,20 @@ use Rattle.pcap_flows.specs.PacketFormat.{has_format}
 use Rattle.pcap_flows.specs.Streams.{paths_of}
 use Rattle.pcap_flows.specs.declared.streams.FlowPath.{FlowPath}
 use Rattle.pcap_flows.specs.declared.routes.Route.{Route}
+use Rattle.pcap_flows.specs.declared.fault.ImportFault.{ImportFault}
+use Rattle.pcap_flows.specs.declared.fault.ImportFault.TheVariants.{UnknownAddress, NoFlow, Streams, Memory}
 
 -- the flow goes to this address and port
 abbrev pub is_named : FlowKey → SocketAddrV4 → Bool
 is_named key name = (ipv4_bits (v4_ip name) == key.to) && (v4_port name == key.to_port)
+
+-- some flow goes to this address and port
+abbrev pub has_flow : List FlowKey → SocketAddrV4 → Bool
+has_flow keys name = list_any (λ key. is_named key name) keys
+
+-- a flow goes to each of these addresses
+abbrev pub are_named : TableView → List SocketAddrV4 → Bool
+are_named t names = list_all (has_flow t.keys) names
 
 abbrev pub flow_has_format : Option FlowKey → Option FlowView → Bool
 flow_has_format None flow = false
@@ -82,3 +92,15 @@ routes_of t names = routes_of_paths (chosen_paths t names)
 -- the number of flows that are no chosen path
 abbrev pub left_out_of : TableView → List SocketAddrV4 → ℕ
 left_out_of t names = length (filter (λ path. not (is_chosen t names (paths_of t) path)) (paths_of t))
+
+-- why chosen paths have no routes: they are of more than 16 streams, or there are none
+abbrev pub paths_fault_of : List FlowPath → Option ImportFault
+paths_fault_of chosen = if nat_lt 16 (stream_count chosen) then Some Streams else if length chosen == 0 then Some NoFlow else None
+
+-- why there are no routes to these addresses: no flow goes to one of them, or the paths to them have no routes
+abbrev pub routes_fault_of : TableView → List SocketAddrV4 → Option ImportFault
+routes_fault_of t names = if are_named t names then paths_fault_of (chosen_paths t names) else Some UnknownAddress
+
+-- an allocation failed, or this is why there are no routes
+abbrev pub IsRoutesFault : TableView → List SocketAddrV4 → ImportFault → Type 0
+IsRoutesFault t names fault = (fault ≡ Memory) ⊎ (routes_fault_of t names ≡ Some fault)

@@ -1,5 +1,5 @@
 //! The routes of a capture's flows.
-ghost use Rattle.std.specs.Prelude.{◌≡◌, ◌≤◌, ◌++◌, ◌∷◌, [], filter, IfOk, OnOk};
+ghost use Rattle.std.specs.Prelude.{◌≡◌, ◌≤◌, ◌++◌, ◌∷◌, [], None, filter, IfOk, IfErr, OnOk};
 ghost use Rattle.std.specs.List.{list_any};
 ghost use Rattle.pcap_flows.specs.FlowTable.{table_view};
 ghost use Rattle.pcap_flows.specs.Routes as spec;
@@ -59,8 +59,12 @@ pub fn routes_of(
     ensures streams { IfOk result (λ routes. routes.streams
         ≡ spec.stream_count (spec.chosen_paths (table_view table.now) names.now)) }
     ensures left_out { IfOk result (λ routes. routes.left_out ≡ spec.left_out_of (table_view table.now) names.now) }
+    ensures fine { OnOk result (spec.routes_fault_of (table_view table.now) names.now ≡ None) }
+    ensures fault { IfErr result (λ fault. spec.IsRoutesFault (table_view table.now) names.now fault) }
 {
-    check_names(table, names)?;
+    if !are_named(table, names) {
+        return Err(ImportFault::UnknownAddress);
+    }
     let chosen = chosen_paths(alloc, table, names)?;
     let streams = streams_among(chosen.as_slice());
     if streams > MAX_STREAMS {
@@ -78,17 +82,21 @@ pub fn routes_of(
     })
 }
 
-/// Tests that a flow goes to each named address.
-fn check_names(table: &FlowTable, names: &[SocketAddrV4]) -> Result<(), ImportFault> {
-    for name in names.iter() {
-        if !table.keys().iter().any(|key| is_named(key, name)) {
-            return Err(ImportFault::UnknownAddress);
-        }
-    }
-    Ok(())
+/// Returns true if a flow goes to each of these addresses.
+fn are_named(table: &FlowTable, names: &[SocketAddrV4]) -> bool
+    ensures { result ≡ spec.are_named (table_view table.now) names.now }
+{
+    names.iter().all(|name| has_flow(table, name))
 }
 
-/// Returns true if a flow goes to an address and a port.
+/// Returns true if some flow goes to an address and a port.
+fn has_flow(table: &FlowTable, name: &SocketAddrV4) -> bool
+    ensures { result ≡ spec.has_flow table.now.keys.items name.now }
+{
+    table.keys().iter().any(|key| is_named(key, name))
+}
+
+/// Returns true if this flow goes to an address and a port.
 fn is_named(key: &FlowKey, name: &SocketAddrV4) -> bool
     ensures { result ≡ spec.is_named key.now name.now }
 {

@@ -14,6 +14,10 @@ pub some_maps : {X : Type 0} (o : Option X) (P Q : X → Type 0) → ((x : X) �
 some_maps None P Q f p = tt
 some_maps (Some x) P Q f p = f x p
 
+pub some_both : {X : Type 0} (o : Option X) (P Q R : X → Type 0) → ((x : X) → P x → Q x → R x) → IfSome o P → IfSome o Q → IfSome o R
+some_both None P Q R f p q = tt
+some_both (Some x) P Q R f p q = f x p q
+
 pub ok_then : {X E : Type 0} (r : Result X E) (P Q : Type 0) → (P → Q) → OnOk r P → OnOk r Q
 ok_then (Ok x) P Q f p = f p
 ok_then (Err e) P Q f p = tt
@@ -43,3 +47,11 @@ err_both (Err e) P Q R f p q = f e p q
 pub own_fault : {X E : Type 0} {P : E → Type 0} {K : Type 0} (r : Result X E) (Q : E → Type 0) → ((e : E) → P e × K → Q e) → IfErr r P → OnErr r K → IfErr r Q
 own_fault (Ok x) Q f p k = tt
 own_fault (Err e) Q f p k = f e (p, k)
+
+pub err_all : {X E : Type 0} (r : Result X E) (P Q R S : E → Type 0) → ((e : E) → P e → Q e → R e → S e) → IfErr r P → IfErr r Q → IfErr r R → IfErr r S
+err_all (Ok x) P Q R S f p q s = tt
+err_all (Err e) P Q R S f p q s = f e p q s
+
+pub ok_four : {X E : Type 0} (r : Result X E) (P Q R S T : Type 0) → (P → Q → R → S → T) → OnOk r P → OnOk r Q → OnOk r R → OnOk r S → OnOk r T
+ok_four (Ok x) P Q R S T f p q s t = f p q s t
+ok_four (Err e) P Q R S T f p q s t = tt

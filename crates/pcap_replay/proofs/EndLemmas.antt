@@ -28,6 +28,7 @@ use Rattle.pcap_replay.specs.declared.state.ReplayState.{ReplayState}
 use Rattle.pcap_replay.specs.Lines.{Hearing}
 use Rattle.pcap_replay.specs.Events.{events_told, file_events}
 use Rattle.pcap_replay.specs.Routing.{PlanView}
+use Rattle.pcap_replay.specs.Causes.{IsCauseBehind}
 use Rattle.pcap_replay.specs.RecordChanges.{changed_by, changes_of}
 use Rattle.pcap_replay.specs.Replay.{BreaksOffReplay, BreaksReport, EndsBehind, HasHeardAll, HasReplayed, IsReason, StopsAt, StopsFile, WritesFront}
 use Rattle.pcap_replay.proofs.CaseLemmas.{some_maps}
@@ -52,8 +53,20 @@ unopened studio plan first a H run fault r is = record {
   first = record { later = file_events studio plan []; whole = refl };
   changed = [];
   among = inl refl;
+  cause = tt;
   front = inl (record { datagrams = r.datagrams; first = r.session.given.first; count = 0; wrote = Appends-nil a; told = heard_first studio [] a a H run r });
 }
+
+-- the cause of a fault, with the engine that refused a change
+cause_behind : (studio : Studio) (plan : PlanView) (first a b : Option (List ℕ)) (H : Hearing) (run : ReplayState) (fault : ReplayFault) (s : StopsFile studio plan first a run b H fault)
+    → IsCauseBehind studio plan s.entries s.changed s.stops.events fault
+cause_behind studio plan first a b H run Memory s = tt
+cause_behind studio plan first a b H run (Capture fault) s = tt
+cause_behind studio plan first a b H run (RunOf fault) s = tt
+cause_behind studio plan first a b H run (Change number why) s = record { engine = run.engine; datagrams = s.stops.at.datagrams; session = s.stops.at.session; refuses = s.cause }
+cause_behind studio plan first a b H run (Jump place seconds) s = s.cause
+cause_behind studio plan first a b H run TooManyEvents s = tt
+cause_behind studio plan first a b H run Write s = tt
 
 -- a fault came before the end, and the lines that were held are written
 ends_front : (studio : Studio) (plan : PlanView) (first a b c : Option (List ℕ)) (H : Hearing) (run : ReplayState) (fault : ReplayFault) (s : StopsFile studio plan first a run b H fault)
@@ -67,6 +80,7 @@ ends_front studio plan first a b c H run fault s front = record {
   first = first_longer s.stops.events (events_told studio plan s.entries) (file_events studio plan s.entries) s.stops.first (first_more (events_told studio plan s.entries) (Closing ∷ []));
   changed = s.changed;
   among = s.among;
+  cause = cause_behind studio plan first a b H run fault s;
   front = front;
 }
 
@@ -101,6 +115,7 @@ as_write studio plan first a c H fault w = record {
   first = w.first;
   changed = w.changed;
   among = w.among;
+  cause = tt;
   front = w.front;
 }
 

@@ -7,6 +7,9 @@ mod FlowLemmas
 mod LineLemmas
 mod ReasonLemmas
 mod ReplayLemmas
+mod CauseLemmas
+mod CauseCases
+mod FewEventsLemmas
 mod RoutingLemmas
 mod RecordLemmas
 mod RecordedPathLemmas

@@ -26,7 +26,7 @@ use Rattle.studio_engine.proofs.EngineLemmas.{pulled_at}
 use Rattle.pcap_replay.specs.declared.fault.ReplayFault.{ReplayFault}
 use Rattle.pcap_replay.specs.declared.fault.ReplayFault.TheVariants.{Memory, Capture, Run as RunOf, Change, Jump, TooManyEvents, Write}
 use Rattle.pcap_replay.specs.Events.{AreFirst}
-use Rattle.pcap_replay.specs.Reasons.{IsCount, IsFirstFault, IsOfChange, IsPathFault, refused_at}
+use Rattle.pcap_replay.specs.Reasons.{IsCount, IsFirstFault, IsOfChange, IsOfEvent, IsPathFault, refused_at}
 use Rattle.pcap_replay.specs.Replay.{IsRun}
 
 -- events with no fault, and behind them one with a fault
@@ -67,7 +67,10 @@ first_fault_longer studio events longer (RunOf fault) first is =
     subst (λ l. session_fault_of studio l ≡ Some fault) first.whole (fault_longer studio.streams 0 studio.open_at false events first.later fault is)
 first_fault_longer studio events longer (Change number kind) first is = tt
 first_fault_longer studio events longer (Jump place seconds) first is = tt
-first_fault_longer studio events longer TooManyEvents first is = tt
+first_fault_longer studio events longer TooManyEvents first is =
+    let more = length-append events first.later in
+    let same = ap length first.whole in
+    omega (arith, is, more, same)
 first_fault_longer studio events longer Write first is = tt
 
 -- changes of gains change no fault of an event
@@ -77,7 +80,7 @@ first_fault_changed studio changes events (Capture fault) is = tt
 first_fault_changed studio changes events (RunOf fault) is = is
 first_fault_changed studio changes events (Change number kind) is = tt
 first_fault_changed studio changes events (Jump place seconds) is = tt
-first_fault_changed studio changes events TooManyEvents is = tt
+first_fault_changed studio changes events TooManyEvents is = is
 first_fault_changed studio changes events Write is = tt
 
 -- the fault of a change is that of no event
@@ -119,15 +122,15 @@ spec_at studio engine events datagrams stream same s = by_stream (slice_get stud
         let within = slice_get_within engine.cursors stream c cursor in
         absurd (omega (arith, behind, within, same))
 
--- the fault of a datagram that an engine refuses, by the specification of its stream
-abbrev IsRefusal : ℕ → ℕ → Option Stream → ArriveFault → Type 0
-IsRefusal place path stream arrive.Unfinished = Unit {0}
-IsRefusal place path stream arrive.Stream = path_fault place stream path ≡ Some (NoStream place)
-IsRefusal place path stream arrive.Path = path_fault place stream path ≡ Some (NoPath place)
-IsRefusal place path stream arrive.Full = Unit {0}
+-- the fault of a datagram that an engine refuses after `count` events, by the specification of its stream
+abbrev IsRefusal : ℕ → ℕ → ℕ → Option Stream → ArriveFault → Type 0
+IsRefusal place count path stream arrive.Unfinished = ⊥
+IsRefusal place count path stream arrive.Stream = path_fault place stream path ≡ Some (NoStream place)
+IsRefusal place count path stream arrive.Path = path_fault place stream path ≡ Some (NoPath place)
+IsRefusal place count path stream arrive.Full = 2 ^ 62 ≤ count
 
-refusal_is : (place count path : ℕ) (c : Option CursorState) (fault : ArriveFault) → stream_fault_of count path c ≡ Some fault → IsRefusal place path (stream_spec_of c) fault
-refusal_is place count path None fault is = subst (IsRefusal place path None) (same is) refl
+refusal_is : (place count path : ℕ) (c : Option CursorState) (fault : ArriveFault) → stream_fault_of count path c ≡ Some fault → IsRefusal place count path (stream_spec_of c) fault
+refusal_is place count path None fault is = subst (IsRefusal place count path None) (same is) refl
   where
     same : Some arrive.Stream ≡ Some fault → arrive.Stream ≡ fault
     same e = cc
@@ -136,37 +139,46 @@ refusal_is place count path (Some cursor) fault is = by_path (nat_lt path cursor
     same : (x y : ArriveFault) → Some x ≡ Some y → x ≡ y
     same x y e = cc
 
-    by_count : (b : Bool) → (if b then None else Some arrive.Full) ≡ Some fault → IsRefusal place path (Some cursor.spec) fault
-    by_count true e = absurd (let f : None ≡ Some fault = e in cc)
-    by_count false e = subst (IsRefusal place path (Some cursor.spec)) (same arrive.Full fault e) tt
+    by_count : (b : Bool) → nat_lt count (2 ^ 62) ≡ b → (if b then None else Some arrive.Full) ≡ Some fault → IsRefusal place count path (Some cursor.spec) fault
+    by_count true less e = absurd (let f : None ≡ Some fault = e in cc)
+    by_count false less e = subst (IsRefusal place count path (Some cursor.spec)) (same arrive.Full fault e) (let many : 2 ^ 62 ≤ count = grind (arith, nat_tests, less) in many)
 
-    by_path : (b : Bool) → nat_lt path cursor.spec.paths ≡ b → (if b then (if nat_lt count (2 ^ 62) then None else Some arrive.Full) else Some arrive.Path) ≡ Some fault → IsRefusal place path (Some cursor.spec) fault
-    by_path true less e = by_count (nat_lt count (2 ^ 62)) e
-    by_path false less e = subst (IsRefusal place path (Some cursor.spec)) (same arrive.Path fault e) (ap (λ b. if b then None else Some (NoPath place)) less)
+    by_path : (b : Bool) → nat_lt path cursor.spec.paths ≡ b → (if b then (if nat_lt count (2 ^ 62) then None else Some arrive.Full) else Some arrive.Path) ≡ Some fault → IsRefusal place count path (Some cursor.spec) fault
+    by_path true less e = by_count (nat_lt count (2 ^ 62)) refl e
+    by_path false less e = subst (IsRefusal place count path (Some cursor.spec)) (same arrive.Path fault e) (ap (λ b. if b then None else Some (NoPath place)) less)
 
 -- an engine that is idle refuses a datagram for its stream, its path or the number of events
 idle_refusal : (engine : EngineState) (stream path : ℕ) (fault : Option ArriveFault) → engine.turning ≡ false → arrive_fault_of engine stream path ≡ fault → stream_fault_of engine.count path (slice_get engine.cursors stream) ≡ fault
 idle_refusal engine stream path fault idle is = ap (λ b. if b then Some arrive.Unfinished else stream_fault_of engine.count path (slice_get engine.cursors stream)) (sym idle) ∙ is
 
--- the fault of a datagram that the engine refused is the first
+-- the fault of a datagram that the engine refused is the first, or there are too many events
 pub refused_first : (studio : Studio) (engine : EngineState) (events : List TraceEvent) (datagrams : List (List ℕ)) (stream path count : ℕ) (octets : List ℕ) (fault : ArriveFault) → length studio.streams ≡ length engine.cursors
     → HasSession studio engine events datagrams → engine.turning ≡ false → count ≡ length events → arrive_fault_of engine stream path ≡ Some fault
     → IsFirstFault studio (events ++ Arrival stream path octets ∷ []) (refused_at count fault)
 refused_first studio engine events datagrams stream path count octets fault same s idle whole is =
-    by_fault fault (subst (λ o. IsRefusal count path o fault) (spec_at studio engine events datagrams stream same s)
+    by_fault fault (subst (λ o. IsRefusal count engine.count path o fault) (spec_at studio engine events datagrams stream same s)
     (refusal_is count engine.count path (slice_get engine.cursors stream) fault (idle_refusal engine stream path (Some fault) idle is)))
   where
-    by_fault : (fault : ArriveFault) → IsRefusal count path (slice_get studio.streams stream) fault → IsFirstFault studio (events ++ Arrival stream path octets ∷ []) (refused_at count fault)
-    by_fault arrive.Unfinished e = tt
+    by_fault : (fault : ArriveFault) → IsRefusal count engine.count path (slice_get studio.streams stream) fault → IsFirstFault studio (events ++ Arrival stream path octets ∷ []) (refused_at count fault)
+    by_fault arrive.Unfinished e = absurd e
     by_fault arrive.Stream e = first_behind studio events (Arrival stream path octets) count (NoStream count) s.lawful whole e
     by_fault arrive.Path e = first_behind studio events (Arrival stream path octets) count (NoPath count) s.lawful whole e
-    by_fault arrive.Full e = tt
+    by_fault arrive.Full e =
+        let long : length (events ++ Arrival stream path octets ∷ []) ≡ length events + 1 = length-append events (Arrival stream path octets ∷ []) in
+        let taken = s.count in
+        omega (arith, e, long, taken)
 
 pub refused_run : (place : ℕ) (fault : ArriveFault) → IsRun (refused_at place fault)
 refused_run place arrive.Unfinished = tt
 refused_run place arrive.Stream = tt
 refused_run place arrive.Path = tt
 refused_run place arrive.Full = tt
+
+pub refused_event : (place : ℕ) (fault : ArriveFault) → IsOfEvent (refused_at place fault)
+refused_event place arrive.Unfinished = tt
+refused_event place arrive.Stream = tt
+refused_event place arrive.Path = tt
+refused_event place arrive.Full = tt
 
 -- so is the fault of a path that no stream has
 pub path_first : (studio : Studio) (engine : EngineState) (events : List TraceEvent) (datagrams : List (List ℕ)) (stream path count : ℕ) (octets : List ℕ) (fault : ReplayFault) → length studio.streams ≡ length engine.cursors
@@ -178,6 +190,9 @@ path_first studio engine events datagrams stream path count octets fault same s 
 
 pub path_run : (place path : ℕ) (stream : Option Stream) (fault : ReplayFault) → IsPathFault place path stream fault → IsRun fault
 path_run place path stream fault found = subst IsRun (sym found.1) tt
+
+pub path_event : (place path : ℕ) (stream : Option Stream) (fault : ReplayFault) → IsPathFault place path stream fault → IsOfEvent fault
+path_event place path stream fault found = subst IsOfEvent (sym found.1) tt
 
 -- a path past the last of every stream is a fault of the stream
 pub path_past : (place path : ℕ) (stream : Stream) → stream.paths ≤ 4 → 4 ≤ path → path_fault place (Some stream) path ≡ Some (NoPath place)

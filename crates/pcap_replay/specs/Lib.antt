@@ -9,6 +9,7 @@ pub mod Lines
 pub mod Observed
 pub mod ImportLines
 pub mod Reasons
+pub mod Causes
 pub mod Replay
 pub mod RecordedPaths
 pub use Rattle.pcap_file.specs.Packet

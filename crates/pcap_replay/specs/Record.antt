@@ -34,3 +34,8 @@ closing_with (Some time) mark = Some time
 closing_with None None = None
 closing_with None (Some (Opened open_at)) = None
 closing_with None (Some (Closed time)) = Some time
+
+-- the place of the record or block with the first mark of a close, by that of the ones so far and the place of one more
+abbrev pub place_with : Option ℕ → ℕ → ℕ → ℕ
+place_with (Some time) so_far place = so_far
+place_with None so_far place = place

@@ -1,8 +1,11 @@
 -- The report of a capture, and how far it was written.
-use Rattle.std.specs.Prelude.{◌≡◌, ◌≢◌, ◌⊎◌, ◌<◌, ℕ, ◌++◌, Bool, false, List, [], ◌∷◌, length, take, map, Option, Ok, Err, IfSome, ⊤}
+use Rattle.std.specs.Prelude.{◌≡◌, ◌≢◌, ◌⊎◌, ◌<◌, ◌-◌, ◌^◌, ℕ, ◌++◌, Bool, false, List, [], ◌∷◌, length, min, take, map, Option, Some, None, Ok, Err, IfSome, ⊤}
 use Rattle.std.specs.Io.KnownBytes.{Appends}
 use Rattle.pcap_file.specs.declared.block_parser.BlockParser.{BlockParser}
-use Rattle.pcap_file.specs.Entries.{Entry, entries_of}
+use Rattle.pcap_file.specs.declared.decode.record_mark.RecordMark.{RecordMark}
+use Rattle.pcap_file.specs.declared.decode.record_mark.RecordMark.TheVariants.{Closed}
+use Rattle.pcap_file.specs.BlockParser.{items_at}
+use Rattle.pcap_file.specs.Entries.{Entry, entries_at, entries_in, entries_of}
 use Rattle.pcap_file.specs.Packet.{PacketView}
 use Rattle.pcap_file.specs.Capture.{Item, packets_of}
 use Rattle.pcap_file.specs.declared.fault.ReaderFault.{ReaderFault}
@@ -28,8 +31,9 @@ use Rattle.pcap_replay.specs.Events.{AreFirst, clock_of, events_of, events_told,
 use Rattle.pcap_replay.specs.Routing.{PlanView, Flows, Interfaces, clock_before, closing_of}
 use Rattle.pcap_replay.specs.Steady.{AreSteady, IsSteady}
 use Rattle.pcap_replay.specs.Record.{closing_in}
-use Rattle.pcap_replay.specs.RecordChanges.{AreAllButLast, changed_by}
+use Rattle.pcap_replay.specs.RecordChanges.{AreAllButLast, changed_by, changes_of}
 use Rattle.pcap_replay.specs.Reasons.{IsCount, IsFirstFault}
+use Rattle.pcap_replay.specs.Causes.{IsCause, IsCauseBehind}
 
 -- the engine took these events, which are counted, the lines of the datagrams that it returned are written or held, and
 -- the observer received both
@@ -92,19 +96,48 @@ pub record BeginsWith (file : List ℕ) (entries : List Entry) : Type 0 where
   pub later : List Entry
   pub all : entries_of file ≡ entries ++ later
 
--- the studio with the changes in these packets took their events, and the clock is the one after them; no step of it was
--- too long
+-- the studio with the changes in these packets took their events and counted the changes, and the clock is the one after
+-- them; no step of it was too long
 pub record HasTaken (studio : Studio) (plan : PlanView) (packets : List PacketView) (written : Option (List ℕ)) (run : ReplayState) (written_then : Option (List ℕ)) (heard : Hearing) : Type 0 where
   pub clock : run.clock ≡ clock_of plan packets
+  pub changes : run.changes ≡ min (length (changes_of plan packets)) (2 ^ 64 - 1)
   pub steady : AreSteady plan (clock_before plan) packets
   pub replayed : HasReplayed (changed_by studio plan packets) (events_of studio plan packets) written run written_then heard
 
--- the packets among the file's entries so far were replayed, and `closing` is the time of the close among these entries
-pub record IsReplaying (studio : Studio) (plan : PlanView) (first : Option (List ℕ)) (written : Option (List ℕ)) (run : ReplayState) (parts : BlockParser) (held : List ℕ) (ended : Bool) (left written_then : Option (List ℕ)) (heard : Hearing) (closing : Option ℕ) : Type 0 where
+-- the file has these entries before the record or block at this place
+pub record IsAt (file : List ℕ) (entries : List Entry) (place : ℕ) : Type 0 where
+  pub parts : BlockParser
+  pub left : List ℕ
+  pub here : parts.place ≡ place
+  pub packets : packets_of file ≡ map Ok (packets_among entries) ++ items_at parts left
+  pub all : entries_of file ≡ entries ++ entries_at parts left
+
+-- the last packet of these entries is in the record or block at this place
+pub record IsPacketAt (file : List ℕ) (entries : List Entry) (place : ℕ) : Type 0 where
+  pub before : List Entry
+  pub at : IsAt file before place
+  pub packet : PacketView
+  pub mark : Option RecordMark
+  pub whole : entries ≡ before ++ entries_in (Some packet) mark
+
+-- the first mark of a close among these entries is in the record or block at this place
+pub record IsCloseAt (file : List ℕ) (entries : List Entry) (place : ℕ) : Type 0 where
+  pub before : List Entry
+  pub at : IsAt file before place
+  pub none : closing_in before ≡ None
+  pub packet : Option PacketView
+  pub time : ℕ
+  pub later : List Entry
+  pub whole : entries ≡ before ++ entries_in packet (Some (Closed time)) ++ later
+
+-- the packets among the file's entries so far were replayed, and `closing` is the time of the close among these entries,
+-- in the record or block at `close_place`
+pub record IsReplaying (studio : Studio) (plan : PlanView) (first : Option (List ℕ)) (written : Option (List ℕ)) (run : ReplayState) (parts : BlockParser) (held : List ℕ) (ended : Bool) (left written_then : Option (List ℕ)) (heard : Hearing) (closing : Option ℕ) (close_place : ℕ) : Type 0 where
   pub entries : List Entry
   pub told : IfSome first (λ file. HasReturned file entries left parts held ended)
   pub taken : HasTaken studio plan (packets_among entries) written run written_then heard
   pub closes : closing ≡ closing_in entries
+  pub placed : (time : ℕ) → closing ≡ Some time → IfSome first (λ file. IsCloseAt file entries close_place)
 
 -- a file ends behind these entries: it has no fault, or it is a record whose last block is cut
 abbrev pub EndsAt : PlanView → List ℕ → List Entry → Type 0
@@ -112,11 +145,12 @@ EndsAt (Flows routes) file entries = HasEntries file entries
 EndsAt (Interfaces streams open_at changes longest) file entries = HasEntries file entries ⊎ IsCutBehind file entries
 
 -- the packets of a whole file were replayed
-pub record HasGoneOver (studio : Studio) (plan : PlanView) (first : Option (List ℕ)) (written : Option (List ℕ)) (run : ReplayState) (written_then : Option (List ℕ)) (heard : Hearing) (closing : Option ℕ) : Type 0 where
+pub record HasGoneOver (studio : Studio) (plan : PlanView) (first : Option (List ℕ)) (written : Option (List ℕ)) (run : ReplayState) (written_then : Option (List ℕ)) (heard : Hearing) (closing : Option ℕ) (close_place : ℕ) : Type 0 where
   pub entries : List Entry
   pub told : IfSome first (λ file. EndsAt plan file entries)
   pub taken : HasTaken studio plan (packets_among entries) written run written_then heard
   pub closes : closing ≡ closing_in entries
+  pub placed : (time : ℕ) → closing ≡ Some time → IfSome first (λ file. IsCloseAt file entries close_place)
 
 -- the packets of a whole file and a clock reading at the time of the close, if the marks have one, were replayed
 pub record HasComeToClose (studio : Studio) (plan : PlanView) (first : Option (List ℕ)) (written : Option (List ℕ)) (run : ReplayState) (written_then : Option (List ℕ)) (heard : Hearing) : Type 0 where
@@ -132,23 +166,26 @@ IsFileFault file entries (reader.Capture fault) = packets_of file ≡ map Ok (pa
 IsFileFault file entries (reader.TooLong place) = Unit {0}
 IsFileFault file entries reader.Memory = Unit {0}
 
+-- a fault of the file is the one behind these entries, and a time that jumps is in the record or block at its place: the
+-- last packet's, or that of the close
 abbrev pub IsReason : List ℕ → List Entry → ReplayFault → Type 0
 IsReason file entries Memory = Unit {0}
 IsReason file entries (Capture fault) = IsFileFault file entries fault
 IsReason file entries (RunOf fault) = Unit {0}
 IsReason file entries (Change number kind) = Unit {0}
-IsReason file entries (Jump place seconds) = Unit {0}
+IsReason file entries (Jump place seconds) = IsPacketAt file entries place ⊎ IsCloseAt file entries place
 IsReason file entries TooManyEvents = Unit {0}
 IsReason file entries Write = Unit {0}
 
 -- a fault came among the events of a file's first entries; the changes in all of these packets were taken, or in all
--- but the last
+-- but the last, which may be its cause
 pub record StopsFile (studio : Studio) (plan : PlanView) (first : Option (List ℕ)) (written : Option (List ℕ)) (run : ReplayState) (written_then : Option (List ℕ)) (heard : Hearing) (fault : ReplayFault) : Type 0 where
   pub entries : List Entry
   pub told : IfSome first (λ file. BeginsWith file entries × IsReason file entries fault)
   pub changed : List PacketView
   pub among : AreAllButLast changed (packets_among entries)
   pub stops : Stops (changed_by studio plan changed) (events_told studio plan entries) written run written_then heard fault
+  pub cause : IsCause plan entries changed run.engine.mixer fault
 
 -- the observer received all these events, whose clock readings are in order, and exactly their datagrams
 pub record HasHeardAll (studio : Studio) (events : List TraceEvent) (heard : Hearing) : Type 0 where
@@ -173,7 +210,7 @@ BreaksReport studio events written written_then heard =
     ⊎ (((report : List ℕ) → IsReport studio events report → BreaksOff written [] written_then report) × HasHeardAll studio events heard)
 
 -- a prefix of the report of a file's first events was written; the fault of an event is the first of the events of its
--- first entries, and the changes in all packets of these were taken, or in all but the last
+-- first entries, and the changes in all packets of these were taken, or in all but the last, which may be the cause
 pub record WritesFront (studio : Studio) (plan : PlanView) (left : Option (List ℕ)) (written written_then : Option (List ℕ)) (heard : Hearing) (fault : ReplayFault) : Type 0 where
   pub entries : List Entry
   pub told : IfSome left (λ file. BeginsWith file entries × IsReason file entries fault)
@@ -182,6 +219,7 @@ pub record WritesFront (studio : Studio) (plan : PlanView) (left : Option (List 
   pub first : AreFirst events (file_events studio plan entries)
   pub changed : List PacketView
   pub among : AreAllButLast changed (packets_among entries)
+  pub cause : IsCauseBehind studio plan entries changed events fault
   pub front : BreaksReport (changed_by studio plan changed) events written written_then heard
 
 -- what was written before a fault: nothing if an allocation failed at the start, else a prefix of the report

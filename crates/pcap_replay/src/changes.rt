@@ -1,5 +1,21 @@
 //! The changes of gains of a record, passed to an engine again.
-ghost use Rattle.std.specs.Prelude.{◌≡◌, ℕ, List, pos, ◌+ℤ◌, FitsSigned, IfErr, IfSome, OnErr, OnOk};
+ghost use Rattle.std.specs.Prelude.{
+  ◌≡◌,
+  ◌+◌,
+  ◌-◌,
+  ◌^◌,
+  ℕ,
+  List,
+  min,
+  pos,
+  ◌+ℤ◌,
+  FitsSigned,
+  is_some,
+  IfErr,
+  IfSome,
+  OnErr,
+  OnOk,
+};
 ghost use Rattle.std.specs.Int.{w64};
 ghost use Rattle.pcap_file.specs.RecordedChange.{change_of};
 ghost use Rattle.studio_config.specs.Studio.{Studio};
@@ -8,6 +24,7 @@ ghost use Rattle.studio_engine.specs.Session.{HasSession};
 ghost use Rattle.studio_session.specs.Event.{TraceEvent};
 ghost use Rattle.pcap_replay.specs.RecordChanges.{changes_by};
 ghost use Rattle.pcap_replay.specs.Reasons.{IsOfChange};
+ghost use Rattle.pcap_replay.specs.Causes as cause;
 
 use crate::fault::{RecordedChangeFault, ReplayFault};
 use crate::state::ReplayState;
@@ -33,6 +50,10 @@ impl ReplayState {
             datagrams) }
         ensures kept { OnErr result (self.new ≡ self.old) }
         ensures kind { IfErr result (λ fault. IsOfChange fault) }
+        ensures fault { IfErr result
+            (λ fault. cause.IsChangeFault self.old.changes self.old.engine.mixer from octets.now fault) }
+        ensures changes { OnOk result (self.new.changes
+            ≡ cause.count_on self.old.changes (changes_by from (change_of octets.now))) }
         ensures clock { self.new.clock ≡ self.old.clock }
         ensures text { self.new.text ≡ self.old.text }
         ensures count { self.new.count ≡ self.old.count }
@@ -56,7 +77,8 @@ impl ReplayState {
 
     /// Returns the fault of the next change.
     fn change_fault(&self, kind: RecordedChangeFault) -> ReplayFault
-        ensures { IsOfChange result }
+        ensures change { IsOfChange result }
+        ensures fault { result ≡ ReplayFault.Change (min (self.now.changes + 1) (2 ^ 64 - 1)) kind }
     {
         ReplayFault::Change(self.changes.saturating_add(1), kind)
     }
@@ -67,12 +89,15 @@ impl ReplayState {
 fn change_time(from: u64, head: &ChangeHead) -> Option<i64>
     ensures value { IfSome result (λ time. time ≡ pos from +ℤ head.now.at) }
     ensures fits { IfSome result (λ time. FitsSigned w64 time) }
+    ensures some { is_some result ≡ cause.fits_time from head.now.at }
 {
     i64::try_from(from).ok()?.checked_add(head.at)
 }
 
 /// Returns the kind of a refusal.
-fn kind_of(fault: ChangeFault) -> RecordedChangeFault {
+fn kind_of(fault: ChangeFault) -> RecordedChangeFault
+    ensures { result ≡ cause.kind_of fault }
+{
     match fault {
         ChangeFault::Shape => RecordedChangeFault::Shape,
         ChangeFault::Range => RecordedChangeFault::Range,

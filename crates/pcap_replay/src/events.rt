@@ -37,8 +37,9 @@ ghost use Rattle.pcap_replay.specs.Events.{events_of, events_with, read_at};
 ghost use Rattle.studio_mix.specs.Changed.{with_changes};
 ghost use Rattle.pcap_replay.specs.RecordChanges.{changed_by, changes_with};
 ghost use Rattle.pcap_replay.specs.Routing.{clock_past, longest_of, opening_of, plan_view, role_of};
-ghost use Rattle.pcap_replay.specs.Record.{closing_with};
-ghost use Rattle.pcap_replay.specs.Reasons.{IsCount, IsPathFault, refused_at};
+ghost use Rattle.pcap_replay.specs.Record.{closing_with, place_with};
+ghost use Rattle.pcap_replay.specs.Reasons.{IsCount, IsOfEvent, IsOfTurn, IsPathFault, refused_at};
+ghost use Rattle.pcap_replay.specs.Causes.{IsPacketFault, IsReadingFault, count_on, rule_at};
 ghost use Rattle.pcap_replay.specs.Replay.{
   HasGoneOver,
   HasReplayed,
@@ -88,14 +89,14 @@ impl ReplayState {
             (λ ended. (studio : Studio) (first : Option (List ℕ)) (written : Option (List ℕ)) (begun : L)
             → IsReplaying studio (plan_view plan.now) first written self.old parts.old
             (octets_of window.old) window.old.ended (R.remaining reader.old) (W.contents writer.old)
-            (L.heard begun observer.old) None
+            (L.heard begun observer.old) None 0
             → HasGoneOver studio (plan_view plan.now) first written self.new (W.contents writer.new)
-            (L.heard begun observer.new) ended.0) }
+            (L.heard begun observer.new) ended.0 ended.1) }
         ensures fault { IfErr result
             (λ fault. (studio : Studio) (first : Option (List ℕ)) (written : Option (List ℕ)) (begun : L)
             → IsReplaying studio (plan_view plan.now) first written self.old parts.old
             (octets_of window.old) window.old.ended (R.remaining reader.old) (W.contents writer.old)
-            (L.heard begun observer.old) None
+            (L.heard begun observer.old) None 0
             → StopsFile studio (plan_view plan.now) first written self.new (W.contents writer.new)
             (L.heard begun observer.new) fault) }
     {
@@ -113,7 +114,8 @@ impl ReplayState {
             closing = first_close(closing, mark);
             window.consume(len);
         }
-        Err(ReplayFault::TooManyEvents)
+        // Each record or block has an octet, so the next one would begin behind 2^63.
+        Err(ReplayFault::Capture(ReaderFault::TooLong(parts.place())))
     }
 
     /// Takes the events of the next record or block. Returns its length in octets and its mark.
@@ -129,17 +131,20 @@ impl ReplayState {
         ensures len { IfOk result (λ passed. passed.0 ≤ length (octets_of window.now)) }
         ensures ok { IfOk result
             (λ passed. (studio : Studio) (first : Option (List ℕ)) (written : Option (List ℕ))
-            (begun : L) (left : Option (List ℕ)) (closing : Option ℕ)
+            (begun : L) (left : Option (List ℕ)) (closing : Option ℕ) (close_place : ℕ)
             → IsReplaying studio (plan_view plan.now) first written self.old parts.old
             (octets_of window.now) window.now.ended left (W.contents writer.old) (L.heard begun observer.old) closing
+            close_place
             → IsReplaying studio (plan_view plan.now) first written self.new parts.new
             (drop passed.0 (octets_of window.now)) window.now.ended left (W.contents writer.new)
-            (L.heard begun observer.new) (closing_with closing passed.1)) }
+            (L.heard begun observer.new) (closing_with closing passed.1)
+            (place_with closing close_place parts.old.place)) }
         ensures fault { IfErr result
             (λ fault. (studio : Studio) (first : Option (List ℕ)) (written : Option (List ℕ)) (begun : L)
-            (left : Option (List ℕ)) (closing : Option ℕ)
+            (left : Option (List ℕ)) (closing : Option ℕ) (close_place : ℕ)
             → IsReplaying studio (plan_view plan.now) first written self.old parts.old
             (octets_of window.now) window.now.ended left (W.contents writer.old) (L.heard begun observer.old) closing
+            close_place
             → StopsFile studio (plan_view plan.now) first written self.new (W.contents writer.new)
             (L.heard begun observer.new) fault) }
     {
@@ -176,6 +181,9 @@ impl ReplayState {
             (events_of studio (plan_view plan.now) (packets ++ packets_in part.now)) written self.new
             (W.contents writer.new) (L.heard begun observer.new) fault) }
         ensures kind { IfErr result (λ fault. IsOwn fault) }
+        ensures cause { IfErr result (λ fault. (packet : PacketView) × (packets_in part.now ≡ packet ∷ [])
+            × IsPacketFault (rule_at (plan_view plan.now) place) self.old.clock self.old.changes self.new.engine.mixer
+            packet (role_of (plan_view plan.now) packet) fault) }
     {
         match part.packet {
             Some(packet) => self.take(plan, place, &packet, writer, observer),
@@ -215,6 +223,12 @@ impl ReplayState {
             (events_with studio.open_at (opening_of (plan_view plan.now)) self.old.clock events (packet_view packet.now)
             (role_of (plan_view plan.now) (packet_view packet.now))) written self.new (W.contents writer.new)
             (L.heard begun observer.new) fault) }
+        ensures cause { IfErr result (λ fault. IsPacketFault (rule_at (plan_view plan.now) place) self.old.clock
+            self.old.changes self.new.engine.mixer (packet_view packet.now)
+            (role_of (plan_view plan.now) (packet_view packet.now)) fault) }
+        ensures changes { OnOk result (self.new.changes
+            ≡ count_on self.old.changes (changes_with (opening_of (plan_view plan.now)) (packet_view packet.now)
+            (role_of (plan_view plan.now) (packet_view packet.now)))) }
     {
         let rule = ReadingRule {
             from: plan.opening(),
@@ -254,6 +268,9 @@ impl ReplayState {
             → Stops studio
             (events_with studio.open_at rule.from self.old.clock events (packet_view packet.now)
             (PacketRole.Arrival target)) written self.new (W.contents writer.new) (L.heard begun observer.new) fault) }
+        ensures cause { IfErr result (λ fault. IsPacketFault rule self.old.clock self.old.changes self.new.engine.mixer
+            (packet_view packet.now) (PacketRole.Arrival target) fault) }
+        ensures changes { OnOk result (self.new.changes ≡ self.old.changes) }
     {
         self.read(rule, packet.time, writer, observer)?;
         self.arrive(target, datagram_octets(packet), observer)
@@ -284,6 +301,10 @@ impl ReplayState {
             → Stops studio
             (events_with studio.open_at rule.from self.old.clock events (packet_view packet.now) PacketRole.Change)
             written self.new (W.contents writer.new) (L.heard begun observer.new) fault) }
+        ensures cause { IfErr result (λ fault. IsPacketFault rule self.old.clock self.old.changes self.new.engine.mixer
+            (packet_view packet.now) PacketRole.Change fault) }
+        ensures changes { OnOk result (self.new.changes
+            ≡ count_on self.old.changes (changes_with rule.from (packet_view packet.now) PacketRole.Change)) }
     {
         self.read(rule, packet.time, writer, observer)?;
         self.change(rule.from, datagram_octets(packet))
@@ -315,6 +336,9 @@ impl ReplayState {
             (read_at studio.open_at rule.from events self.old.clock.reading
             (clock_with self.old.clock time).reading) written self.new (W.contents writer.new)
             (L.heard begun observer.new) fault) }
+        ensures jump { IfErr result
+            (λ fault. IsReadingFault rule self.old.clock (clock_with self.old.clock time) fault) }
+        ensures changes { self.new.changes ≡ self.old.changes }
     {
         let earlier = self.clock.reading();
         self.clock.read(time);
@@ -349,6 +373,8 @@ impl ReplayState {
             → HasReplayed studio events written self.old (W.contents writer.old) (L.heard begun observer.old)
             → Stops studio (turned (time_at studio.open_at events) (pos (from + reading)) events) written self.new
             (W.contents writer.new) (L.heard begun observer.new) fault) }
+        ensures of_turn { IfErr result (λ fault. IsOfTurn fault) }
+        ensures changes { self.new.changes ≡ self.old.changes }
     {
         let time = self.engine.time();
         let Some(now) = instants_at(from, reading) else {
@@ -382,7 +408,9 @@ impl ReplayState {
             → Stops studio (events ++ Arrival target.stream target.path octets.now ∷ []) written self.new written_then
             (L.heard begun observer.new) fault) }
         ensures kind { IfErr result (λ fault. IsRun fault) }
+        ensures of_event { IfErr result (λ fault. IsOfEvent fault) }
         ensures clock { self.new.clock ≡ self.old.clock }
+        ensures changes { self.new.changes ≡ self.old.changes }
     {
         // A route's letter may be that of no path.
         let Some(path) = Path::new(target.path) else {
@@ -416,7 +444,9 @@ impl ReplayState {
 
 /// Returns the place of the block with the first mark of a close, by that of the blocks so far and the place of one
 /// more block. If no block has a mark it is the last one's.
-fn place_of_close(closing: Option<u64>, so_far: usize, place: usize) -> usize {
+fn place_of_close(closing: Option<u64>, so_far: usize, place: usize) -> usize
+    ensures { result ≡ place_with closing so_far place }
+{
     match closing {
         Some(_) => so_far,
         None => place,

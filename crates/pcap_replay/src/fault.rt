@@ -27,7 +27,7 @@ pub enum ReplayFault {
     /// block, and the length of the step in seconds, rounded up.
     #[error("capture octet {0}: time jumps by {1} s; --gap allows it")]
     Jump(usize, u64),
-    /// The capture has more than 2^62 events.
+    /// The capture has more than 2^62 events. Its file then has at least 2^60 octets.
     #[error("capture: too many events")]
     TooManyEvents,
     /// A write failed, or took no octet.
@@ -35,10 +35,11 @@ pub enum ReplayFault {
     Write,
 }
 
-/// The fault of a recorded change of gains: the first of these that holds. Its text is the kind's word.
+/// The fault of a recorded change of gains: the first of these that holds. Only a time that does not fit 64 bits is
+/// `Time` whatever the gains are. Its text is the kind's word.
 #[derive(Clone, Copy, Debug, PartialEq, Eq, Error)]
 pub enum RecordedChangeFault {
-    /// The packet's payload is that of no change.
+    /// The packet's payload is that of no change, or of one with more than 8,192 gains.
     #[error("octets")]
     Octets,
     /// The gains are not as many as those of the studio's matrix.

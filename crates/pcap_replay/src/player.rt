@@ -1,5 +1,22 @@
 //! A whole replay, from the octets of a capture to those of its report.
-ghost use Rattle.std.specs.Prelude.{◌≡◌, ◌≤◌, ◌++◌, ◌∷◌, ℕ, List, Option, [], None, length, IfOk, IfErr, OnOk, OnErr};
+ghost use Rattle.std.specs.Prelude.{
+  ◌≡◌,
+  ◌≤◌,
+  ◌^◌,
+  ◌++◌,
+  ◌∷◌,
+  ℕ,
+  List,
+  Option,
+  [],
+  None,
+  length,
+  IfOk,
+  IfErr,
+  IfSome,
+  OnOk,
+  OnErr,
+};
 ghost use Rattle.studio_session.specs.Event.{TraceEvent, Closing};
 ghost use Rattle.studio_run.specs.Play.{WritesEvents};
 ghost use Rattle.studio_run.specs.StudioReport.{IsReport};
@@ -55,6 +72,8 @@ pub fn replay<R: Read, W: Write, L: ReplayObserver>(
     ensures fault { IfErr result
         (λ fault. BreaksOffReplay spec.now (Flows routes.now) (R.remaining reader.old) (W.contents writer.old)
         (W.contents writer.new) (L.heard observer.old observer.new) fault) }
+    ensures few { IfErr result (λ fault. fault ≡ ReplayFault.TooManyEvents
+        → IfSome (R.remaining reader.old) (λ file. 2 ^ 60 ≤ length file)) }
 {
     let plan = Routing::Flows(routes);
     match replay_routed(alloc, spec, &plan, reader, writer, observer) {
@@ -90,6 +109,8 @@ pub fn replay_record<R: Read, W: Write, L: ReplayObserver>(
     ensures fault { IfErr result
         (λ fault. BreaksOffReplay spec.now (places_of spec.now changes longest) (R.remaining reader.old)
         (W.contents writer.old) (W.contents writer.new) (L.heard observer.old observer.new) fault) }
+    ensures few { IfErr result (λ fault. fault ≡ ReplayFault.TooManyEvents
+        → IfSome (R.remaining reader.old) (λ file. 2 ^ 60 ≤ length file)) }
 {
     let plan = Routing::Interfaces {
         streams: spec.streams(),
@@ -123,6 +144,8 @@ fn replay_routed<R: Read, W: Write, L: ReplayObserver>(
     ensures fault { IfErr result
         (λ fault. BreaksOffReplay spec.now (plan_view plan.now) (R.remaining reader.old) (W.contents writer.old)
         (W.contents writer.new) (L.heard observer.old observer.new) fault) }
+    ensures few { IfErr result (λ fault. fault ≡ ReplayFault.TooManyEvents
+        → IfSome (R.remaining reader.old) (λ file. 2 ^ 60 ≤ length file)) }
 {
     // All memory is taken before the first write, so an allocation failure leaves nothing written.
     let mut run = ReplayState::new(alloc, spec, plan)?;
@@ -141,6 +164,7 @@ impl ReplayState {
     fn new(alloc: Global, spec: &StudioSpec, plan: &Routing<'_>) -> Result<ReplayState, AllocError>
         ensures begun { IfOk result (λ run. HasBegun spec.now run) }
         ensures clock { IfOk result (λ run. run.clock ≡ clock_before (plan_view plan.now)) }
+        ensures changes { IfOk result (λ run. run.changes ≡ 0) }
     {
         // Only for its clause: a studio opens at time 0 or later.
         let _ = spec.open_at();
@@ -168,14 +192,14 @@ impl ReplayState {
         ensures ok { OnOk result ((studio : Studio) (first : Option (List ℕ)) (written : Option (List ℕ)) (begun : L)
             → IsReplaying studio (plan_view plan.now) first written self.old parts.old
             (octets_of window.old) window.old.ended (R.remaining reader.old) (W.contents writer.old)
-            (L.heard begun observer.old) None
+            (L.heard begun observer.old) None 0
             → HasComeToClose studio (plan_view plan.now) first written self.new (W.contents writer.new)
             (L.heard begun observer.new)) }
         ensures fault { IfErr result
             (λ fault. (studio : Studio) (first : Option (List ℕ)) (written : Option (List ℕ)) (begun : L)
             → IsReplaying studio (plan_view plan.now) first written self.old parts.old
             (octets_of window.old) window.old.ended (R.remaining reader.old) (W.contents writer.old)
-            (L.heard begun observer.old) None
+            (L.heard begun observer.old) None 0
             → StopsFile studio (plan_view plan.now) first written self.new (W.contents writer.new)
             (L.heard begun observer.new) fault) }
     {

@@ -38,3 +38,6 @@ returns-clause-fault g c =
     ap (λ l. Interfaces l c.instants_of.result changes longest) c.streams.ensures.value ∙ ap (λ n. Interfaces spec.streams n changes longest) (c.instants_of.ensures ∙ ap natural (bits ∙ c.open_at.ensures.value)) in
     err_then c.replay_routed.result (λ (fault : ReplayFault). BreaksOffReplay spec (Interfaces c.streams.result.now c.instants_of.result changes longest) first written then heard fault) (λ (fault : ReplayFault). BreaksOffReplay spec (places_of spec changes longest) first written then heard fault)
     (λ fault breaks. subst (λ (plan : PlanView). BreaksOffReplay spec plan first written then heard fault) same breaks) c.replay_routed.ensures.fault
+
+pub returns-clause-few : goal.returns-clause-few
+returns-clause-few g c = c.replay_routed.ensures.few

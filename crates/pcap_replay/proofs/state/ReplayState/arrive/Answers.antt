@@ -3,10 +3,10 @@ use Rattle.studio_session.specs.Event.{Arrival, TraceEvent}
 use Rattle.studio_session.proofs.FaultLemmas.{closed_more}
 use Rattle.studio_engine.specs.Session.{HasSession}
 use Rattle.studio_engine.specs.Engine.{EngineState, arrive_fault_of}
-use Rattle.pcap_replay.specs.Reasons.{IsFirstFault}
+use Rattle.pcap_replay.specs.Reasons.{IsFirstFault, IsOfEvent}
 use Rattle.pcap_replay.specs.Replay.{IsRun}
 use Rattle.pcap_replay.proofs.EventLemmas.{first_more}
-use Rattle.pcap_replay.proofs.ReasonLemmas.{arrival_few, count_arrival, path_first, path_run, refused_first, refused_run}
+use Rattle.pcap_replay.proofs.ReasonLemmas.{arrival_few, count_arrival, path_event, path_first, path_run, refused_event, refused_first, refused_run}
 use Rattle.pcap_replay.proofs.ReplayLemmas.{stops_at_run, streams_of_session}
 use Rattle.pcap_replay.proofs.state.ReplayState.arrive.Goals as goal
 
@@ -77,3 +77,11 @@ returns-in-Err-clause-fault g c = λ studio events written then begun r.
 
 pub returns-in-Err-clause-kind : goal.returns-in-Err-clause-kind
 returns-in-Err-clause-kind g c = subst IsRun (sym c.fault_at.ensures) (refused_run c.args.self.now.count c.in-Err.fault)
+
+pub returns-in_default-clause-of_event : goal.returns-in_default-clause-of_event
+returns-in_default-clause-of_event g c =
+    let past : 4 ≤ c.args.target.path = search rules in
+    path_event c.args.self.now.count c.args.target.path _ c.path_fault_of.result (c.path_fault_of.ensures c.args.target.path past)
+
+pub returns-in-Err-clause-of_event : goal.returns-in-Err-clause-of_event
+returns-in-Err-clause-of_event g c = subst IsOfEvent (sym c.fault_at.ensures) (refused_event c.args.self.now.count c.in-Err.fault)

@@ -1,4 +1,4 @@
-use Rattle.std.proofs.Common.{◌≡◌, ◌+◌, pos, nat_lt, true, if◌then◌else◌, sym, ap, subst, ◌∙◌, arith}
+use Rattle.std.proofs.Common.{◌≡◌, ◌+◌, ◌-◌, refl, pos, nat_lt, true, if◌then◌else◌, sym, ap, subst, ◌∙◌, arith}
 use Rattle.std.proofs.lemmas.Bool.Decides.{nat_tests}
 use Rattle.pcap_flows.specs.declared.import.clock.CaptureClock.{CaptureClock}
 use Rattle.studio_session.specs.Fault.{time_at}
@@ -6,6 +6,8 @@ use Rattle.studio_engine.specs.Session.{turned}
 use Rattle.pcap_replay.specs.Replay.{Stops}
 use Rattle.pcap_replay.proofs.CaseLemmas.{err_then}
 use Rattle.pcap_flows.specs.Clock.{clock_with}
+use Rattle.std.specs.Int.{div_ceil}
+use Rattle.pcap_replay.proofs.CauseLemmas.{turn_reading}
 use Rattle.pcap_replay.proofs.EventLemmas.{first_read}
 use Rattle.pcap_replay.proofs.state.ReplayState.read.Goals as goal
 
@@ -33,3 +35,22 @@ returns-clause-fault g c =
     subst (λ b. Stops studio (if b then turned before (pos (c.args.rule.from + now.reading)) events else events) written c.turn.new.self last heard fault) (sym less)
     (subst (λ n. Stops studio (turned before (pos (c.args.rule.from + n)) events) written c.turn.new.self last heard fault) reading
     (stops studio events written begun (record { datagrams = r.datagrams; session = r.session; idle = r.idle; open_yet = r.open_yet; counted = r.counted; wrote = r.wrote; told = r.told })))) c.turn.ensures.fault
+
+-- its fault has the rule's place, and the length of the step
+pub returns-then-step-rule-clause-jump : goal.returns-then-step-rule-clause-jump
+returns-then-step-rule-clause-jump g c =
+    let clock = c.args.self.now.clock in
+    let now = clock_with clock c.args.time in
+    let earlier : c.reading-earlier.result ≡ clock.reading = c.reading-earlier.ensures in
+    let reading : c.reading-reading.result ≡ now.reading = c.reading-reading.ensures ∙ ap (λ (k : CaptureClock). k.reading) c.read.ensures in
+    let far = c.if-step-rule.true in (
+      refl,
+      record {
+        long = grind (arith, nat_tests, earlier, reading, far);
+        rounded = c.div_ceil.ensures ∙ ap (λ n. div_ceil (n - c.reading-earlier.result) 48000) reading ∙ ap (λ n. div_ceil (now.reading - n) 48000) earlier;
+      },
+    )
+
+pub returns-clause-jump : goal.returns-clause-jump
+returns-clause-jump g c =
+    err_then c.turn.result _ _ (λ fault is. turn_reading c.args.rule c.args.self.now.clock (clock_with c.args.self.now.clock c.args.time) fault is) c.turn.ensures.of_turn

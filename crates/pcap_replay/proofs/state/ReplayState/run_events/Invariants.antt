@@ -8,5 +8,5 @@ use Rattle.pcap_replay.proofs.state.ReplayState.run_events.Given as goal
 -- the packets so far were replayed
 abbrev pub invariant-parts : goal.invariant-parts
 invariant-parts g l = (studio : Studio) (first : Option (List ℕ)) (written : Option (List ℕ)) (begun : g.row.L.Denot)
-    → IsReplaying studio (plan_view l.plan) first written l.fn.self l.fn.parts (octets_of l.fn.window) l.fn.window.ended (g.R.Read.remaining l.fn.reader) (g.W.Write.contents l.fn.writer) (g.L.ReplayObserver.heard begun l.fn.observer) None
-    → IsReplaying studio (plan_view l.plan) first written l.self l.parts (octets_of l.window) l.window.ended (g.R.Read.remaining l.reader) (g.W.Write.contents l.writer) (g.L.ReplayObserver.heard begun l.observer) l.closing
+    → IsReplaying studio (plan_view l.plan) first written l.fn.self l.fn.parts (octets_of l.fn.window) l.fn.window.ended (g.R.Read.remaining l.fn.reader) (g.W.Write.contents l.fn.writer) (g.L.ReplayObserver.heard begun l.fn.observer) None 0
+    → IsReplaying studio (plan_view l.plan) first written l.self l.parts (octets_of l.window) l.window.ended (g.R.Read.remaining l.reader) (g.W.Write.contents l.writer) (g.L.ReplayObserver.heard begun l.observer) l.closing l.closing_place

@@ -1,4 +1,4 @@
-use Rattle.std.proofs.Common.{◌≡◌, Err, refl, sym, subst, rules}
+use Rattle.std.proofs.Common.{◌≡◌, ◌∙◌, ℕ, List, Err, refl, sym, ap, subst, rules}
 use Rattle.pcap_file.specs.Packet.{packet_view}
 use Rattle.pcap_file.specs.RecordedChange.{change_of}
 use Rattle.pcap_flows.specs.Clock.{clock_with}
@@ -8,6 +8,10 @@ use Rattle.pcap_replay.specs.RecordChanges.{changes_by}
 use Rattle.pcap_replay.specs.Replay.{HasReplayed}
 use Rattle.pcap_replay.specs.declared.state.ReplayState.{ReplayState}
 use Rattle.pcap_replay.proofs.CaseLemmas.{err_then, ok_then, own_fault}
+use Rattle.pcap_flows.specs.Trace.{octets_of}
+use Rattle.pcap_replay.specs.Causes.{IsChangeFault, count_on}
+use Rattle.pcap_replay.specs.declared.routing.PacketRole.TheVariants as role
+use Rattle.pcap_replay.proofs.CauseLemmas.{change_packet, reading_packet}
 use Rattle.pcap_replay.proofs.EventLemmas.{first_same}
 use Rattle.pcap_replay.proofs.ReasonLemmas.{change_reason, change_run}
 use Rattle.pcap_replay.proofs.ReplayLemmas.{gains_replayed, own_run, stops_at_run}
@@ -49,3 +53,30 @@ returns-clause-fault g c =
           (subst (λ (run : ReplayState). HasReplayed studio before written run last heard) (sym kind.1) now);
       reason = change_reason studio before fault kind.0;
     }) c.change.ensures.kind c.change.ensures.kept
+
+pub returns-in_err-read-clause-cause : goal.returns-in_err-read-clause-cause
+returns-in_err-read-clause-cause g c =
+    let fault = c.in_err-read.field-0.0 in
+    let is : c.from_residual.result ≡ Err fault = search rules in
+    let clock = c.args.self.now.clock in
+    rw is (reading_packet c.args.rule clock c.args.self.now.changes c.read.new.self.engine.mixer (packet_view c.args.packet.now) role.Change (clock_with clock c.args.packet.now.time) fault refl c.in_err-read.ensures.jump)
+
+pub returns-clause-cause : goal.returns-clause-cause
+returns-clause-cause g c =
+    let packet = packet_view c.args.packet.now in
+    let from = c.args.rule.from in
+    let octets = octets_of packet.ip.body in
+    let count = c.args.self.now.changes in
+    let read = c.read.new.self in
+    own_fault c.change.result _ (λ fault both.
+    change_packet c.args.rule c.args.self.now.clock count c.change.new.self.engine.mixer packet fault
+    (subst (λ (run : ReplayState). IsChangeFault count run.engine.mixer from octets fault) (sym both.1)
+    (subst (λ (n : ℕ). IsChangeFault n read.engine.mixer from octets fault) c.read.ensures.changes
+    (subst (λ (l : List ℕ). IsChangeFault read.changes read.engine.mixer from l fault) c.datagram_octets.ensures both.0)))) c.change.ensures.fault c.change.ensures.kept
+
+pub returns-clause-changes : goal.returns-clause-changes
+returns-clause-changes g c =
+    let from = c.args.rule.from in
+    ok_then c.change.result _ _ (λ is.
+    is ∙ ap (λ n. count_on n (changes_by from (change_of c.datagram_octets.result.now))) c.read.ensures.changes
+    ∙ ap (λ l. count_on c.args.self.now.changes (changes_by from (change_of l))) c.datagram_octets.ensures) c.change.ensures.changes
