@@ -7,6 +7,7 @@ pub mod Links
 pub mod MixSpans
 pub mod MixTimes
 pub mod Names
+pub mod Paths
 pub mod Ports
 pub mod ReceivePace
 pub mod RecordBlocks

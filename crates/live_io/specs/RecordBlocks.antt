@@ -1,5 +1,5 @@
 -- The blocks that were sent to a record's ring.
-use Rattle.std.specs.Prelude.{◌≡◌, ◌⊎◌, ◌<◌, ℕ, zero, suc, ◌+◌, Bool, List, [], ◌∷◌, ◌++◌, length, sum_by, ℤ, pos, ◌+ℤ◌, ◌-ℤ◌, FitsSigned, Option, Some, None, true, false}
+use Rattle.std.specs.Prelude.{◌≡◌, ◌⊎◌, ◌<◌, ℕ, zero, suc, ◌+◌, Bool, List, [], ◌∷◌, ◌++◌, length, ℤ, pos, ◌+ℤ◌, ◌-ℤ◌, FitsSigned, Option, Some, None, true, false}
 use Rattle.std.specs.Int.{w64}
 use Rattle.std.specs.Net.Addr.{ipv4_octets}
 use Rattle.rtrb.specs.Ring.{known_free, sent}
@@ -13,6 +13,7 @@ use Rattle.rtp_wire.specs.declared.encoding.Enc.{Enc}
 use Rattle.rtp_wire.specs.declared.encoding.Enc.TheVariants.{L16, L24}
 use Rattle.rtp_stream.specs.declared.stream_spec.Stream.{Stream}
 use Rattle.studio_config.specs.Studio.{Studio}
+use Rattle.live_io.specs.Paths.{path_total}
 use Rattle.live_io.specs.declared.record.block_producer.BlockProducer.{BlockProducer}
 use Rattle.live_io.specs.declared.record.observer.RecordObserver.{RecordObserver}
 use Rattle.run_outputs.specs.declared.events.DatagramOrigin.{DatagramOrigin}
@@ -126,10 +127,6 @@ LacksSpace octets end = (end.end ≡ Some Slow) × (known_free end.ring < length
 -- if the record had not ended: these octets were sent; or not all of them, because there was no space
 abbrev pub Sends : BlockProducer → List ℕ → BlockProducer → Type 0
 Sends old octets new = old.end ≡ None → ((new.end ≡ None) × (sent new.ring ≡ sent old.ring ++ octets)) ⊎ LacksSpace octets new
-
--- the number of paths of all streams
-abbrev pub path_total : List Stream → ℕ
-path_total streams = sum_by (λ (stream : Stream). stream.paths) streams
 
 -- the interface for changes of gains is behind those of all paths, if the gains of the run can be changed
 abbrev pub gains_blocks : Bool → List ℕ

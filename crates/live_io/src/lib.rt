@@ -25,6 +25,7 @@
 
 mod clock;
 mod descriptors;
+mod path_count;
 mod record;
 mod sockets;
 mod tai;

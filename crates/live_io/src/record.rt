@@ -2,10 +2,12 @@
 //! its own, which writes to a `file`. `block_producer` puts the observer's blocks into the ring between them. `output`
 //! makes the record an output of a run.
 ghost use Rattle.std.specs.Prelude.{◌≡◌, [], Some, IfOk};
-ghost use Rattle.live_io.specs.RecordBlocks.{Opens, gains_interface_of, path_total};
+ghost use Rattle.live_io.specs.Paths.{path_total};
+ghost use Rattle.live_io.specs.RecordBlocks.{Opens, gains_interface_of};
 ghost use Rattle.live_io.specs.RecordWriter.{HasWritten};
 
-use crate::record::observer::{RecordObserver, path_count};
+use crate::path_count::path_count;
+use crate::record::observer::RecordObserver;
 use crate::record::writer::RecordWriter;
 use rtrb::RingBuffer;
 use std::alloc::{AllocError, Global};

@@ -2,6 +2,7 @@
 //! Worked cases over public calls.
 //!
 //! - `sockets`: sockets that fail or are empty, the kernel's table of sockets, and the opening of a live run.
+//! - `sends`: the two copies of the mix, and what their sockets did not take.
 //! - `hold_ups`: calls of a feed that are held up, and datagrams that are too long.
 //! - `records`: the octets of a record as `pcap_file` writes them, and what it reads in them.
 //! - `statistics`: the statistics of `rtp_stats`, call by call.
@@ -14,6 +15,8 @@ mod drift;
 mod hold_ups;
 #[cfg(test)]
 mod records;
+#[cfg(test)]
+mod sends;
 #[cfg(test)]
 mod sockets;
 #[cfg(test)]

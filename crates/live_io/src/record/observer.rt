@@ -18,12 +18,12 @@ ghost use Rattle.live_io.specs.RecordBlocks.{
   gains_blocks,
   gains_interface_of,
   path_blocks,
-  path_total,
   recorded_of,
   row_blocks,
   stream_blocks,
 };
 
+use crate::path_count::path_count;
 use crate::record::block_producer::BlockProducer;
 use pcap_file::{
     MAX_DATAGRAM_LEN, MAX_RECORDED_GAINS, RecordedChange, RecordedDatagram, RecordedStream,
@@ -241,18 +241,6 @@ fn opening_of(open_at: i64) -> u64
 {
     // A studio's opening time is not below 0, so the 0 is never used.
     u64::try_from(open_at).unwrap_or(0)
-}
-
-/// Returns the number of paths that the streams have.
-pub(crate) fn path_count(streams: &[StreamSpec]) -> u32
-    requires few { length streams.now ≤ 16 }
-    ensures { result ≡ path_total streams.now }
-{
-    let mut count = 0;
-    for number in 0..streams.len() {
-        count += u32::from(streams[number].paths());
-    }
-    count
 }
 
 /// Puts the description of the interface for changes of gains, if these can be changed. Returns its number, which is

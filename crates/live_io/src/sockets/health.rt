@@ -1,5 +1,8 @@
 //! The health of a run's sockets: what the feeds and the sink count, and other threads read.
+ghost use Rattle.std.specs.Prelude.{◌≡◌, vec_len, IfOk};
+ghost use Rattle.live_io.specs.Paths.{path_total};
 
+use crate::path_count::path_count;
 use crate::sockets::mix_times::MixProgress;
 use std::alloc::{AllocError, Global};
 use std::io;
@@ -25,12 +28,12 @@ pub struct RunHealth {
 
 impl RunHealth {
     /// Returns the health of a studio's sockets, none of which has failed. Returns `AllocError` if an allocation fails.
-    pub fn new(alloc: Global, studio: &StudioSpec) -> Result<RunHealth, AllocError> {
+    pub fn new(alloc: Global, studio: &StudioSpec) -> Result<RunHealth, AllocError>
+        ensures paths { IfOk result (λ health. vec_len health.paths ≡ path_total studio.now.streams) }
+    {
         let mut paths = Vec::new(alloc);
-        for stream in studio.streams() {
-            for _ in 0..stream.paths() {
-                paths.push(SocketHealth::new())?;
-            }
+        for _ in 0..path_count(studio.streams()) {
+            paths.push(SocketHealth::new())?;
         }
         Ok(RunHealth {
             paths,
@@ -41,7 +44,9 @@ impl RunHealth {
     }
 
     /// Returns the health of the socket of each path, ordered by stream and then by path.
-    pub fn paths(&self) -> &[SocketHealth] {
+    pub fn paths(&self) -> &[SocketHealth]
+        ensures { result.now ≡ self.now.paths.items }
+    {
         self.paths.as_slice()
     }
 
@@ -195,7 +200,7 @@ pub struct SendHealth {
 
 impl SendHealth {
     /// Returns the health of sockets whose sends have not failed.
-    pub(crate) fn new() -> SendHealth {
+    pub fn new() -> SendHealth {
         SendHealth {
             failed_a: AtomicU64::new(0),
             failed_b: AtomicU64::new(0),

@@ -1,5 +1,8 @@
 //! The counts of datagrams from unexpected sources: from another address than the path's source.
+ghost use Rattle.std.specs.Prelude.{◌≡◌, vec_len, IfOk};
+ghost use Rattle.live_io.specs.Paths.{path_total};
 
+use crate::path_count::path_count;
 use std::alloc::{AllocError, Global};
 use std::net::{IpAddr, Ipv4Addr, SocketAddr};
 use std::sync::atomic::{AtomicU64, Ordering};
@@ -14,12 +17,12 @@ pub struct UnexpectedSources {
 
 impl UnexpectedSources {
     /// Returns counts of 0 for each path of a studio. Returns `AllocError` if an allocation fails.
-    pub fn new(alloc: Global, studio: &StudioSpec) -> Result<UnexpectedSources, AllocError> {
+    pub fn new(alloc: Global, studio: &StudioSpec) -> Result<UnexpectedSources, AllocError>
+        ensures { IfOk result (λ sources. vec_len sources.counts ≡ path_total studio.now.streams) }
+    {
         let mut counts = Vec::new(alloc);
-        for stream in studio.streams() {
-            for _ in 0..stream.paths() {
-                counts.push(AtomicU64::new(0))?;
-            }
+        for _ in 0..path_count(studio.streams()) {
+            counts.push(AtomicU64::new(0))?;
         }
         Ok(UnexpectedSources { counts })
     }

@@ -1,6 +1,6 @@
 use Rattle.std.proofs.Common.{◌≡◌, ◌≤◌, ◌*◌, take}
-use Rattle.live_io.specs.RecordBlocks.{path_total}
-use Rattle.live_io.proofs.record.observer.path_count.Given as goal
+use Rattle.live_io.specs.Paths.{path_total}
+use Rattle.live_io.proofs.path_count.path_count.Given as goal
 
 -- the paths of the streams so far, at most 4 each
 abbrev pub invariant-loop-number : goal.invariant-loop-number
