@@ -1,4 +1,5 @@
 pub mod Each
+mod PathSecondCases
 pub mod FilledHealth
 pub mod SnapshotLines
 pub mod ShownSnapshots

@@ -7,6 +7,8 @@ pub mod Outputs
 pub mod SignalPresence
 pub mod Conditions
 pub mod StreamStatus
+pub mod Counts
+pub mod PathSeconds
 pub mod Watch
 pub mod StreamWatch
 pub mod Publisher

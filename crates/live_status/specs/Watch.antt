@@ -1,30 +1,16 @@
 -- The state of paths in a snapshot, by their arrival margins, and by the times at which their packets arrived in time,
 -- late or too early.
-use Rattle.std.specs.Prelude.{◌≡◌, ℕ, ◌+◌, ◌-◌, ◌^◌, max, min, nat_lt, Bool, true, false, not, ◌&&◌, ◌==◌, List, [], fold, slice_get, ℤ, pos, ◌+ℤ◌, int_le, Option, Some, None, option_map, MatchOption, if◌then◌else◌}
+use Rattle.std.specs.Prelude.{◌≡◌, ℕ, max, nat_lt, Bool, true, false, not, ◌&&◌, List, [], fold, slice_get, ℤ, Option, Some, None, option_map, MatchOption, if◌then◌else◌}
 use Rattle.rtp_stats.specs.Drift.{MinuteState, drift_of, minute_after, minute_from}
 use Rattle.rtp_stats.specs.Margins.{second_of}
 use Rattle.rtp_stats.specs.declared.drift.Drift.{Drift}
 use Rattle.rtp_stats.specs.declared.arrival_margin.ArrivalMargin.{ArrivalMargin}
 use Rattle.status_page.specs.declared.snapshot.CopyCounts.{CopyCounts}
 use Rattle.status_page.specs.declared.snapshot.PathState.{PathState}
+use Rattle.live_status.specs.Counts.{count_after, in_time_of, is_still, sum_in_64_bits}
+use Rattle.live_status.specs.PathSeconds.{condition_at, new_second_watch, watch_after}
 use Rattle.live_status.specs.declared.reception_watch.count_watch.CountWatch.{CountWatch}
 use Rattle.live_status.specs.declared.reception_watch.arrival_watch.ArrivalWatch.{ArrivalWatch}
-
--- a count, with the time since which it has not changed
-abbrev pub count_after : ℕ → ℤ → CountWatch → CountWatch
-count_after count now watch = if count == watch.count then watch else record { count = count; since = now }
-
--- the count has not changed for two seconds
-abbrev pub is_still : CountWatch → ℤ → Bool
-is_still watch now = int_le (watch.since +ℤ pos 96000) now
-
--- the sum in a counter of 64 bits
-abbrev pub sum_in_64_bits : ℕ → ℕ → ℕ
-sum_in_64_bits a b = min (a + b) (2 ^ 64 - 1)
-
--- the packets of a path that arrived in time: first copies and further ones
-abbrev pub in_time_of : ℕ → CopyCounts → ℕ
-in_time_of first copies = sum_in_64_bits (sum_in_64_bits first copies.double) copies.unlike
 
 -- the packets of a path that were late or too early
 abbrev pub astray_of : CopyCounts → ℕ
@@ -50,6 +36,8 @@ new_arrival_watch now = record {
   minute = record { next = 0; margins = [] };
   in_time = record { count = 0; since = now };
   astray = record { count = 0; since = now };
+  second = new_second_watch now;
+  condition = None;
   drift = None;
   is_in_time = false;
   is_astray = false;
@@ -68,6 +56,8 @@ pub record IsNoted (now : ℤ) (window_span : ℕ) (begins : Bool) (path : PathS
   pub minute_is : new.minute ≡ minute_noted (second_of now) begins path.spare old.minute
   pub in_time_is : new.in_time ≡ in_time_count path.copies path.first now old.in_time
   pub astray_is : new.astray ≡ astray_count path.copies now old.astray
+  pub second_is : new.second ≡ watch_after path now path.copies old.second
+  pub condition_is : new.condition ≡ condition_at new.second now path.socket path.copies
   pub drift_is : new.drift ≡ drift_of (second_of now) window_span new.minute.margins
   pub in_time : new.is_in_time ≡ not (is_still new.in_time now)
   pub astray : new.is_astray ≡ is_astray new.in_time new.astray now
@@ -87,6 +77,7 @@ is_repeating has_ended others copies = if has_ended then false else (if others t
 -- the path in a snapshot, by its watch
 abbrev pub shown_path : Bool → Bool → ArrivalWatch → PathState → PathState
 shown_path has_ended others watch path = record path {
+  condition = watch.condition;
   drift = option_map (λ drift. drift.ppm) watch.drift;
   is_astray = not has_ended && watch.is_astray;
   is_repeating = is_repeating has_ended others path.copies;

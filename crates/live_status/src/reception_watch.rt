@@ -1,6 +1,6 @@
-//! The watch of all streams: the drift of each path, the time that is left, and paths without a packet in time.
-//! `stream_watch` has the watch of a stream, `path_watch` of a path, and `count_watch` the time since which a count
-//! stays.
+//! The watch of all streams: the condition and the drift of each path, the time that is left, and paths without a
+//! packet in time. `stream_watch` has the watch of a stream, `arrival_watch` of a path, `second_watch` of what comes on
+//! it second by second, and `count_watch` the time since which a count stays.
 ghost use Rattle.std.specs.Prelude.{IfOk};
 ghost use Rattle.live_status.specs.Each.{AreEach};
 ghost use Rattle.live_status.specs.StreamWatch.{IsNewWatchAt, NotesStreamAt, ShowsWatchAt};
@@ -12,6 +12,7 @@ use std::alloc::{AllocError, Global};
 
 mod arrival_watch;
 mod count_watch;
+mod second_watch;
 pub(crate) mod stream_watch;
 
 /// Returns the watch of each of these streams. No packet arrived by the time `now`, in sampling instants.

@@ -9,7 +9,7 @@ use Rattle.status_page.specs.declared.snapshot.StreamState.{StreamState}
 
 -- a path on which nothing has arrived and about which nothing is known
 abbrev pub blank_path : PathState
-blank_path = record { datagrams = 0; first = 0; counts = None; copies = None; spare = None; socket = None; drift = None; is_astray = false; is_repeating = false }
+blank_path = record { condition = None; datagrams = 0; first = 0; counts = None; copies = None; spare = None; socket = None; drift = None; is_astray = false; is_repeating = false }
 
 -- a stream with this name, latency and number of paths, on which nothing has arrived
 pub record IsBlank (name : Option ArrayString) (latency paths : ℕ) (stream : StreamState) : Type 0 where

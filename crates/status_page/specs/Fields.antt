@@ -2,6 +2,7 @@
 use Rattle.std.specs.Prelude.{ℕ, List, Bool, true, false, Option, Some, None, codes, max, option_map, option_and_then}
 use Rattle.rtp_stream.specs.CountField.{count_help, count_key, count_value}
 use Rattle.rtp_stream.specs.Counts.{tally_of}
+use Rattle.status_page.specs.PathConditions.{redundancy}
 use Rattle.status_page.specs.declared.snapshot.PathState.{PathState}
 use Rattle.status_page.specs.declared.snapshot.StreamState.{StreamState}
 use Rattle.status_page.specs.declared.snapshot.ChannelState.{ChannelState}
@@ -105,18 +106,21 @@ abbrev pub stream_key : StreamField → List ℕ
 stream_key (Stream.Count count) = count_key count
 stream_key Stream.Latency = codes "latency"
 stream_key Stream.SecondsLeft = codes "seconds_left"
+stream_key Stream.Redundancy = codes "redundancy"
 
 -- the kind of a stream's number: a counter only rises
 abbrev pub stream_kind : StreamField → MetricKind
 stream_kind (Stream.Count count) = Counter
 stream_kind Stream.Latency = Gauge
 stream_kind Stream.SecondsLeft = Gauge
+stream_kind Stream.Redundancy = Gauge
 
 -- the description of a stream's number
 abbrev pub stream_help : StreamField → List ℕ
 stream_help (Stream.Count count) = count_help count
 stream_help Stream.Latency = codes "From a packet's media time to its deadline, in periods of 48 kHz."
 stream_help Stream.SecondsLeft = codes "Seconds until packets will be late or too early, at the drift of the path with the most time left; 31536000 (a year) is the most."
+stream_help Stream.Redundancy = codes "Paths by each of which alone the audio would go on, with gaps if the path is losing."
 
 -- the name of an output channel's number
 abbrev pub output_key : OutputField → List ℕ
@@ -184,6 +188,7 @@ abbrev pub stream_value : StreamField → StreamState → Option ℕ
 stream_value (Stream.Count count) stream = Some (count_value count (tally_of stream.counts))
 stream_value Stream.Latency stream = Some stream.latency
 stream_value Stream.SecondsLeft stream = stream.seconds_left
+stream_value Stream.Redundancy stream = Some (redundancy stream.paths.items)
 
 -- a number of an output channel
 abbrev pub output_value : OutputField → ChannelState → ℕ

@@ -10,6 +10,7 @@ pub mod GainReplies
 pub mod Host
 pub mod Integers
 pub mod Metrics
+pub mod PathConditions
 pub mod RequestRate
 pub mod Responses
 pub mod State

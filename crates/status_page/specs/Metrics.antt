@@ -5,6 +5,9 @@ use Rattle.std.specs.Fmt.{decimal, signed_decimal}
 use Rattle.arrayvec.specs.ArrayString.{ArrayString}
 use Rattle.status_page.specs.declared.snapshot.Condition.{Condition}
 use Rattle.status_page.specs.declared.snapshot.Condition.TheVariants.{NoPacket, Running, SignalLost, Ended}
+use Rattle.status_page.specs.PathConditions.{has_path_condition, path_condition_text}
+use Rattle.status_page.specs.declared.path_condition.TheConstants.{PATH_CONDITIONS}
+use Rattle.status_page.specs.declared.snapshot.PathCondition.{PathCondition}
 use Rattle.status_page.specs.declared.snapshot.PathState.{PathState}
 use Rattle.status_page.specs.declared.snapshot.StreamState.{StreamState}
 use Rattle.status_page.specs.declared.snapshot.ChannelState.{ChannelState}
@@ -23,7 +26,7 @@ use Rattle.status_page.specs.declared.fields.path.PathField.{PathField}
 use Rattle.status_page.specs.declared.fields.stream.StreamField.{StreamField}
 use Rattle.status_page.specs.declared.fields.output.OutputField.{OutputField}
 use Rattle.status_page.specs.declared.fields.path.TheConstants.{PATH_FIELDS}
-use Rattle.status_page.specs.declared.fields.stream.StreamField.TheVariants.{Count, Latency, SecondsLeft}
+use Rattle.status_page.specs.declared.fields.stream.StreamField.TheVariants.{Count, Latency, SecondsLeft, Redundancy}
 use Rattle.rtp_stream.specs.declared.count_field.CountField.{CountField}
 use Rattle.rtp_stream.specs.declared.count_field.TheConstants.{COUNT_FIELDS}
 use Rattle.rtp_stream.specs.Path.{path_letter}
@@ -88,6 +91,13 @@ output_header field = header_text (codes "output_") (output_key field) (output_k
 abbrev pub state_header : List ℕ
 state_header = header_text (codes "stream_") (codes "state") Gauge (codes "Where the stream stands: 1 for the state that it is in, and 0 for the others.")
 
+-- the metric of a path's condition, with the lines before its samples
+abbrev pub path_state_metric : List ℕ
+path_state_metric = metric_text (codes "path_") (codes "state") Gauge
+
+abbrev pub path_state_header : List ℕ
+path_state_header = header_text (codes "path_") (codes "state") Gauge (codes "Where the path stands: 1 for the state that it is in, and 0 for the others.")
+
 -- the name of a condition
 abbrev pub condition_text : Condition → List ℕ
 condition_text NoPacket = codes "no_packet"
@@ -142,6 +152,35 @@ condition_sample number stream condition =
     state_metric ++ stream_labels number stream ++ codes ",state=\"" ++ condition_text condition ++ codes "\""
     ++ value_text (has_condition condition stream.condition)
 
+-- the sample of one condition of a path that has this one
+unfoldable pub path_condition_sample : ℕ → StreamState → ℕ → PathCondition → PathCondition → List ℕ
+path_condition_sample number stream path present condition =
+    path_state_metric ++ stream_labels number stream ++ codes ",path=\"" ++ path_letter path ++ codes "\",state=\"" ++ path_condition_text condition ++ codes "\""
+    ++ value_text (has_path_condition condition present)
+
+-- the samples of these conditions of a path that has this one
+unfoldable pub known_condition_samples : ℕ → StreamState → ℕ → PathCondition → List PathCondition → List ℕ
+known_condition_samples number stream path present [] = []
+known_condition_samples number stream path present (condition ∷ conditions) =
+    path_condition_sample number stream path present condition ++ known_condition_samples number stream path present conditions
+
+-- the samples of all conditions of a path, if its condition is known
+abbrev pub path_condition_samples : ℕ → StreamState → ℕ → Option PathCondition → List ℕ
+path_condition_samples number stream path None = []
+path_condition_samples number stream path (Some present) = known_condition_samples number stream path present PATH_CONDITIONS
+
+-- the samples of all conditions of a stream's paths, numbered from this path on
+unfoldable pub paths_condition_samples : ℕ → StreamState → ℕ → List PathState → List ℕ
+paths_condition_samples number stream path [] = []
+paths_condition_samples number stream path (state ∷ states) =
+    path_condition_samples number stream path state.condition ++ paths_condition_samples number stream (suc path) states
+
+-- the samples of all conditions of all paths, numbered from this stream on
+unfoldable pub all_path_condition_samples : ℕ → List StreamState → List ℕ
+all_path_condition_samples number [] = []
+all_path_condition_samples number (stream ∷ streams) =
+    paths_condition_samples number stream 0 stream.paths.items ++ all_path_condition_samples (suc number) streams
+
 -- the sample of an output channel's number
 unfoldable pub output_sample : OutputField → ℕ → ChannelState → List ℕ
 output_sample field number output = output_metric field ++ codes "{output=\"" ++ decimal number ++ codes "\"" ++ value_text (output_value field output)
@@ -181,11 +220,11 @@ output_samples field number (output ∷ outputs) = output_sample field number ou
 abbrev pub stream_family : StreamField → List StreamState → List ℕ
 stream_family field streams = stream_header field ++ stream_samples field 0 streams
 
--- the metrics of the latency, and of the time that is left
+-- the metrics of the latency, of the time that is left, and of the redundancy
 abbrev pub last_families : List StreamState → List ℕ
-last_families streams = stream_family Latency streams ++ stream_family SecondsLeft streams
+last_families streams = stream_family Latency streams ++ stream_family SecondsLeft streams ++ stream_family Redundancy streams
 
--- the metrics of the streams: these counts, the latency, and the time that is left
+-- the metrics of the streams: these counts, the latency, the time that is left, and the redundancy
 unfoldable pub stream_families : List CountField → List StreamState → List ℕ
 stream_families [] streams = last_families streams
 stream_families (count ∷ counts) streams = stream_family (Count count) streams ++ stream_families counts streams
@@ -286,6 +325,7 @@ stale_text stale = count_family (codes "sends_") (codes "stale") (codes "Datagra
 unfoldable pub metrics_text : Snapshot → List ℕ
 metrics_text snapshot =
     state_header ++ all_condition_samples CONDITIONS 0 snapshot.streams.items
+    ++ path_state_header ++ all_path_condition_samples 0 snapshot.streams.items
     ++ stream_families COUNT_FIELDS snapshot.streams.items
     ++ path_families PATH_FIELDS snapshot.streams.items
     ++ output_families OUTPUT_FIELDS snapshot.outputs.items

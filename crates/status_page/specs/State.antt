@@ -3,6 +3,7 @@ use Rattle.std.specs.Prelude.{ℕ, Bool, true, false, List, [], ◌∷◌, ◌++
 use Rattle.std.specs.Fmt.{decimal, signed_decimal}
 use Rattle.arrayvec.specs.ArrayString.{ArrayString}
 use Rattle.json.specs.Token.{Token, begin_object, end_object, begin_array, end_array, key, string, number, null}
+use Rattle.status_page.specs.declared.snapshot.PathCondition.{PathCondition}
 use Rattle.status_page.specs.declared.snapshot.PathState.{PathState}
 use Rattle.status_page.specs.declared.snapshot.StreamState.{StreamState}
 use Rattle.status_page.specs.declared.snapshot.ChannelState.{ChannelState}
@@ -18,12 +19,13 @@ use Rattle.status_page.specs.declared.fields.path.PathField.{PathField}
 use Rattle.status_page.specs.declared.fields.stream.StreamField.{StreamField}
 use Rattle.status_page.specs.declared.fields.output.OutputField.{OutputField}
 use Rattle.status_page.specs.declared.fields.path.TheConstants.{PATH_FIELDS}
-use Rattle.status_page.specs.declared.fields.stream.StreamField.TheVariants.{Count, Latency, SecondsLeft}
+use Rattle.status_page.specs.declared.fields.stream.StreamField.TheVariants.{Count, Latency, SecondsLeft, Redundancy}
 use Rattle.rtp_stream.specs.declared.count_field.CountField.{CountField}
 use Rattle.rtp_stream.specs.declared.count_field.TheConstants.{COUNT_FIELDS}
 use Rattle.status_page.specs.declared.fields.output.TheConstants.{OUTPUT_FIELDS}
 use Rattle.status_page.specs.Fields.{path_key, path_value, stream_key, stream_value, output_key, output_value}
 use Rattle.status_page.specs.Metrics.{condition_text}
+use Rattle.status_page.specs.PathConditions.{path_condition_text}
 
 -- the token of a number
 abbrev pub number_token : ℕ → Token
@@ -54,11 +56,11 @@ path_members (field ∷ fields) path = key (path_key field) ∷ shown_token (pat
 abbrev pub stream_member : StreamField → StreamState → List Token
 stream_member field stream = key (stream_key field) ∷ known_token (stream_value field stream) ∷ []
 
--- the latency, and the time that is left
+-- the latency, the time that is left, and the redundancy
 abbrev pub last_members : StreamState → List Token
-last_members stream = stream_member Latency stream ++ stream_member SecondsLeft stream
+last_members stream = stream_member Latency stream ++ stream_member SecondsLeft stream ++ stream_member Redundancy stream
 
--- the numbers of a stream: these counts, the latency, and the time that is left
+-- the numbers of a stream: these counts, the latency, the time that is left, and the redundancy
 unfoldable pub stream_members : List CountField → StreamState → List Token
 stream_members [] stream = last_members stream
 stream_members (count ∷ counts) stream = stream_member (Count count) stream ++ stream_members counts stream
@@ -68,9 +70,14 @@ unfoldable pub output_members : List OutputField → ChannelState → List Token
 output_members [] output = []
 output_members (field ∷ fields) output = key (output_key field) ∷ number_token (output_value field output) ∷ output_members fields output
 
--- a path
+-- the name of a path's condition, or null if it isn't known
+abbrev pub condition_token : Option PathCondition → Token
+condition_token None = null
+condition_token (Some condition) = string (path_condition_text condition)
+
+-- a path: its condition and its numbers
 abbrev pub path_tokens : PathState → List Token
-path_tokens path = begin_object ∷ (path_members PATH_FIELDS path ++ end_object ∷ [])
+path_tokens path = begin_object ∷ key (codes "state") ∷ condition_token path.condition ∷ (path_members PATH_FIELDS path ++ end_object ∷ [])
 
 -- the paths of a stream
 unfoldable pub paths_tokens : List PathState → List Token

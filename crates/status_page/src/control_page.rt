@@ -86,6 +86,7 @@ impl<D: GainRequester> ControlPage<D> {
         ensures calls { Calls (control_answers D.asks D.planned) (at_time self.old now) self.new
             (history connection.old).calls (history connection.new).calls }
         ensures rests { Rests (config_of connection.new) (history connection.new) }
+        ensures page { self.new.page ≡ self.old.page }
         ensures config { config_of connection.new ≡ config_of connection.old }
     {
         self.time = now;

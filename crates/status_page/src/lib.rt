@@ -29,6 +29,7 @@ mod control;
 mod control_page;
 mod fields;
 mod page;
+mod path_condition;
 mod server;
 mod snapshot;
 
@@ -46,5 +47,6 @@ pub use server::served::{GainsAnswer, ServedPage};
 pub use server::source::{RingSource, serve_page};
 pub use server::{MAX_CLIENTS, PageServer};
 pub use snapshot::{
-    ChannelState, Condition, CopyCounts, PathState, Snapshot, SocketState, StreamName, StreamState,
+    ChannelState, Condition, CopyCounts, PathCondition, PathState, Snapshot, SocketState,
+    StreamName, StreamState,
 };

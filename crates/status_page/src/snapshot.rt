@@ -25,6 +25,25 @@ pub enum Condition {
     Ended,
 }
 
+/// The condition of a path: the first of these that holds, in the last whole second unless another time is named.
+#[derive(Clone, Copy, PartialEq, Eq)]
+pub enum PathCondition {
+    /// The path was given up, because its socket failed again and again.
+    GivenUp,
+    /// No datagram came.
+    NoDatagrams,
+    /// Datagrams came, but none of the stream in time, late or too early.
+    Refused,
+    /// Most of the stream's packets came after their deadlines.
+    Late,
+    /// Most of the stream's packets came too early for the window.
+    TooEarly,
+    /// A packet was lost on the path, or came late, in the last ten seconds.
+    Losing,
+    /// None of these.
+    InTime,
+}
+
 /// The numbers of a path's packets by fate, in addition to the first copies.
 #[derive(Clone, Copy, PartialEq, Eq)]
 pub struct CopyCounts {
@@ -64,6 +83,8 @@ pub struct SocketState {
 /// The state of a path. A number that the run does not know is `None`.
 #[derive(Clone, Copy)]
 pub struct PathState {
+    /// The path's condition.
+    pub condition: Option<PathCondition>,
     /// The number of datagrams that arrived on the path.
     pub datagrams: u64,
     /// The number of packets whose first copy came on the path.
@@ -91,6 +112,7 @@ impl Default for PathState {
     /// Returns the state of a path on which no datagram arrived. Nothing else is known of it.
     fn default() -> PathState {
         PathState {
+            condition: None,
             datagrams: 0,
             first: 0,
             counts: None,

@@ -1,12 +1,13 @@
-//! The watch of a path: the drift of its arrival margin, and when a packet last came in time, late or too early.
+//! The watch of a path: its condition, the drift of its arrival margin, and when a packet last came in time, late or
+//! too early.
 ghost use Rattle.std.specs.Prelude.{◌≡◌, if◌then◌else◌};
 ghost use Rattle.rtp_stats.specs.Drift.{minute_from};
+ghost use Rattle.live_status.specs.Counts.{in_time_of};
 ghost use Rattle.live_status.specs.Watch.{
   IsNoted,
   astray_count,
   astray_of,
   in_time_count,
-  in_time_of,
   is_astray,
   is_repeating,
   minute_with,
@@ -15,8 +16,9 @@ ghost use Rattle.live_status.specs.Watch.{
 };
 
 use crate::reception_watch::count_watch::CountWatch;
+use crate::reception_watch::second_watch::SecondWatch;
 use rtp_stats::{ArrivalMargin, Drift, MarginMinute, second_of};
-use status_page::{CopyCounts, PathState};
+use status_page::{CopyCounts, PathCondition, PathState};
 
 /// The number of packets in a row that show a path that repeats numbers.
 const REPEATS: u64 = 64;
@@ -30,6 +32,10 @@ pub(crate) struct ArrivalWatch {
     in_time: CountWatch,
     /// The packets that came late or too early.
     astray: CountWatch,
+    /// The packets by seconds.
+    second: SecondWatch,
+    /// The path's condition at the last update, if its copies are counted.
+    condition: Option<PathCondition>,
     /// The drift at the last update.
     pub(crate) drift: Option<Drift>,
     /// True if, at the last update, a packet had come in time in the last two seconds.
@@ -47,6 +53,8 @@ impl ArrivalWatch {
             minute: MarginMinute::new(),
             in_time: CountWatch::new(now),
             astray: CountWatch::new(now),
+            second: SecondWatch::new(now),
+            condition: None,
             drift: None,
             is_in_time: false,
             is_astray: false,
@@ -63,6 +71,7 @@ impl ArrivalWatch {
         note_margin(&mut self.minute, path.spare);
         note_in_time(&mut self.in_time, now, path.first, path.copies);
         note_astray(&mut self.astray, now, path.copies);
+        self.condition = self.second.note(now, path);
         self.drift = self.minute.drift(second, window_span);
         self.is_in_time = !self.in_time.is_still(now);
         self.is_astray = is_astray(&self.in_time, &self.astray, now);
@@ -73,6 +82,7 @@ impl ArrivalWatch {
     pub(crate) fn show(&self, has_ended: bool, others: bool, path: &mut PathState)
         ensures { path.new ≡ shown_path has_ended others self.now path.old }
     {
+        path.condition = self.condition;
         path.is_repeating = is_repeating(has_ended, others, path.copies);
         path.is_astray = !has_ended && self.is_astray;
         path.drift = self.drift.map(|drift| drift.ppm);
@@ -142,7 +152,7 @@ fn is_repeating(has_ended: bool, others: bool, copies: Option<CopyCounts>) -> bo
 }
 
 /// Returns the number of a path's packets that came in time.
-fn in_time_of(first: u64, copies: &CopyCounts) -> u64
+pub(crate) fn in_time_of(first: u64, copies: &CopyCounts) -> u64
     ensures { result ≡ in_time_of first copies.now }
 {
     first

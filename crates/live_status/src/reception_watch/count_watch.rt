@@ -1,9 +1,13 @@
 //! A count, and since when it is what it is.
 ghost use Rattle.std.specs.Prelude.{◌≡◌};
-ghost use Rattle.live_status.specs.Watch.{count_after, is_still};
+ghost use Rattle.live_status.specs.Counts.{count_after, is_still};
+ghost use Rattle.live_status.specs.PathSeconds.{is_losing};
 
 /// The time without a change after which a count is still, in sampling instants: two seconds.
 const STILL_AFTER: i64 = 96_000;
+
+/// The time for which a count has risen lately after it rose, in sampling instants: ten seconds.
+const LATELY: i64 = 480_000;
 
 /// A count of packets, and the time since which no packet was added.
 #[derive(Clone, Copy)]
@@ -39,5 +43,13 @@ impl CountWatch {
         ensures { result ≡ is_still self.now now }
     {
         now.saturating_sub(self.since) >= STILL_AFTER
+    }
+
+    /// Returns true if the count has risen in the ten seconds before the time `now`, in sampling instants.
+    pub(crate) fn has_risen_lately(&self, now: i64) -> bool
+        ensures { result ≡ is_losing self.now now }
+    {
+        // Of a count that never rose, `since` is the time at which its watch began.
+        self.count != 0 && now.saturating_sub(self.since) < LATELY
     }
 }

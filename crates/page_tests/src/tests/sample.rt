@@ -4,7 +4,8 @@
 use rtp_stats::ArrivalMargin;
 use rtp_stream::{Counts, PathCounts};
 use status_page::{
-    ChannelState, Condition, CopyCounts, PathState, Snapshot, SocketState, StreamName, StreamState,
+    ChannelState, Condition, CopyCounts, PathCondition, PathState, Snapshot, SocketState,
+    StreamName, StreamState,
 };
 use studio_io::{OutputCounts, OutputEnd, OutputKind, OutputState, OutputStates};
 
@@ -20,8 +21,10 @@ fn path_counts() -> PathCounts {
 }
 
 /// Returns a path whose packets came 12 to 36 sampling instants before their deadlines, and which was given up since.
+/// Its condition is that of the second before.
 fn heard_path() -> PathState {
     PathState {
+        condition: Some(PathCondition::Losing),
         datagrams: 2,
         first: 3,
         counts: Some(path_counts()),

@@ -8,9 +8,9 @@ use std::process::Abort;
 pub(super) const STATE: &str =
     "{\"streams\":[{\"name\":\"L\\\"\\\\\\n<b>\",\"state\":\"running\",\"got\":0,\"lost\":1,\
     \"arrived\":0,\"taken\":0,\"double\":0,\"unlike\":0,\"off_grid\":0,\"late\":0,\"ahead\":0,\"wrong_source\":0,\
-    \"restarts\":0,\"latency\":240,\"seconds_left\":19,\"paths\":[{\"datagrams\":2,\"first\":3,\"packets\":0,\"lost\":4,\
+    \"restarts\":0,\"latency\":240,\"seconds_left\":19,\"redundancy\":1,\"paths\":[{\"state\":\"losing\",\"datagrams\":2,\"first\":3,\"packets\":0,\"lost\":4,\
     \"double\":5,\"unlike\":6,\"late\":7,\"ahead\":15,\"repeated\":16,\"bad\":0,\"wrong_type\":0,\"wrong_length\":0,\"full\":2,\"spare_least\":12,\
-    \"spare_median\":30,\"spare_greatest\":36,\"drift_ppm\":-18,\"astray\":1,\"repeating\":0,\"unexpected\":null,\"socket_faults\":8,\"socket_ended\":1,\"socket_dropped\":9,\"too_long\":26,\"held_up\":27},{\"datagrams\":0,\"first\":0,\"packets\":null,\"lost\":null,\"double\":null,\"unlike\":null,\
+    \"spare_median\":30,\"spare_greatest\":36,\"drift_ppm\":-18,\"astray\":1,\"repeating\":0,\"unexpected\":null,\"socket_faults\":8,\"socket_ended\":1,\"socket_dropped\":9,\"too_long\":26,\"held_up\":27},{\"state\":null,\"datagrams\":0,\"first\":0,\"packets\":null,\"lost\":null,\"double\":null,\"unlike\":null,\
     \"late\":null,\"ahead\":null,\"repeated\":null,\"bad\":null,\"wrong_type\":null,\"wrong_length\":null,\"full\":null,\"spare_least\":null,\
     \"spare_median\":null,\"spare_greatest\":null,\"drift_ppm\":null,\"astray\":null,\"repeating\":null,\"unexpected\":null,\"socket_faults\":null,\"socket_ended\":null,\"socket_dropped\":null,\"too_long\":null,\"held_up\":null}]}],\
     \"outputs\":[{\"peak\":8388608,\"saturated\":2},{\"peak\":0,\"saturated\":2}],\
@@ -23,11 +23,20 @@ const EMPTY: &str = "{\"streams\":[],\"outputs\":[],\"failed_sends\":[0,0],\"sta
     \"pcm\":{\"state\":\"none\",\"blocks\":null,\"left_out\":null}}";
 
 /// Parts of its metrics.
-const METRICS: [&str; 18] = [
+const METRICS: [&str; 20] = [
     "# HELP darbexum_stream_state Where the stream stands: 1 for the state that it is in, and 0 for the others.\n\
     # TYPE darbexum_stream_state gauge\n\
     darbexum_stream_state{stream=\"0\",name=\"L\\\"\\\\\\n<b>\",state=\"no_packet\"} 0\n\
     darbexum_stream_state{stream=\"0\",name=\"L\\\"\\\\\\n<b>\",state=\"running\"} 1\n",
+    "# TYPE darbexum_path_state gauge\n\
+    darbexum_path_state{stream=\"0\",name=\"L\\\"\\\\\\n<b>\",path=\"a\",state=\"given_up\"} 0\n\
+    darbexum_path_state{stream=\"0\",name=\"L\\\"\\\\\\n<b>\",path=\"a\",state=\"no_datagrams\"} 0\n\
+    darbexum_path_state{stream=\"0\",name=\"L\\\"\\\\\\n<b>\",path=\"a\",state=\"refused\"} 0\n\
+    darbexum_path_state{stream=\"0\",name=\"L\\\"\\\\\\n<b>\",path=\"a\",state=\"late\"} 0\n\
+    darbexum_path_state{stream=\"0\",name=\"L\\\"\\\\\\n<b>\",path=\"a\",state=\"too_early\"} 0\n\
+    darbexum_path_state{stream=\"0\",name=\"L\\\"\\\\\\n<b>\",path=\"a\",state=\"losing\"} 1\n\
+    darbexum_path_state{stream=\"0\",name=\"L\\\"\\\\\\n<b>\",path=\"a\",state=\"in_time\"} 0\n# HELP ",
+    "# TYPE darbexum_stream_redundancy gauge\ndarbexum_stream_redundancy{stream=\"0\",name=\"L\\\"\\\\\\n<b>\"} 1\n",
     "\n# TYPE darbexum_stream_lost_total counter\n\
     darbexum_stream_lost_total{stream=\"0\",name=\"L\\\"\\\\\\n<b>\"} 1\n",
     "\n# TYPE darbexum_stream_latency gauge\ndarbexum_stream_latency{stream=\"0\",name=\"L\\\"\\\\\\n<b>\"} 240\n",

@@ -4,6 +4,7 @@ ghost use Rattle.std.specs.Prelude.{◌≡◌};
 ghost use Rattle.status_page.specs.Fields.{stream_help, stream_key, stream_kind, stream_value};
 
 use crate::fields::MetricKind;
+use crate::path_condition::redundancy;
 use crate::snapshot::StreamState;
 use rtp_stream::CountField;
 
@@ -13,6 +14,7 @@ pub(crate) enum StreamField {
     Count(CountField),
     Latency,
     SecondsLeft,
+    Redundancy,
 }
 
 impl StreamField {
@@ -24,6 +26,7 @@ impl StreamField {
             StreamField::Count(count) => count.key(),
             StreamField::Latency => "latency",
             StreamField::SecondsLeft => "seconds_left",
+            StreamField::Redundancy => "redundancy",
         }
     }
 
@@ -33,7 +36,9 @@ impl StreamField {
     {
         match self {
             StreamField::Count(_) => MetricKind::Counter,
-            StreamField::Latency | StreamField::SecondsLeft => MetricKind::Gauge,
+            StreamField::Latency | StreamField::SecondsLeft | StreamField::Redundancy => {
+                MetricKind::Gauge
+            },
         }
     }
 
@@ -47,6 +52,8 @@ impl StreamField {
                 "From a packet's media time to its deadline, in periods of 48 kHz.",
             StreamField::SecondsLeft =>
                 "Seconds until packets will be late or too early, at the drift of the path with the most time left; 31536000 (a year) is the most.",
+            StreamField::Redundancy =>
+                "Paths by each of which alone the audio would go on, with gaps if the path is losing.",
         }
     }
 
@@ -58,6 +65,7 @@ impl StreamField {
             StreamField::Count(count) => Some(count.of(&stream.counts)),
             StreamField::Latency => Some(stream.latency),
             StreamField::SecondsLeft => stream.seconds_left,
+            StreamField::Redundancy => Some(redundancy(stream.paths.as_slice())),
         }
     }
 }

@@ -30,16 +30,26 @@ body {
   font-variant-numeric: tabular-nums;
 }
 h1, h2 { font-size: 1em; margin: 0; display: inline; }
-header { display: flex; flex-wrap: wrap; gap: 6px; align-items: stretch; margin-bottom: 6px; }
-#about { padding: 3px 6px 3px 0; min-width: 11em; }
+header, #nets { display: flex; flex-wrap: wrap; gap: 6px; }
+header { margin-bottom: 6px; }
+#about { padding: 3px 0; width: 21em; }
 #about h1 { font-size: 1.25em; }
 #link { display: block; color: var(--soft); }
 #link.off { color: var(--bad); font-weight: 700; }
-#record, #wav, #pcm, #sends { display: block; white-space: nowrap; }
-.net { flex: 1; background: var(--card); border: 1px solid var(--line); border-radius: 4px; padding: 3px 8px; }
-.net b { font-size: 1.2em; }
-.net span { display: inline-block; margin-left: .8em; white-space: nowrap; }
-.net.silent, .net.losing { border-color: var(--bad); background: var(--bad-ground); }
+#record, #wav, #pcm, #sends { display: block; overflow: hidden; text-overflow: ellipsis; white-space: nowrap; }
+#whole { flex: 1 1 24em; min-width: 0; display: flex; flex-direction: column; gap: 6px; }
+#run { display: flex; gap: .7em; align-items: baseline; font-size: 1.8em; line-height: 1.2; white-space: nowrap; }
+#run b { font-size: 1.5em; }
+#run span { overflow: hidden; text-overflow: ellipsis; }
+#waiting { flex-shrink: 100; }
+#nets { flex: 1; }
+.net, #run { background: var(--card); border: 1px solid var(--line); border-radius: 4px; padding: 3px 8px; }
+.net { flex: 1 1 27em; }
+.net b, .net .word { font-size: 1.2em; line-height: 1.2; margin-right: .5em; }
+.net div { line-height: 1.2; }
+.net div span { display: inline-block; margin-right: .8em; white-space: nowrap; }
+.failing { border-color: var(--bad) !important; background: var(--bad-ground) !important; }
+.losing { border-color: var(--warn) !important; }
 .soft { color: var(--soft); }
 .word { font-weight: 700; }
 .good { color: var(--good); } .bad { color: var(--bad); } .warn { color: var(--warn); }
@@ -58,19 +68,31 @@ header { display: flex; flex-wrap: wrap; gap: 6px; align-items: stretch; margin-
 canvas { display: block; width: 100%; height: 1.45em; margin: 2px 0 1px; }
 table { border-collapse: collapse; width: 100%; table-layout: fixed; }
 th { width: 13%; }
-th:first-child { width: 8%; } th:nth-child(4) { width: 10%; } th:nth-child(6) { width: 12%; } th:last-child { width: auto; }
+th:first-child { width: 7%; } th:nth-child(2) { width: 12%; } th:nth-child(4) { width: 10%; } th:nth-child(6) { width: 14%; }
+th:last-child { width: auto; }
 th { color: var(--soft); font-weight: 400; text-align: right; padding: 0 2px; vertical-align: bottom; line-height: 1.15; }
 td { text-align: right; padding: 0 2px; white-space: nowrap; }
 th:first-child, td:first-child { text-align: left; padding-left: 0; }
-th:last-child, td:last-child { padding-right: 0; text-align: left; padding-left: 5px; white-space: normal; }
-tr.silent td { background: var(--bad-ground); }
-tr.silent td:first-child { font-weight: 700; }
+th:last-child, td:last-child { padding-right: 0; text-align: left; padding-left: 5px; }
+tr.failing td:first-child { font-weight: 700; }
 .spare { display: inline-block; position: relative; width: 2.5em; height: .75em; background: var(--track); border-radius: 2px; margin-right: 4px; overflow: hidden; }
 .spare i { position: absolute; inset: 0 auto 0 0; background: var(--bar); opacity: .55; }
 .spare b { position: absolute; inset: 0 auto 0 0; background: var(--bar); }
-@container (max-width: 33em) { .spare { display: none !important; } }
-@media (max-width: 480px) { :root { --size: 12px !important; } }
+td .word:not(:empty) { margin-right: .4em; }
+@container (max-width: 52em) { tr.failing .least, tr.failing .more, tr.losing .more, tr.losing .spare { display: none !important; } }
+@container (max-width: 39em) { .spare { display: none !important; } }
+@container (max-width: 33em) { td.word { letter-spacing: -.04em; } }
+@media (max-width: 480px) {
+  :root { --size: 12px !important; }
+  #run { flex-direction: column; gap: 0; font-size: 1.4em; }
+  #run b { font-size: 1.9em; }
+  #run span { max-width: 100%; min-height: 1.2em; }
+  #outputs { grid-template-columns: repeat(auto-fit, minmax(10em, 1fr)) !important; }
+}
 .note { margin: 1px 0 0; color: var(--soft); overflow: hidden; text-overflow: ellipsis; white-space: nowrap; min-height: 1.3em; }
+.notes { display: flow-root; min-height: 2.8em; }
+.many .notes { min-height: 1.4em; display: flex; gap: .7em; }
+.notes .note:empty { display: none; }
 .note.warn { color: var(--warn); } .note.bad { color: var(--bad); }
 </style>
 </head>
@@ -78,6 +100,8 @@ tr.silent td:first-child { font-weight: 700; }
 <header>
 <div id="about"><h1>Darbexum</h1> <span id="link" role="status">connecting</span>
 <span id="record"></span><span id="wav"></span><span id="pcm"></span><span id="sends"></span></div>
+<div id="whole"><div id="run" role="status"><b>&nbsp;</b><span id="problems"></span><span id="waiting" class="soft"></span></div>
+<div id="nets"></div></div>
 </header>
 <section id="outputs" aria-label="Output channels"></section>
 <main id="streams"></main>
@@ -87,12 +111,25 @@ tr.silent td:first-child { font-weight: 700; }
 const LETTERS = ["a", "b", "c", "d"];
 const FULL_SCALE = 8388608, RATE = 48000, FLOOR = -60;
 const ASK_EVERY = 100, RATE_SPAN = 1000, HOLD = 2000, BINS = 60, LEFT_SOON = 600;
+// streams from which on their notes share a line, and characters of a name among the problems
+const MANY = 10, NAME_LENGTH = 24;
 const CONDITIONS = {
   no_packet: ["\u25cb no packet yet", "soft"],
   running: ["\u25cf running", "good"],
   lost: ["\u2715 lost", "bad"],
   ended: ["\u25a0 ended", "soft"],
 };
+// the states of a path, the worst first
+const STATES = {
+  given_up: ["given up", "bad"],
+  no_datagrams: ["no datagrams", "bad"],
+  refused: ["refused", "bad"],
+  late: ["late", "bad"],
+  too_early: ["too early", "bad"],
+  losing: ["losing", "warn"],
+  in_time: ["in time", "good"],
+};
+const SIGNS = { bad: "\u2715 ", warn: "\u25b2 ", good: "\u25cf ", soft: "\u25cb " };
 const COLUMNS = [
   ["path", "the path by its letter"],
   ["pk/s", "packets a second in the last second"],
@@ -100,7 +137,7 @@ const COLUMNS = [
   ["first", "the share of packets whose first copy came on this path, in the last second"],
   ["double", "further copies, with the payload of the first"],
   ["late", "packets after their deadline"],
-  ["spare ms: least, median, drift ppm", "the time from arrival to deadline in the last second, and its drift over the last minute"],
+  ["margin ms: least, median, drift ppm", "the arrival margin: the time from arrival to deadline in the last second, and its drift over the last minute"],
 ];
 const REFUSED = { unlike: "unlike", bad: "no RTP", wrong_type: "type", wrong_length: "length", full: "no room", unexpected: "other address" };
 const REFUSED_BY_STREAM = { off_grid: "off grid", ahead: "ahead", wrong_source: "source" };
@@ -151,6 +188,8 @@ const exact = n => whole.format(Math.round(n));
 // up to five digits, and then the first three: the whole number is at /state
 const few = new Intl.NumberFormat("en", { notation: "compact", maximumSignificantDigits: 3 });
 const count = n => n < 99999.5 ? exact(n) : few.format(n);
+// up to four digits, for the narrow columns of many streams
+const brief = n => n < 9999.5 ? exact(n) : few.format(n);
 // a number that is not known is a dash
 const known = (n, text) => n === null ? "\u2013" : text(n);
 const millis = n => (1000 * n / RATE).toFixed(n < 4800 ? 1 : 0);
@@ -163,25 +202,28 @@ const level = db => db === -Infinity ? "\u2212\u221e" : db.toFixed(1).replace("-
 function build(state) {
   const streams = state.streams.length;
   document.documentElement.style.setProperty("--size", streams <= 4 ? "14px" : streams <= 9 ? "12px" : "11px");
-  for (const old of document.querySelectorAll(".net")) old.remove();
-  const paths = Math.max(0, ...state.streams.map(stream => stream.paths.length));
-  const nets = LETTERS.slice(0, paths).map(buildNet);
+  const paths = Math.max(0, ...state.streams.map(stream => stream.paths.length)), row = document.getElementById("nets");
+  row.replaceChildren();
+  const nets = LETTERS.slice(0, paths).map(letter => buildNet(row, letter));
   const outputs = document.getElementById("outputs");
   outputs.replaceChildren();
   outputs.style.gridTemplateColumns = "repeat(" + Math.max(4, state.outputs.length) + ", 1fr)";
   const main = document.getElementById("streams");
   main.replaceChildren();
+  mark(main, "many", streams >= MANY);
   return {
     nets,
+    number: streams >= MANY ? brief : count,
     outputs: state.outputs.map((_, n) => buildOutput(outputs, n)),
     streams: state.streams.map((stream, n) => buildStream(main, stream, n)),
   };
 }
 
-function buildNet(letter) {
-  const box = make("div", document.querySelector("header"), "net");
+function buildNet(parent, letter) {
+  const box = make("div", parent, "net");
   make("b", box, "", "path " + letter);
-  return { box, word: make("span", box, "word"), rate: make("span", box), lost: make("span", box), first: make("span", box) };
+  const word = make("span", box, "word"), line = make("div", box);
+  return { box, word, rate: make("span", line), lost: make("span", line), first: make("span", line) };
 }
 
 function buildOutput(parent, n) {
@@ -197,9 +239,9 @@ function buildOutput(parent, n) {
 function buildStream(parent, stream, n) {
   const box = make("section", parent, "stream");
   const top = make("div", box, "top");
-  make("h2", top, "", stream.name || "stream " + n);
-  const word = make("span", top, "word");
-  word.classList.add("right");
+  make("h2", top, "", stream.name || "stream " + n).title = stream.name || "";
+  const redundancy = make("span", top, "right"), word = make("span", top, "word");
+  redundancy.title = "paths that are in time or losing, of all paths";
   const line = make("div", box, "top");
   const epoch = make("span", line, "soft");
   const counts = make("span", line, "right");
@@ -214,8 +256,9 @@ function buildStream(parent, stream, n) {
   }
   const body = make("tbody", table);
   const paths = stream.paths.map((_, path) => buildPath(body, LETTERS[path]));
-  const note = make("p", box, "note"), sockets = make("p", box, "note"), astray = make("p", box, "note bad");
-  return { box, word, epoch, counts, strip, paths, note, sockets, astray, bins: [] };
+  const note = make("p", box, "note"), notes = make("div", box, "notes");
+  const astray = make("p", notes, "note bad"), sockets = make("p", notes, "note");
+  return { box, redundancy, word, epoch, counts, strip, paths, note, sockets, astray, bins: [] };
 }
 
 function buildPath(body, letter) {
@@ -225,8 +268,8 @@ function buildPath(body, letter) {
   for (const name of ["rate", "lost", "first", "double", "late"]) cells[name] = make("td", row);
   const last = make("td", row);
   const bar = make("span", last, "spare");
-  const median = make("i", bar), least = make("b", bar);
-  return { row, cells, bar, median, least, spare: make("span", last) };
+  const median = make("i", bar), least = make("b", bar), word = make("span", last, "word");
+  return { row, cells, last, bar, median, least, word, spare: make("span", last, "least"), more: make("span", last, "more") };
 }
 
 // ---- changes since an earlier snapshot
@@ -261,9 +304,17 @@ function draw(state, now) {
   const since = earlier(state, now);
   ended = state.streams.length > 0 && state.streams.every(stream => stream.state === "ended");
   drawRun(state, since.old);
-  const nets = view.nets.map(() => ({ rate: 0, lost: 0, all: 0, first: 0, taken: 0, running: false, silent: false }));
-  state.streams.forEach((stream, n) => drawStream(view.streams[n], stream, since.old.streams[n], since.last.streams[n], since.seconds, now, nets));
+  // a network is judged by the streams that run, and if none does by those that are lost
+  const judged = state.streams.some(stream => stream.state === "running") ? "running" : "lost";
+  const nets = view.nets.map(() => ({ rate: 0, lost: 0, all: 0, first: 0, taken: 0, running: false, silent: false, states: [] }));
+  const problems = { lost: [], bad: [], warn: [] };
+  state.streams.forEach((stream, n) => {
+    drawStream(view.streams[n], stream, since.old.streams[n], since.last.streams[n], since.seconds, now, nets);
+    if (stream.state === judged) stream.paths.forEach((path, p) => nets[p].states.push(path.state));
+    addProblems(problems, stream, n, since.old.streams[n], since.seconds);
+  });
   view.nets.forEach((net, n) => drawNet(net, nets[n]));
+  drawWord(state, since.old, problems);
   state.outputs.forEach((output, n) => drawOutput(view.outputs[n], output, now));
 }
 
@@ -279,6 +330,51 @@ function drawRun(state, old) {
   const stale = state.stale > 0 ? ", stale " + exact(state.stale) : "";
   show(sends, all > 0 ? "\u25b2 sends failed: a " + exact(failed[0]) + ", b " + exact(failed[1]) + stale : "no send failed");
   style(sends, all > old.failed_sends[0] + old.failed_sends[1] ? "bad word" : all > 0 ? "warn" : "soft");
+}
+
+// the problems of a stream: that it is lost, or those of its paths
+function addProblems(problems, stream, n, old, seconds) {
+  const name = nameOf(stream, n);
+  if (stream.state === "lost") problems.lost.push(name + " lost");
+  if (stream.state !== "running") return;
+  stream.paths.forEach((path, p) => {
+    const [word, kind] = wordOf(path, old.paths[p], seconds);
+    if (kind in problems) problems[kind].push(name + " " + LETTERS[p] + " " + word);
+  });
+}
+
+function nameOf(stream, n) {
+  const name = stream.name || "stream " + n;
+  return name.length > NAME_LENGTH ? name.slice(0, NAME_LENGTH - 1) + "\u2026" : name;
+}
+
+// the run in a word, with its problems, the worst first
+function drawWord(state, old, { lost, bad, warn }) {
+  state.failed_sends.forEach((failed, n) => { if (failed > old.failed_sends[n]) bad.push("copy " + LETTERS[n] + " not sent"); });
+  if (state.record.state === "ended") bad.push("record ended");
+  if (state.wav.state === "ended") bad.push("WAV file ended");
+  if (state.pcm.state === "ended") bad.push("PCM closed");
+  const all = [...lost, ...bad, ...warn], running = state.streams.filter(stream => stream.state === "running");
+  const waiting = state.streams.map(nameOf).filter((_, n) => state.streams[n].state === "no_packet").join(", ");
+  const named = waiting && (all.length > 0 || running.length > 0) ? "no packet yet: " + waiting : "";
+  const counted = all.length + (all.length === 1 ? " problem" : " problems");
+  if (ended) showWord("\u25a0 ended", "soft");
+  else if (all.length > warn.length) showWord("\u2715 " + counted, "bad", all.join("; "), named);
+  else if (all.length > 0) showWord("\u25b2 " + counted, "warn", all.join("; "), named);
+  else if (running.length === 0) showWord(waiting ? "\u25cb no packet yet" : "\u00a0", "soft");
+  else if (running.some(stream => stream.paths.some(path => path.state === null))) showWord("\u25cf running", "good", "", named);
+  else showWord("\u25cf all good", "good", "", named);
+}
+
+function showWord(word, kind, problems = "", waiting = "") {
+  const box = document.getElementById("run"), list = document.getElementById("problems");
+  show(box.firstChild, word);
+  style(box.firstChild, kind);
+  mark(box, "failing", kind === "bad");
+  mark(box, "losing", kind === "warn");
+  show(list, problems);
+  list.title = problems;
+  show(document.getElementById("waiting"), waiting);
 }
 
 // the WAV file of the run; no line without one
@@ -303,15 +399,24 @@ function drawPcm(line, pcm, old) {
 }
 
 function drawNet(net, sum) {
-  const silent = sum.running && sum.silent, losing = sum.lost > 0;
-  mark(net.box, "silent", silent);
-  mark(net.box, "losing", losing);
-  const well = sum.lost === null ? "\u25cf heard" : "\u25cf whole";
-  show(net.word, silent ? "\u2715 silent" : losing ? "\u25b2 losing" : sum.running ? well : "\u25cb idle");
-  style(net.word, "word " + (silent || losing ? "bad" : sum.running ? "good" : "soft"));
+  const [word, kind] = netWord(sum);
+  mark(net.box, "failing", kind === "bad");
+  mark(net.box, "losing", kind === "warn");
+  show(net.word, SIGNS[kind] + word);
+  style(net.word, "word " + kind);
   show(net.rate, count(sum.rate) + " pk/s");
   show(net.lost, sum.lost === null ? "" : "lost " + count(sum.lost) + "/s, " + exact(sum.all) + " in all");
   show(net.first, "first " + share(sum.first, sum.taken));
+}
+
+// the worst state of the paths with a letter, or what their numbers say if a state is not known
+function netWord(sum) {
+  if (sum.states.length === 0) return ["idle", "soft"];
+  if (!sum.states.includes(null)) return STATES[Object.keys(STATES).find(state => sum.states.includes(state))];
+  if (sum.running && sum.silent) return ["silent", "bad"];
+  if (sum.lost > 0) return ["losing", "warn"];
+  if (!sum.running) return ["idle", "soft"];
+  return [sum.lost === null ? "heard" : "whole", "good"];
 }
 
 // a part of what was taken in the same snapshots, so at most 100%
@@ -322,7 +427,8 @@ function share(part, all) {
 function drawStream(it, stream, old, last, seconds, now, nets) {
   const [word, kind] = CONDITIONS[stream.state] || [stream.state, "soft"];
   show(it.word, word);
-  style(it.word, "right word " + kind);
+  style(it.word, "word " + kind);
+  drawRedundancy(it.redundancy, stream);
   mark(it.box, "lost", stream.state === "lost");
   show(it.epoch, "epoch " + exact(stream.restarts) + timeLeft(stream.seconds_left));
   style(it.epoch, stream.seconds_left !== null && stream.seconds_left < LEFT_SOON ? "warn" : "soft");
@@ -343,13 +449,21 @@ function drawStream(it, stream, old, last, seconds, now, nets) {
   drawAstray(it.astray, stream, old);
 }
 
+// how many paths bring a stream that runs, if it has more than one; its place stays
+function drawRedundancy(text, { state, redundancy, paths }) {
+  const all = paths.length, shown = state === "running" && all > 1 && paths.every(path => path.state !== null);
+  show(text, "redundancy " + redundancy + " of " + all);
+  style(text, "right " + (redundancy === 0 ? "bad word" : redundancy < all ? "warn word" : "good"));
+  set(text, "visibility", shown ? "visible" : "hidden");
+}
+
 // the time until packets will be late or too early, if it is less than a day
 function timeLeft(seconds) {
   if (seconds === null || seconds >= 86400) return "";
   return ", " + (seconds < 120 ? exact(seconds) + " s" : seconds < 7200 ? exact(seconds / 60) + " min" : exact(seconds / 3600) + " h") + " left";
 }
 
-// paths of which no packet is in time, with what to do; no line without any
+// paths of which no packet is in time, with what to do
 function drawAstray(line, stream, old) {
   const words = [];
   stream.paths.forEach((path, n) => {
@@ -359,10 +473,9 @@ function drawAstray(line, stream, old) {
   });
   show(line, words.join("; "));
   line.title = words.join("; ");
-  set(line, "display", words.length > 0 ? "block" : "none");
 }
 
-// the faults of a stream's sockets, and what was dropped or left out there; no line without any
+// the faults of a stream's sockets, and what was dropped or left out there
 function drawSockets(line, stream) {
   const words = [], unknown = [];
   stream.paths.forEach((path, n) => {
@@ -375,8 +488,8 @@ function drawSockets(line, stream) {
   });
   const bad = words.length > 0;
   if (unknown.length > 0) words.push("drops not known on " + unknown.join(", "));
-  show(line, "sockets: " + words.join(", "));
-  set(line, "display", words.length > 0 ? "block" : "none");
+  show(line, words.length > 0 ? "sockets: " + words.join(", ") : "");
+  line.title = words.join(", ");
   style(line, bad ? "note warn" : "note");
 }
 
@@ -401,20 +514,32 @@ function sumPath(net, stream, path, old, taken, seconds) {
   net.silent = isSilent(net.rate, seconds);
 }
 
+// the word of a path, and how bad it is: its state, or whether it is silent if that is not known
+function wordOf(path, old, seconds) {
+  if (path.state !== null) return STATES[path.state];
+  return isSilent((came(path) - came(old)) / seconds, seconds) ? ["silent", "bad"] : ["", ""];
+}
+
 function drawPath(it, stream, path, old, taken, seconds) {
-  const rate = (came(path) - came(old)) / seconds;
-  const silent = isSilent(rate, seconds) && (stream.state === "running" || stream.state === "lost");
-  mark(it.row, "silent", silent);
-  show(it.cells.rate, silent ? "silent" : count(rate));
-  show(it.cells.lost, known(path.lost, count));
+  const [word, kind] = stream.state === "ended" ? ["", ""] : wordOf(path, old, seconds);
+  const active = stream.state === "running" || stream.state === "lost", fault = kind === "good" ? "" : word;
+  mark(it.row, "failing", active && kind === "bad");
+  mark(it.row, "losing", active && kind === "warn");
+  show(it.word, fault);
+  style(it.word, "word " + (active ? kind : "soft"));
+  show(it.cells.rate, count((came(path) - came(old)) / seconds));
+  show(it.cells.lost, known(path.lost, view.number));
   style(it.cells.lost, path.lost > old.lost ? "bad word" : "");
   show(it.cells.first, share(path.first - old.first, taken));
-  show(it.cells.double, known(path.double, count));
-  show(it.cells.late, known(path.late, count));
+  show(it.cells.double, known(path.double, view.number));
+  show(it.cells.late, known(path.late, view.number));
   style(it.cells.late, path.late > old.late ? "bad word" : path.late > 0 ? "warn" : "");
   const spares = path.spare_least !== null;
   set(it.bar, "display", spares ? "inline-block" : "none");
-  show(it.spare, spares ? millis(path.spare_least) + ", " + millis(path.spare_median) + ", " + known(path.drift_ppm, signed) : path.lost === null ? "\u2013" : "none in time");
+  const none = fault ? "" : path.lost === null ? "\u2013" : "none in time";
+  show(it.spare, spares ? millis(path.spare_least) : none);
+  show(it.more, spares ? ", " + millis(path.spare_median) + ", " + known(path.drift_ppm, signed) : "");
+  it.last.title = fault + " " + it.spare.textContent + it.more.textContent;
   if (spares) {
     width(it.least, path.spare_least / stream.latency);
     width(it.median, path.spare_median / stream.latency);
@@ -512,6 +637,7 @@ async function ask() {
       console.error(fault);
       show(link, ended ? "\u25a0 ended: these are the last numbers" : "\u2715 no answer: these are the last numbers");
       style(link, ended ? "" : "off");
+      if (!ended) showWord("\u2715 no answer", "bad");
       history = [];
       await rest(900);
     }

@@ -12,6 +12,7 @@ ghost use Rattle.status_page.specs.Metrics.{
   stream_sample,
   path_sample,
   condition_sample,
+  path_condition_sample,
   output_sample,
 };
 
@@ -20,7 +21,7 @@ use crate::fields::path::{PathField, flag};
 use crate::fields::stream::StreamField;
 use crate::fields::{MetricKind, Number};
 use crate::page::text::{push, push_label, push_metric, push_number, push_signed};
-use crate::snapshot::{ChannelState, Condition, StreamName, StreamState};
+use crate::snapshot::{ChannelState, Condition, PathCondition, StreamName, StreamState};
 use rtp_stream::Path;
 use std::alloc::AllocError;
 
@@ -136,6 +137,29 @@ pub(crate) fn push_condition_sample(
     push(text, condition.text())?;
     push(text, "\"")?;
     push_value(text, condition.holds(stream.condition))
+}
+
+/// Appends the line for a condition of a path, with 1 if it is the path's present one and 0 otherwise.
+#[tactic(auto, unfolding(crate::specs::Metrics::path_condition_sample))]
+pub(crate) fn push_path_condition_sample(
+    text: &mut Vec<u8>,
+    number: usize,
+    stream: &StreamState,
+    path: Path,
+    present: PathCondition,
+    condition: PathCondition,
+) -> Result<(), AllocError>
+    ensures { OnOk result
+        (text.new.items ≡ text.old.items ++ path_condition_sample number stream.now path present condition) }
+{
+    push_metric(text, "path_", "state", MetricKind::Gauge)?;
+    push_labels(text, number, stream)?;
+    push(text, ",path=\"")?;
+    push(text, path.letter())?;
+    push(text, "\",state=\"")?;
+    push(text, condition.text())?;
+    push(text, "\"")?;
+    push_value(text, condition.holds(present))
 }
 
 /// Appends the line with a number of an output channel.

@@ -4,6 +4,7 @@ ghost use Rattle.json.specs.Lex.{tokens};
 ghost use Rattle.json.specs.Print.{print};
 ghost use Rattle.status_page.specs.State.{
   array_tokens,
+  condition_token,
   known_token,
   last_members,
   name_token,
@@ -35,7 +36,7 @@ use crate::fields::Number;
 use crate::fields::output::{OUTPUT_FIELDS, OutputField};
 use crate::fields::path::{PATH_FIELDS, PathField};
 use crate::fields::stream::StreamField;
-use crate::snapshot::{ChannelState, PathState, Snapshot, StreamName, StreamState};
+use crate::snapshot::{ChannelState, PathCondition, PathState, Snapshot, StreamName, StreamState};
 use json::Writer;
 use rtp_stream::{COUNT_FIELDS, CountField};
 use std::alloc::{AllocError, Global};
@@ -116,7 +117,7 @@ fn write_name(writer: &mut Writer, name: &Option<StreamName>) -> Result<(), Allo
     }
 }
 
-/// Writes the numbers of a stream: these counts, the latency, and the time that is left.
+/// Writes the numbers of a stream: these counts, the latency, the time that is left, and the redundancy.
 #[tactic(auto, unfolding(crate::specs::State::stream_members))]
 fn write_stream_members(
     writer: &mut Writer,
@@ -132,13 +133,14 @@ fn write_stream_members(
     write_last_members(writer, stream)
 }
 
-/// Writes the latency of a stream, and the time that is left.
+/// Writes the latency of a stream, the time that is left, and the redundancy.
 fn write_last_members(writer: &mut Writer, stream: &StreamState) -> Result<(), AllocError>
     ensures tokens { OnOk result (writer.new.tokens ≡ writer.old.tokens ++ last_members stream.now) }
     ensures before { OnOk result (writer.new.before ≡ writer.old.before) }
 {
     write_stream_member(writer, StreamField::Latency, stream)?;
-    write_stream_member(writer, StreamField::SecondsLeft, stream)
+    write_stream_member(writer, StreamField::SecondsLeft, stream)?;
+    write_stream_member(writer, StreamField::Redundancy, stream)
 }
 
 /// Writes a number of a stream.
@@ -178,14 +180,27 @@ fn write_each_path(writer: &mut Writer, paths: &[PathState]) -> Result<(), Alloc
     Ok(())
 }
 
-/// Writes a path.
+/// Writes a path: its condition and its numbers.
 fn write_path(writer: &mut Writer, path: &PathState) -> Result<(), AllocError>
     ensures tokens { OnOk result (writer.new.tokens ≡ writer.old.tokens ++ path_tokens path.now) }
     ensures before { OnOk result (writer.new.before ≡ writer.old.before) }
 {
     writer.begin_object()?;
+    writer.key("state")?;
+    write_condition(writer, path.condition)?;
     write_path_members(writer, &PATH_FIELDS, path)?;
     writer.end_object()
+}
+
+/// Writes the name of a path's condition, or null if it is not known.
+fn write_condition(writer: &mut Writer, condition: Option<PathCondition>) -> Result<(), AllocError>
+    ensures tokens { OnOk result (writer.new.tokens ≡ writer.old.tokens ++ condition_token condition ∷ []) }
+    ensures before { OnOk result (writer.new.before ≡ writer.old.before) }
+{
+    match condition {
+        Some(condition) => writer.string(condition.text()),
+        None => writer.null(),
+    }
 }
 
 /// Writes the numbers of a path.

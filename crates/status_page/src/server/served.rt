@@ -38,7 +38,8 @@ pub trait ServedPage: Drop {
 
     /// Responds to the requests that were read from a client, and returns the part of the gains in the last answer.
     /// `now` is the reading of a monotonic clock.
-    fn respond(&mut self, connection: &mut Connection, now: Duration) -> GainsAnswer;
+    fn respond(&mut self, connection: &mut Connection, now: Duration) -> GainsAnswer
+        ensures { shown self.new ≡ shown self.old };
 }
 
 impl ServedPage for Page {
