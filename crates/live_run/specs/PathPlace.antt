@@ -1,7 +1,7 @@
 -- The place of a path among the paths of all streams.
 use Rattle.std.specs.Prelude.{ℕ, ◌+◌, List, take}
 use Rattle.rtp_stream.specs.declared.stream_spec.Stream.{Stream}
-use Rattle.live_io.specs.RecordBlocks.{path_total}
+use Rattle.live_io.specs.Paths.{path_total}
 
 -- the place of the first path of a stream: the paths of the streams before it come first
 abbrev pub first_place : List Stream → ℕ → ℕ

@@ -34,4 +34,6 @@ pub struct LiveInputs<'a> {
     pub start: &'a RunStart,
     /// The reading of the system's monotonic clock at the studio's opening time, if it could be read.
     pub began: Option<Duration>,
+    /// Whether the studio opens by International Atomic Time.
+    pub is_by_tai: bool,
 }

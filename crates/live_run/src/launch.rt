@@ -50,6 +50,8 @@ pub(crate) fn launch_run<
 ) -> Result<RunEnd, LiveFault>
     ensures run { IfOk result
         (λ end. IsRunOf run.entry.options.now.one_thread (is_some control) run.entry.studio.now end.report) }
+    ensures ends { IfOk result
+        (λ end. AreEndsIn run.entry.options.now.one_thread O.Events.ended O.Mix.ended end.outputs) }
     ensures early { IfErr result IsEarly }
 {
     // Made here and not in `bind_and_run`, whose parts and threads borrow it.
@@ -87,6 +89,8 @@ fn bind_and_run<
 ) -> Result<RunEnd, LiveFault>
     ensures run { IfOk result
         (λ end. IsRunOf run.entry.options.now.one_thread (is_some control) run.entry.studio.now end.report) }
+    ensures ends { IfOk result
+        (λ end. AreEndsIn run.entry.options.now.one_thread O.Events.ended O.Mix.ended end.outputs) }
     ensures early { IfErr result IsEarly }
 {
     let sockets = open_sockets(rt, alloc, run.studio, run.inputs.sockets)?;
@@ -116,6 +120,8 @@ impl<'a, R: Threads + Wait + Sync + Clock> BoundRun<'a, R> {
     ) -> Result<RunEnd, LiveFault>
         ensures run { IfOk result (λ end.
             IsRunOf run.entry.options.now.one_thread (is_some self.entry.gains) run.entry.studio.now end.report) }
+        ensures ends { IfOk result
+            (λ end. AreEndsIn run.entry.options.now.one_thread O.Events.ended O.Mix.ended end.outputs) }
         ensures early { IfErr result IsEarly }
     {
         let (task, outputs) = outputs;

@@ -9,9 +9,10 @@
 //!
 //! - `launch` opens sockets, page and status, creates the outputs, and calls one of the two forms with
 //!   a `RunContext`. `page_task` is the task of the thread that serves the page.
-//! - `status` opens the outputs of the status, and writes the line of addresses and how to end the
-//!   run, if that is not by a signal. `shown_health` reads what the status shows of sockets, sends
-//!   and outputs. `path_order` has the place of a path among the paths of all streams.
+//! - `status` opens the outputs of the status, and writes the line of addresses, that the output is by
+//!   another clock than the run, and how to end the run, if that is not by a signal. `shown_health`
+//!   reads what the status shows of sockets, sends and outputs. `path_order` has the place of a path
+//!   among the paths of all streams.
 //! - `workers` is the form with a thread for each path and stream and one for the mix,
 //!   `run_in_workers`. It passes its mix to the outputs.
 //! - `single_thread` is the form with an engine in one thread, `run_in_one_thread`. It waits by
@@ -26,6 +27,7 @@
 #![tactic(auto)]
 
 mod address_line;
+mod clock_line;
 mod context;
 mod end_hint;
 mod fault;

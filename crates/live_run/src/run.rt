@@ -1,5 +1,6 @@
 //! A live run, and its report.
-ghost use Rattle.std.specs.Prelude.{is_some, true, IfErr, OnOk};
+ghost use Rattle.std.specs.Prelude.{is_some, true, IfErr, IfOk, OnOk};
+ghost use Rattle.run_outputs.specs.Ends.{AreEndsIn};
 ghost use Rattle.live_run.specs.RunText.{FailsRun, WritesRun};
 
 use crate::fault::LiveFault;
@@ -53,6 +54,8 @@ pub fn run_studio_live<
 ) -> Result<OutputEnds, LiveFault>
     ensures ok { OnOk result (WritesRun run.entry.options.now.one_thread (is_some control) run.entry.studio.now true
         (W.contents output.old) (W.contents output.new)) }
+    ensures ends { IfOk result
+        (λ ends. AreEndsIn run.entry.options.now.one_thread O.Events.ended O.Mix.ended ends) }
     ensures fault { IfErr result (FailsRun run.entry.options.now.one_thread (is_some control) run.entry.studio.now
         (W.contents output.old) (W.contents output.new)) }
 {

@@ -1,6 +1,7 @@
 //! Opening the status of a run: the first lines on standard error, and the outputs that the run fills.
 
 use crate::address_line::write_address_line;
+use crate::clock_line::write_clock_line;
 use crate::end_hint::write_end_hint;
 use crate::inputs::LiveRun;
 use live_io::Sockets;
@@ -21,9 +22,10 @@ pub(crate) struct PageLink {
 }
 
 /// Opens the status of a run whose sockets and page are open: writes the line with the run's addresses, if there is a
-/// page or lines are wanted. Then it writes how to end the run, if that is not by a signal: at a terminal, if Ctrl-C
-/// would end it without a report, and anywhere, if the system does not list the signals. Lines go to `faults`.
-/// Allocates all memory of the status, and returns `AllocError` if that fails.
+/// page or lines are wanted. Then it writes that the output is by the media clock, if the run is not, and how to end
+/// the run, if that is not by a signal: at a terminal, if Ctrl-C would end it without a report, and anywhere, if the
+/// system does not list the signals. Lines go to `faults`. Allocates all memory of the status, and returns
+/// `AllocError` if that fails.
 pub(crate) fn open_status<'a, E: Write + Drop>(
     alloc: Global,
     run: LiveRun<'a>,
@@ -42,6 +44,7 @@ pub(crate) fn open_status<'a, E: Write + Drop>(
     if options.stats.is_some() || snapshots.is_some() {
         write_address_line(studio, sockets, address, &mut faults);
     }
+    write_clock_line(studio, inputs.is_by_tai, &mut faults);
     write_end_hint(inputs.signals, options.until_eof, &mut faults);
     let shown = StatusInputs {
         names: inputs.names,

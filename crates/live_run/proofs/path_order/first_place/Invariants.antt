@@ -1,5 +1,5 @@
 use Rattle.std.proofs.Common.{◌≡◌, ◌≤◌, ◌*◌, take}
-use Rattle.live_io.specs.RecordBlocks.{path_total}
+use Rattle.live_io.specs.Paths.{path_total}
 use Rattle.live_run.proofs.path_order.first_place.Given as goal
 
 -- the paths of the streams so far, at most 4 each
