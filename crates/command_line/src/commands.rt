@@ -185,7 +185,7 @@ const LIVE: &[ArgSpec] = &[
     },
     ArgSpec {
         name: "verbose",
-        help: "If a socket or a file cannot be opened, also print its address or path, and the system's error",
+        help: "Changes nothing any more: what it added to the fault of a device is always printed",
         ..FLAG
     },
     ArgSpec {

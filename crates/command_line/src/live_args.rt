@@ -17,9 +17,6 @@ pub struct LiveArgs<'a> {
     pub tai_offset: Option<&'a str>,
     /// The path of the run's record, if one is asked for.
     pub record: Option<&'a str>,
-    /// True if the fault of a device is explained: what the socket is for and its address, or the path of the file, and
-    /// the system's error.
-    pub verbose: bool,
     /// The path of the file with the token of the page's control of gains, if the page is to have it.
     pub control: Option<&'a str>,
     /// The path of the mix's WAV file, if one is asked for.
@@ -42,7 +39,6 @@ impl<'a> LiveArgs<'a> {
             share_groups: matches.get_flag("share-groups"),
             tai_offset: matches.get_str("clock").map(|_tai| offset),
             record: matches.get_str("record"),
-            verbose: matches.get_flag("verbose"),
             control: matches.get_str("control"),
             wav: matches.get_str("wav"),
             wav_minutes: matches.get_one::<u64>("wav-minutes"),

@@ -94,22 +94,34 @@ pub fn parse_studio(alloc: Global, octets: &[u8]) -> Result<StudioSpec, CommandF
     Ok(StudioSpec::from_table(alloc, &table)?)
 }
 
-/// Returns the studio of the configuration at a path. A fault of the configuration is explained.
-pub(crate) fn checked_studio<H: Host>(
+/// A configuration without a fault: its table, and the studio that it describes.
+#[derive(Drop)]
+pub(crate) struct CheckedConfig {
+    pub(crate) studio: StudioSpec,
+    pub(crate) table: Table,
+}
+
+/// Returns the configuration at a path. A fault of the configuration is explained.
+pub(crate) fn checked_config<H: Host>(
     host: &H,
     alloc: Global,
     path: &str,
-) -> Result<StudioSpec, CommandFault> {
+) -> Result<CheckedConfig, CommandFault> {
     let octets = read_config(host, alloc, path)?;
-    explained_studio(alloc, path, octets.as_slice())
+    explained_config(alloc, path, octets.as_slice())
 }
 
-/// Returns the studio that the octets of the configuration at a path describe. A fault of the configuration is
-/// explained: `CommandFault::Explained`. Returns `CommandFault::Memory` if an allocation fails.
-fn explained_studio(alloc: Global, path: &str, octets: &[u8]) -> Result<StudioSpec, CommandFault> {
+/// Returns the configuration with these octets at a path. A fault of the configuration is explained:
+/// `CommandFault::Explained`. Returns `CommandFault::Memory` if an allocation fails.
+fn explained_config(
+    alloc: Global,
+    path: &str,
+    octets: &[u8],
+) -> Result<CheckedConfig, CommandFault> {
     let text = explained_text(alloc, path, octets)?;
     let table = explained_table(alloc, path, text)?;
-    explained_by_table(alloc, path, text, &table)
+    let studio = explained_by_table(alloc, path, text, &table)?;
+    Ok(CheckedConfig { studio, table })
 }
 
 /// Returns the studio of a configuration's table. A fault of the configuration is explained.

@@ -52,6 +52,7 @@ fn write_row<W: Write>(
 fn default_at(place: ConfigTable, key: Key) -> &'static str {
     match key {
         Key::Ssrc => default_source(place),
+        Key::Clock => default_clock(place),
         Key::Offset => "0",
         Key::Paths => "2",
         Key::PortA | Key::PortB | Key::PortC | Key::PortD => "required by live",
@@ -61,6 +62,14 @@ fn default_at(place: ConfigTable, key: Key) -> &'static str {
         Key::SourceA | Key::SourceB | Key::SourceC | Key::SourceD => "any",
         Key::Name | Key::Change => "none",
         Key::Ttl => "the system's",
+        _ => REQUIRED,
+    }
+}
+
+/// Returns the default of a clock: that of the output is the run's, and a stream has to have one.
+fn default_clock(place: ConfigTable) -> &'static str {
+    match place {
+        ConfigTable::Output => "run",
         _ => REQUIRED,
     }
 }

@@ -1,9 +1,11 @@
 //! The explanation of a configuration's fault, which `check` prints below the fault's line: where it is, what the
 //! configuration has there, and what is allowed.
 //!
-//! `explanation/allowed.rt` says what each key may be, and `explanation/config_lines.rt` finds the line of a key.
-use crate::explanation::allowed::{allowed_at, is_known};
+//! `explanation/allowed.rt` says what each key may be, `explanation/config_lines.rt` finds the line of a key, and
+//! `explanation/similar_key.rt` the key that a mistyped one resembles.
+use crate::explanation::allowed::{allowed_at, is_known, whole_words};
 use crate::explanation::config_lines::{key_line, table_line};
+use crate::explanation::similar_key::{similar_key, similar_unknown};
 use gain_mix::ScheduleFault;
 use mix_packets::OutFault;
 use rtp_stream::SpecFault;
@@ -13,6 +15,7 @@ use toml::{Table, Value};
 
 pub(crate) mod allowed;
 mod config_lines;
+mod similar_key;
 
 /// The payloads that a packet may have, as text.
 const PAYLOADS: &str =
@@ -33,20 +36,40 @@ pub(crate) fn explain_fault(
 ) -> Result<String, AllocError> {
     let place = error.place;
     let here = table_at(table, place);
-    match error.key.or(key_of_rule(error.kind)) {
-        Some(key) => {
-            let mut said = place_in_file(alloc, path, key_line(text, place, key.name()))?;
-            push_name(&mut said, alloc, place, key.name())?;
-            push_value(
-                &mut said,
-                alloc,
-                here.and_then(|table| table.get(key.name())),
-            )?;
-            push_allowed(&mut said, error.kind, place, key)?;
-            Ok(said)
+    let Some(key) = error.key.or(key_of_rule(error.kind)) else {
+        return explain_unknown(alloc, path, text, here, place);
+    };
+    if error.kind == SpecErrorKind::Missing {
+        if let Some(name) = here.and_then(|table| similar_unknown(table, place, key)) {
+            return explain_mistyped(alloc, path, text, place, key, name);
         }
-        None => explain_unknown(alloc, path, text, here, place),
     }
+    let value = here.and_then(|table| table.get(key.name()));
+    let mut said = place_in_file(alloc, path, key_line(text, place, key.name()))?;
+    push_name(&mut said, alloc, place, key.name())?;
+    push_value(&mut said, alloc, value)?;
+    match here.and_then(|table| most_latency(error.kind, table)) {
+        Some(most) => push_latencies(&mut said, alloc, most)?,
+        None => push_allowed(&mut said, error.kind, place, key, value)?,
+    }
+    Ok(said)
+}
+
+/// Returns the explanation of a missing key that an unknown key of its table resembles.
+fn explain_mistyped(
+    alloc: Global,
+    path: &str,
+    text: &str,
+    place: ConfigTable,
+    key: Key,
+    name: &str,
+) -> Result<String, AllocError> {
+    let mut said = place_in_file(alloc, path, key_line(text, place, name))?;
+    push_name(&mut said, alloc, place, key.name())?;
+    said.push_str(" is missing; ")?;
+    push_text(&mut said, name)?;
+    said.push_str(" resembles it")?;
+    Ok(said)
 }
 
 /// Returns the explanation of a text that is not TOML: the place of the error, and TOML's own message.
@@ -96,6 +119,11 @@ fn explain_unknown(
     push_name(&mut said, alloc, place, "")?;
     push_text(&mut said, name)?;
     said.push_str(" is no key of this table")?;
+    if let Some(known) = table.and_then(|table| similar_key(table, place, name)) {
+        said.push_str("; did you mean ")?;
+        said.push_str(known)?;
+        said.push_str("?")?;
+    }
     Ok(said)
 }
 
@@ -179,12 +207,14 @@ fn push_text(said: &mut String, text: &str) -> Result<(), AllocError> {
     Ok(())
 }
 
-/// Appends the values that are allowed: by the rule that a fault breaks, or at its key.
+/// Appends the values that are allowed: by the rule that a fault breaks, or at its key. If the value has a fraction,
+/// the text says that they are whole numbers.
 fn push_allowed(
     said: &mut String,
     kind: SpecErrorKind,
     place: ConfigTable,
     key: Key,
+    value: Option<&Value>,
 ) -> Result<(), AllocError> {
     let allowed = match kind {
         SpecErrorKind::Stream(SpecFault::TooLong) => Some(PAYLOADS),
@@ -194,14 +224,36 @@ fn push_allowed(
     match allowed {
         Some(allowed) => {
             said.push_str("; allowed are ")?;
+            if let Some(Value::Float(_)) = value {
+                said.push_str(whole_words(key))?;
+            }
             said.push_str(allowed)
         }
         None => Ok(()),
     }
 }
 
+/// Returns the greatest latency of the stream in a table by its window and packets, in sample periods, if a fault is
+/// that its latency is greater.
+fn most_latency(kind: SpecErrorKind, table: &Table) -> Option<i64> {
+    if kind != SpecErrorKind::Stream(SpecFault::Latency) {
+        return None;
+    }
+    let frames = table.get("frames")?.as_integer()?;
+    let window = table.get("window")?.as_integer()?;
+    Some(window.saturating_sub(2).saturating_mul(frames))
+}
+
+/// Appends the latencies that are allowed, up to the greatest one.
+fn push_latencies(said: &mut String, alloc: Global, most: i64) -> Result<(), AllocError> {
+    said.push_str(&format!(in alloc;
+        "; allowed are 1 to {most} sample periods, that is (window - 2) * frames, "
+    )?)?;
+    said.push_str("so that the window holds the latency and two packets")
+}
+
 /// Returns the table at a place of a configuration, if there is one.
-fn table_at(table: &Table, place: ConfigTable) -> Option<&Table> {
+pub(crate) fn table_at(table: &Table, place: ConfigTable) -> Option<&Table> {
     match place {
         ConfigTable::Top => Some(table),
         ConfigTable::Stream(number) => table.get("stream")?.as_array()?.get(number)?.as_table(),

@@ -58,6 +58,17 @@ pub enum CommandFault {
     Write,
 }
 
+/// The kind of a file that commands read by its path.
+#[derive(Clone, Copy, Debug, PartialEq, Eq)]
+pub enum InputKind {
+    /// A configuration.
+    Config,
+    /// A file of gains.
+    Gains,
+    /// A capture.
+    Capture,
+}
+
 /// The fault of files of one command that are one file.
 // An enum of its own: a command compares many pairs of files, and each `?` is proved along all parts of its fault.
 #[derive(Clone, Copy, Debug, PartialEq, Eq, Error)]
@@ -175,6 +186,19 @@ impl CommandFault {
             ReadFault::Device => CommandFault::Capture(CaptureInputFault::Unread),
             ReadFault::TooMany => CommandFault::Capture(CaptureInputFault::TooLong),
             ReadFault::Memory => CommandFault::Memory,
+        }
+    }
+
+    /// Returns the kind of the file that could not be opened or read, if the fault is one of such a file.
+    pub fn unread(&self) -> Option<InputKind> {
+        match self {
+            CommandFault::Config(ConfigFault::Unread) => Some(InputKind::Config),
+            CommandFault::Gains(GainsInputFault::Unread) => Some(InputKind::Gains),
+            CommandFault::Capture(CaptureInputFault::Unread) => Some(InputKind::Capture),
+            CommandFault::Replay(ReplayFault::Capture(ReaderFault::ReadFailed)) => {
+                Some(InputKind::Capture)
+            }
+            _ => None,
         }
     }
 

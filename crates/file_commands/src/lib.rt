@@ -20,11 +20,13 @@ mod fault;
 mod host;
 mod import_command;
 mod imported_config;
+mod levels;
 mod replay;
 mod replay_command;
 mod replay_input;
 mod replay_outputs;
 mod replay_source;
+mod shared_place;
 mod stream_output;
 mod streams_command;
 mod trace_commands;
@@ -32,7 +34,8 @@ mod trace_commands;
 pub use config::{parse_studio, read_config, table_in};
 pub use config_help::run_config_help;
 pub use fault::{
-    CaptureInputFault, CommandFault, ConfigFault, FileClash, GainsInputFault, output_result,
+    CaptureInputFault, CommandFault, ConfigFault, FileClash, GainsInputFault, InputKind,
+    output_result,
 };
 pub use host::{Host, is_one_file};
 pub use import_command::run_import;

@@ -1,5 +1,5 @@
 //! The commands over a trace on standard input, with or without a WAV file of the mix or of one stream, and `check`.
-use crate::config::{checked_studio, played_studio, quick_start_studio, studio_of};
+use crate::config::{checked_config, played_studio, quick_start_studio, studio_of};
 use crate::config_summary::write_summary;
 use crate::fault::{CommandFault, FileClash, output_result};
 use crate::host::{Host, NamedFile, STDIN_PATH, begin_fault_line, refuse_inputs};
@@ -66,8 +66,8 @@ pub fn run_check<H: Host>(
     path: &str,
     output: &mut H::Stdout,
 ) -> Result<(), CommandFault> {
-    let studio = checked_studio(host, alloc, path)?;
-    output_result(write_summary(&studio, output))
+    let config = checked_config(host, alloc, path)?;
+    output_result(write_summary(&config.studio, &config.table, output))
 }
 
 /// Writes the report of the trace in `input` by the configuration at a path, with the changes of gains and the WAV file

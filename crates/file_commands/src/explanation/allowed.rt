@@ -55,7 +55,7 @@ const PORT: &str = "1 to 65535";
 const ADDRESS: &str = "IPv4 addresses, such as \"192.0.2.1\"";
 /// Gains, as text.
 const GAINS: &str =
-    "a row for each output channel, with a gain from -1048576 to 1048576 for each channel of the streams";
+    "a row for each output channel, with a whole number from -1048576 to 1048576 for each channel of the streams";
 
 /// Returns true if a table at this place has a key of this name.
 pub(crate) fn is_known(place: ConfigTable, name: &str) -> bool {
@@ -75,6 +75,19 @@ pub(crate) fn allowed_at(place: ConfigTable, key: Key) -> Option<&'static str> {
         ConfigTable::Stream(_) => allowed_in_stream(key),
         ConfigTable::Output => allowed_in_output(key),
         ConfigTable::Change(_) => allowed_in_change(key),
+    }
+}
+
+/// Returns the words between "allowed are" and what a key may be, if its value has a fraction and is to be a whole
+/// number.
+pub(crate) fn whole_words(key: Key) -> &'static str {
+    match key {
+        Key::Frames | Key::Window => "the whole numbers ",
+        Key::OpenAt | Key::At | Key::Start | Key::Offset | Key::Latency => "whole numbers from ",
+        Key::Channels | Key::Pt | Key::Ssrc | Key::Seq | Key::Paths => "whole numbers from ",
+        Key::PortA | Key::PortB | Key::PortC | Key::PortD => "whole numbers from ",
+        Key::ToA | Key::ToB | Key::Ttl => "whole numbers from ",
+        _ => "",
     }
 }
 
@@ -119,6 +132,7 @@ fn allowed_in_output(key: Key) -> Option<&'static str> {
         Key::ToA | Key::ToB => Some(PORT),
         Key::FromA | Key::FromB | Key::ToAddressA | Key::ToAddressB => Some(ADDRESS),
         Key::Ttl => Some("1 to 255"),
+        Key::Clock => Some("\"run\", and \"media\" if each stream has clock = \"media\""),
         _ => allowed_in_packets(key),
     }
 }
