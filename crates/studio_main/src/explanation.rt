@@ -1,5 +1,4 @@
-//! The explanations that `live --verbose` writes below the fault of a device: what could not be opened or read, and the
-//! system's error.
+//! The explanations below the fault of a device: what could not be opened or read, and the system's error.
 use crate::fault::ProgramFault;
 use crate::run_files::path_of;
 use crate::wav_files::part_path;
@@ -13,9 +12,13 @@ use std::{fmt, io};
 use studio_io::OutputKind;
 use thiserror::Error;
 
-/// The explanation of a fault of a clock.
-const CLOCK: &str =
-    "the two clocks were not read within 100 microseconds of each other, or the system does not know how far International Atomic Time is ahead (adjtimex)";
+/// The explanation of clocks that could not be read together.
+const CLOCKS: &str =
+    "the time of day and the monotonic clock were not read within 100 microseconds of each other, in 100 tries";
+
+/// The explanation of a clock, if the offset of International Atomic Time is to be the one that the system knows.
+const SYSTEM_OFFSET: &str =
+    "the system does not know how far International Atomic Time is ahead (adjtimex): start ptp4l with phc2sys, or chrony, or pass --tai-offset SECONDS, such as 37; or the clocks were not read within 100 microseconds of each other, in 100 tries";
 
 /// The explanation of a thread that could not be started.
 const THREAD: &str = "the system has no room for another thread (ulimit -u, TasksMax)";
@@ -79,8 +82,8 @@ pub(crate) trait SystemErrors {
     fn last_error(&self) -> i32;
 }
 
-/// Returns the fault of a live run, explained if it is one of a device and there is more to say. `begins` is the time
-/// of the first WAV file, if its name has it. Returns `AllocError` if an allocation fails.
+/// Returns the fault of a live run with its explanation, if it is one of a device and there is more to say. `begins` is
+/// the time of the first WAV file, if its name has it. Returns `AllocError` if an allocation fails.
 pub(crate) fn explained<R: Net, H: SystemErrors>(
     rt: &R,
     alloc: Global,
@@ -98,8 +101,19 @@ pub(crate) fn explained<R: Net, H: SystemErrors>(
             Some(why) => Ok(ProgramFault::ControlExplained(why)),
             None => Ok(ProgramFault::Control),
         },
-        ProgramFault::Clock => Ok(ProgramFault::ClockExplained(Explanation::Text(CLOCK))),
+        ProgramFault::Clock => {
+            let why = Explanation::Text(clock_explanation(args.tai_offset));
+            Ok(ProgramFault::ClockExplained(why))
+        }
         fault => Ok(fault),
+    }
+}
+
+/// Returns the explanation of a clock's fault, for an offset as it was typed.
+fn clock_explanation(offset: Option<&str>) -> &'static str {
+    match offset {
+        Some("system") => SYSTEM_OFFSET,
+        _ => CLOCKS,
     }
 }
 

@@ -12,14 +12,6 @@ use thiserror::Error;
 /// The hint at a fault of a configuration.
 const CONFIG_HINT: &str = "`darbexum check CONFIG` says where this is and what is allowed.";
 
-/// The hint at a device of a live run that cannot be opened.
-const DEVICE_HINT: &str =
-    "With --verbose the next line says which socket or file this is, and the system's error.";
-
-/// The hint at a file that has no token for the control of gains.
-const CONTROL_HINT: &str =
-    "The file has to be a regular one of 16 to 256 visible ASCII characters that others may not read or write, and its group may not write.";
-
 /// The fault that ended the program. Its `Display` is the fault's line.
 #[derive(Debug, Drop, Error)]
 pub(crate) enum ProgramFault {
@@ -38,6 +30,9 @@ pub(crate) enum ProgramFault {
     /// A command, or the configuration of a live run, ended with a fault.
     #[error("{0}")]
     Command(#[from] CommandFault),
+    /// A file that a command reads could not be read, and this explains why.
+    #[error("{0}\n{1}")]
+    Unread(CommandFault, Explanation),
     /// A live run ended early.
     #[error("{0}")]
     Live(#[from] LiveFault),
@@ -71,6 +66,7 @@ impl ProgramFault {
         match self {
             ProgramFault::Usage | ProgramFault::TaiOffset | ProgramFault::SameFile(_) => 2,
             ProgramFault::Command(fault) => fault.status(),
+            ProgramFault::Unread(fault, _) => fault.status(),
             ProgramFault::Live(LiveFault::Memory) => 4,
             ProgramFault::Inherited(InheritedSocketFault::Memory) => 4,
             ProgramFault::Live(_) | ProgramFault::LiveExplained(_, _) => 5,
@@ -81,14 +77,10 @@ impl ProgramFault {
         }
     }
 
-    /// Returns a line that says how to learn more of the fault, if a command or an option says more.
+    /// Returns a line that says how to learn more of the fault, if a command says more.
     pub(crate) fn hint(&self) -> Option<&'static str> {
         match self {
             ProgramFault::Command(CommandFault::Config(fault)) => config_hint(*fault),
-            ProgramFault::Live(LiveFault::Socket | LiveFault::Page | LiveFault::Output(_)) => Some(
-                DEVICE_HINT,
-            ),
-            ProgramFault::Control => Some(CONTROL_HINT),
             _ => None,
         }
     }

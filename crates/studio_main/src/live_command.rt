@@ -4,8 +4,10 @@ use crate::fault::ProgramFault;
 use crate::left_out_lines::write_left_out;
 use crate::live_host::LiveHost;
 use crate::live_lines::LiveLines;
+use crate::notify_socket::NotifySocket;
 use crate::opening::{OpenedStudio, open_studio};
 use crate::run_files::{RunPaths, files_of};
+use crate::service::{Service, service_in_env};
 use crate::std_fds::is_stdout_terminal;
 use crate::token_file::token_of;
 use command_line::LiveArgs;
@@ -26,14 +28,13 @@ use std::sync::Wait;
 use std::thread::Threads;
 use std::time::Clock;
 use studio_config::StudioSpec;
-use studio_io::{OUTPUT_KINDS, OutputEnd, OutputKind, OutputState, RunProgress};
+use studio_io::{OUTPUT_KINDS, OutputKind, OutputState, RunProgress};
 use toml::Value;
 
 /// Runs the studio of a configuration's octets over sockets, and writes its report to `output`. If counts are asked for
 /// while it runs, they go to `faults`. Files are the host's. Returns the first fault: of the configuration, of the
 /// offset or the time of `--clock`, of the clock that times the WAV files, of the token's file, of a missing port or an
-/// inherited socket, of the run's files, or of the run. With `--verbose` the fault of a device is explained. That of
-/// raw PCM to a terminal always is.
+/// inherited socket, of the run's files, or of the run. The fault of a device is explained.
 pub(crate) fn run_live<
     R: Threads + Wait + Sync + Net + Clock + RandomSource + Env + AllocGlobal,
     H: LiveHost,
@@ -55,8 +56,8 @@ pub(crate) fn run_live<
         Err(fault) => (None, Err(fault)),
     };
     match ran {
-        Err(fault) if args.verbose => Err(explained(rt, alloc, host, args, begins, fault)?),
-        ran => ran,
+        Ok(()) => Ok(()),
+        Err(fault) => Err(explained(rt, alloc, host, args, begins, fault)?),
     }
 }
 
@@ -84,6 +85,7 @@ fn load_and_run<
 ) -> Result<(), ProgramFault> {
     let (config, args, host) = (request.config, request.args, request.host);
     let token = token_of(alloc, host, args.control)?;
+    let service = service_in_env(rt)?;
     let inputs = load_inputs(rt, alloc, &opened.studio, config, args.listen_fds)?;
     refuse_terminal(args)?;
     // The run creates its files once its sockets are bound. A file that is there already is refused before that.
@@ -93,11 +95,20 @@ fn load_and_run<
         inputs,
         args,
     };
+    let outputs = (files, service);
     // Two calls, since the report goes to standard error if the samples go to standard output.
     if args.is_pcm_stdout() {
-        return run_loaded(rt, alloc, &loaded, files, token, &mut host.stderr(), faults);
+        return run_loaded(
+            rt,
+            alloc,
+            &loaded,
+            outputs,
+            token,
+            &mut host.stderr(),
+            faults,
+        );
     }
-    run_loaded(rt, alloc, &loaded, files, token, output, faults)
+    run_loaded(rt, alloc, &loaded, outputs, token, output, faults)
 }
 
 /// Refuses raw PCM that would go to a terminal.
@@ -119,7 +130,8 @@ struct LoadedRun<'a> {
     args: LiveArgs<'a>,
 }
 
-/// Runs a studio with its inputs, and with the files that its options name. Writes the report and the lines after it.
+/// Runs a studio with its inputs, with the files that its options name, and with the service manager that the
+/// environment names. Writes the report and the lines after it.
 fn run_loaded<
     R: Threads + Wait + Sync + Net + Clock + RandomSource + Env + AllocGlobal,
     H: LiveHost,
@@ -128,19 +140,20 @@ fn run_loaded<
     rt: &R,
     alloc: Global,
     loaded: &LoadedRun<'_>,
-    files: RunPaths<'_, '_, H>,
+    outputs: (RunPaths<'_, '_, H>, Option<Service<NotifySocket>>),
     token: Option<Token>,
     output: &mut W,
     faults: &mut H::Stderr,
 ) -> Result<(), ProgramFault> {
     let (studio, args) = (&loaded.opened.studio, &loaded.args);
+    let (files, service) = outputs;
     let (progress, start) = (RunProgress::new(), files.start());
     let run = LiveRun {
         studio,
         options: &args.options,
         inputs: live_inputs(loaded, &progress, start),
     };
-    let outputs = files.outputs(&progress);
+    let outputs = (files.outputs(&progress), service);
     let lines = LiveLines::new(faults);
     let ran = run_studio_live(rt, alloc, run, outputs, token, output, lines);
     finish(alloc, ran, studio, run.inputs, loaded.args, output)
@@ -166,6 +179,7 @@ fn live_inputs<'a>(
         signals: &inputs.signals,
         start,
         began: loaded.opened.began,
+        is_by_tai: loaded.args.tai_offset.is_some(),
     }
 }
 
@@ -227,8 +241,8 @@ fn inherited_sockets<R: Env + AllocGlobal>(
     Ok(InheritedSockets::from_env(rt, alloc, studio.streams())?)
 }
 
-/// Writes the lines after the report, if there is a report, and returns the result of the run. With `--verbose` the
-/// fault of a socket is explained.
+/// Writes the lines after the report, if there is a report, and returns the result of the run. The fault of a socket is
+/// explained.
 fn finish<W: Write>(
     alloc: Global,
     ran: Result<OutputEnds, LiveFault>,
@@ -243,31 +257,16 @@ fn finish<W: Write>(
     }
     let ends = match ran {
         Ok(ends) => ends,
-        Err(LiveFault::Socket) if args.verbose => {
-            return Err(socket_fault(alloc, studio, inputs.sockets));
-        }
+        Err(LiveFault::Socket) => return Err(socket_fault(alloc, studio, inputs.sockets)),
         Err(fault) => return Err(ProgramFault::from(fault)),
     };
-    if let Some((kind, end)) = first_fault(&ends, inputs.outputs) {
+    if let Some((kind, end)) = ends.first_fault(&inputs.outputs.states()) {
         return Err(ProgramFault::OutputEnded(kind, end));
     }
     if inputs.sockets.health.has_ended_path() {
         return Err(ProgramFault::PathEnded);
     }
     Ok(())
-}
-
-/// Returns the first output that ended before its run by a fault, with the reason: that of the run's own part of it,
-/// or else the one that its writer set.
-fn first_fault(ends: &OutputEnds, outputs: &RunProgress) -> Option<(OutputKind, OutputEnd)> {
-    for kind in OUTPUT_KINDS {
-        match ends.of(kind).or(outputs.of(kind).end()) {
-            // A reader that went away is no fault of the run: its line on standard error said so.
-            None | Some(OutputEnd::Closed) => {}
-            Some(end) => return Some((kind, end)),
-        }
-    }
-    None
 }
 
 /// Writes the lines after the report: the opening time, if the run opened by International Atomic Time, the datagrams

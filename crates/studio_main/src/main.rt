@@ -4,13 +4,14 @@
 //! by `command_line`, runs the command, and returns the exit status. `file_commands` runs a command
 //! over files, and `live_command` the live command, whose files are those of `run_files` on a
 //! `LiveHost`. A `ProgramFault` has the line and the exit status of every fault, and `explanation` what
-//! `--verbose` adds to it. `opening` opens the studio of a live run, with the clocks at that moment.
-//! `SystemHost` opens files by path, `pcm_output` the output of raw PCM, and `token_file` reads the token
+//! a live run adds to it. `opening` opens the studio of a live run, with the clocks at that moment.
+//! `SystemHost` opens files by path, those that are read as a `NotedFile`. `unread_file` explains a file that
+//! a command cannot read. `pcm_output` opens the output of raw PCM, and `token_file` reads the token
 //! for the control of gains. `wav_files` has the WAV files of a live run. A `CreatedFile` is removed if
 //! its run does not begin. `file_limit` keeps files below the limit of their size, and `std_streams`
 //! standard output and standard error. `output_end` writes the line of an output that ends before its run,
 //! `left_out_lines` those of the datagrams that a live run left out, and `live_lines` all others of a
-//! live run.
+//! live run. `service` tells the service manager of a run, at its `notify_socket`.
 //! `std_fds` opens the standard descriptors that are closed, before anything else. `terminal_help` has
 //! the help for a start by hand: without words, and behind a fault.
 #![tactic(auto)]
@@ -23,15 +24,19 @@ mod left_out_lines;
 mod live_command;
 mod live_host;
 mod live_lines;
+mod noted_file;
+mod notify_socket;
 mod opening;
 mod output_end;
 mod pcm_output;
 mod program;
 mod run_files;
+mod service;
 mod std_fds;
 mod std_streams;
 mod terminal_help;
 mod token_file;
+mod unread_file;
 mod wav_files;
 
 use crate::created_file::{CreateFault, CreatedFile};
@@ -39,6 +44,7 @@ use crate::explanation::SystemErrors;
 use crate::fault::ProgramFault;
 use crate::file_limit::LimitedFile;
 use crate::live_host::LiveHost;
+use crate::noted_file::NotedFile;
 use crate::output_end::report_output_end;
 use crate::pcm_output::SystemPcm;
 use crate::program::run;
@@ -65,15 +71,20 @@ use wav_file::{FileFault, PcmFault, SeekFile};
 #[derive(Clone, Copy)]
 pub(crate) struct SystemHost<'a> {
     rt: &'a HostRuntime,
-    /// The system's number of the error of the last file of a live run that could not be created, opened or read; 0 if
-    /// there was none.
+    /// The system's number of the error of the last file that could not be created, opened or read; 0 if there was
+    /// none.
     // An atomic, since the host is shared.
     error: &'a AtomicI32,
     /// The start of the live run, if the command is one.
     start: &'a RunStart,
 }
 
-impl SystemHost<'_> {
+impl<'a> SystemHost<'a> {
+    /// Returns the runtime.
+    pub(crate) fn runtime(&self) -> &'a HostRuntime {
+        self.rt
+    }
+
     /// Keeps the number of an error, and returns its kind.
     pub(crate) fn note(&self, error: &io::Error) -> ErrorKind {
         self.error
@@ -95,21 +106,19 @@ impl<'a> Host for SystemHost<'a> {
 
     type Stderr = LimitedStderr<'a>;
 
-    type Source = fs::File;
+    type Source = NotedFile<'a>;
 
     type Target = SeekFile<LimitedFile>;
 
-    fn open(&self, path: &str) -> Result<fs::File, ReadFault> {
-        match fs::open(self.rt, path) {
+    fn open(&self, path: &str) -> Result<NotedFile<'a>, ReadFault> {
+        match NotedFile::open(*self, path) {
             Ok(file) => Ok(file),
             Err(_) => Err(ReadFault::Device),
         }
     }
 
     fn read_all(&self, alloc: Global, path: &str) -> Result<Vec<u8>, ReadFault> {
-        let Ok(mut file) = fs::open(self.rt, path) else {
-            return Err(ReadFault::Device);
-        };
+        let mut file = self.open(path)?;
         read_octets(alloc, &mut file)
     }
 

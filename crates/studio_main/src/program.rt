@@ -4,6 +4,7 @@ use crate::live_command::run_live;
 use crate::live_host::LiveHost;
 use crate::std_fds::takes_fault_line;
 use crate::terminal_help::{write_hint, write_terminal_help};
+use crate::unread_file::{InputPaths, with_unread_file};
 use clap::Error;
 use clap::error::ErrorKind;
 use command_line::{CliCommand, FileCommand, parse_args};
@@ -40,11 +41,15 @@ pub(crate) fn run<
         Err(error) => return report_usage(&error, output, faults),
     };
     let is_live = matches!(command, CliCommand::Live(_, _));
+    let paths = InputPaths::of(&command);
     match dispatch(rt, alloc, command, input, output, faults, host) {
         Ok(()) => 0,
         // A live run ends when it is told to, also if nobody reads its standard error. A command over files waits for
         // its reader, as the report of a live run does.
-        Err(fault) => report_fault(&fault, !is_live || takes_fault_line(), faults),
+        Err(fault) => {
+            let fault = with_unread_file(alloc, host, paths, fault);
+            report_fault(&fault, !is_live || takes_fault_line(), faults)
+        }
     }
 }
 

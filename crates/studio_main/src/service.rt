@@ -1,0 +1,226 @@
+//! A run as a service. It reports to its service manager that it is ready, that its mix goes on, and that it ends, in
+//! the protocol of sd_notify(3).
+ghost use Rattle.std.specs.Prelude.{None, ⊤};
+
+use crate::fault::ProgramFault;
+use crate::notify_socket::NotifySocket;
+use file_commands::CommandFault;
+use rtrb::{Consumer, Producer, RingBuffer};
+use run_outputs::{
+    CreateOutput, CreatedOutput, MixOutput, NoOutput, OneTask, OutputFault, RunStart, SideTask,
+};
+use std::alloc::Global;
+use std::env;
+use std::env::VarError;
+use std::rt::Env;
+use std::sync::Wait;
+use std::thread::Parker;
+use std::time::{Clock, Duration};
+use studio_config::StudioSpec;
+use studio_io::{OutputEnd, OutputKind};
+
+/// The time between two looks at the mix, in milliseconds.
+const POLL_MS: u64 = 50;
+
+/// The sampling instants in a millisecond.
+const MILLISECOND: u64 = 48;
+
+/// The time for which a mix may stand still beyond what its studio explains, in milliseconds.
+// A machine that is held up for so long is no reason to kill the run, which goes on behind it.
+const SLACK_MS: u64 = 2_000;
+
+/// The lines of a run that is ready.
+const READY: &str = "READY=1\nSTATUS=The mix is sent.\n";
+
+/// The line of a run whose mix goes on again.
+const SENT: &str = "STATUS=The mix is sent.\n";
+
+/// The line of a run whose mix stands still.
+const STOPPED: &str = "STATUS=The mix stands still.\n";
+
+/// The line of a run whose mix goes on, which the manager asks for.
+const ALIVE: &str = "WATCHDOG=1\n";
+
+/// The lines of a run that has ended, before its report.
+const ENDS: &str = "STOPPING=1\nSTATUS=The run has ended.\n";
+
+/// A socket to a service manager.
+pub(crate) trait ManagerSocket: Drop {
+    /// Sends it lines of sd_notify(3). It must not wait.
+    fn send(&self, lines: &str);
+}
+
+/// The service manager that started a run, as an output of the run.
+#[derive(Drop)]
+pub(crate) struct Service<S> {
+    socket: S,
+    /// The number of looks between two words that the mix goes on, if the manager asks for them.
+    looks: Option<u64>,
+}
+
+/// Returns the service manager that the environment names, or `None` if it names none. Returns an error if an
+/// allocation fails.
+pub(crate) fn service_in_env<R: Env + AllocGlobal>(
+    rt: &R,
+) -> Result<Option<Service<NotifySocket>>, ProgramFault> {
+    let Some(name) = variable(rt, "NOTIFY_SOCKET")? else {
+        return Ok(None);
+    };
+    let looks = match variable(rt, "WATCHDOG_USEC")? {
+        Some(interval) => looks_in(interval.as_str()),
+        None => None,
+    };
+    match NotifySocket::to(name.as_str()) {
+        Some(socket) => Ok(Some(Service { socket, looks })),
+        None => Ok(None),
+    }
+}
+
+/// Returns the text of a variable, or `None` if it is not set or no text.
+fn variable<R: Env + AllocGlobal>(rt: &R, name: &str) -> Result<Option<String>, ProgramFault> {
+    match env::var(rt, name) {
+        Ok(text) => Ok(Some(text)),
+        Err(VarError::NotPresent | VarError::NotUnicode) => Ok(None),
+        Err(VarError::OutOfMemory) => Err(ProgramFault::Command(CommandFault::Memory)),
+    }
+}
+
+/// Returns the number of looks in half of an interval in microseconds, or `None` if the text is no such interval.
+// Half, as sd_watchdog_enabled(3) advises, so that a word that comes late is no failure.
+fn looks_in(interval: &str) -> Option<u64> {
+    let microseconds = interval.parse::<u64>().ok()?;
+    if microseconds == 0 {
+        return None;
+    }
+    Some((microseconds / 2_000 / POLL_MS).max(1))
+}
+
+/// Returns the greatest number of looks in a row that find no datagram of the mix while a run of this studio goes on.
+// The mix stands still for a latency when a sender begins again, and before its first datagram up to its start.
+fn patience_of(studio: &StudioSpec) -> u64 {
+    let mut latency = 0;
+    for stream in studio.streams() {
+        latency = latency.max(stream.latency());
+    }
+    let ahead = studio.output().start().saturating_sub(studio.open_at());
+    let instants = u64::from(latency).saturating_add(ahead.max(0) as u64);
+    (instants / MILLISECOND).saturating_add(SLACK_MS) / POLL_MS
+}
+
+/// The part of a service that takes the mix: it notes that there was a datagram.
+#[derive(Drop)]
+pub(crate) struct MixSign {
+    /// The ring of one place to the service's task. Its end tells the task that the run has ended.
+    ring: Producer<u8>,
+}
+
+impl MixOutput for MixSign {
+    ghost mixes = { λ old datagram new. ⊤ };
+
+    ghost ended = { λ output kind. None };
+
+    fn mixed(&mut self, _datagram: &[u8]) {
+        // A ring that is full says as much.
+        let _ = self.ring.push(0);
+    }
+
+    fn end_of(&self, _kind: OutputKind) -> Option<OutputEnd> {
+        None
+    }
+}
+
+/// The task that tells the service manager of a run.
+#[derive(Drop)]
+pub(crate) struct ServiceTask<S> {
+    service: Service<S>,
+    ring: Consumer<u8>,
+    /// The number of looks in a row without a datagram after which the mix stands still.
+    patience: u64,
+    /// The number of looks since a datagram was found.
+    idle: u64,
+    /// The number of looks since the manager heard that the mix goes on.
+    unheard: u64,
+}
+
+impl<S: ManagerSocket> ServiceTask<S> {
+    /// Looks at the mix, and tells the manager what has changed, and that the mix goes on if that is due.
+    fn look(&mut self) {
+        let was_sent = self.is_sent();
+        self.idle = match self.ring.pop() {
+            Ok(_) => 0,
+            Err(_) => self.idle.saturating_add(1),
+        };
+        let is_sent = self.is_sent();
+        if is_sent != was_sent {
+            self.service
+                .socket
+                .send(if is_sent { SENT } else { STOPPED });
+        }
+        self.unheard = self.unheard.saturating_add(1);
+        if is_sent && self.is_due() {
+            self.service.socket.send(ALIVE);
+            self.unheard = 0;
+        }
+    }
+
+    /// Returns true if the manager is to hear that the mix goes on.
+    fn is_due(&self) -> bool {
+        match self.service.looks {
+            Some(looks) => looks <= self.unheard,
+            None => false,
+        }
+    }
+
+    /// Returns true if the mix does not stand still.
+    fn is_sent(&self) -> bool {
+        self.idle <= self.patience
+    }
+}
+
+impl<S: ManagerSocket> SideTask for ServiceTask<S> {
+    fn complete<R: Wait + Clock>(self, rt: &R, _start: &RunStart) {
+        let mut task = self;
+        let parker = Parker::new();
+        // The sockets are open, and all files were created.
+        task.service.socket.send(READY);
+        for _ in rt.forever() {
+            parker.park_timeout(rt, Duration::from_millis(POLL_MS));
+            if task.ring.is_abandoned() {
+                task.service.socket.send(ENDS);
+                return;
+            }
+            task.look();
+        }
+    }
+}
+
+impl<S: ManagerSocket + Send> CreateOutput for Service<S> {
+    type Events = NoOutput;
+
+    type Mix = MixSign;
+
+    type Tasks = OneTask<ServiceTask<S>>;
+
+    ghost begins = { λ is_controlled studio events mix. ⊤ };
+
+    fn create(
+        self,
+        alloc: Global,
+        studio: &StudioSpec,
+        _is_controlled: bool,
+    ) -> Result<CreatedOutput<NoOutput, MixSign, OneTask<ServiceTask<S>>>, OutputFault> {
+        let (producer, consumer) = RingBuffer::new(alloc, 1)?;
+        let task = ServiceTask {
+            service: self,
+            ring: consumer,
+            patience: patience_of(studio),
+            idle: 0,
+            unheard: 0,
+        };
+        Ok(CreatedOutput {
+            events: NoOutput,
+            mix: MixSign { ring: producer },
+            tasks: OneTask::new(task),
+        })
+    }
+}
