@@ -63,18 +63,19 @@ class Block:
 
 
 class Reports:
-    """The reports on a file, each with the number of a line. Only the first ones are written."""
+    """The reports on a file, each with the number of a line. Only the first ones are written, and none on a text
+    without a name: that is one that was announced, again and again, and nobody here can change it."""
 
     def __init__(self, name: str) -> None:
         self.name, self.count = name, 0
 
     def add(self, line: Line, text: str) -> None:
         self.count += 1
-        if self.count <= MAX_REPORTS:
+        if self.name and self.count <= MAX_REPORTS:
             say(f"{self.name}:{line.number}: {text}")
 
     def end(self) -> None:
-        if self.count > MAX_REPORTS:
+        if self.name and self.count > MAX_REPORTS:
             say(f"{self.name}: {self.count - MAX_REPORTS} more reports are not shown")
 
 

@@ -1,9 +1,11 @@
 """Reads the text of an SDP file (RFC 4566): the session, its sections, and the streams that these make."""
+import ipaddress
 from collections import defaultdict
 from collections.abc import Iterator
 from typing import NoReturn
 
 from . import rules
+from .clocks import other_clocks
 from .model import Block, LeftOut, Line, Reports, Section, Stream
 from .rules import MAX_SDP_OCTETS, MAX_SECTIONS, MAX_STREAMS, PATHS
 from .sections import describe, receive
@@ -65,6 +67,8 @@ class SdpFile:
     def streams(self) -> list[Stream]:
         """The streams of the file, in the order of their first sections."""
         sections = [Section(block, self.session, block.mid()) for block in self.blocks]
+        if not sections:
+            return []
         streams = []
         for members in self.joined(sections):
             taken = self.taken(members)
@@ -91,8 +95,8 @@ class SdpFile:
                     places = " and ".join(str(section.line().number) for section in found[:2])
                     self.refuse(f"a=mid:{quoted(mid)} names two sections, in lines {places}", line)
                 if not found:
-                    self.reports.add(line, f"the group DUP names {quoted(mid)}, which no section has as its a=mid")
-                    continue
+                    # The section that was meant would become a stream of its own, and its audio be twice in the mix.
+                    self.refuse(f"the group DUP names {quoted(mid)}, which no section has as its a=mid", line)
                 if id(found[0]) in group_of:
                     self.refuse(f"section {found[0].name()} is in two groups DUP", line)
                 group.append(found[0])
@@ -122,6 +126,7 @@ class SdpFile:
                 if len(taken) == len(PATHS):
                     raise LeftOut(section.line(), f"a stream has at most {len(PATHS)} paths")
                 receive(section)
+                self.check_place(section, taken)
                 taken.append(section)
             except LeftOut as reason:
                 self.leave_out(section, reason)
@@ -132,6 +137,13 @@ class SdpFile:
             self.settle_clock(taken)
             self.settle_source(taken)
         return taken
+
+    def check_place(self, section: Section, taken: list[Section]) -> None:
+        """Raises LeftOut if a path of the stream is received at the place of this section, from its source."""
+        for other in taken:
+            if place_of(other) == place_of(section):
+                text = f"its address, port and source are those of the section of line {other.line().number}"
+                raise LeftOut(section.line(), f"{text}, so that both are one path")
 
     def compare(self, first: Section, other: Section) -> None:
         """Refuses the file if two sections of one group can't be copies."""
@@ -185,13 +197,35 @@ def chosen(files: list[SdpFile]) -> list[Stream]:
             except LeftOut as reason:
                 file.leave_out(first, reason)
                 continue
-            if len(set(own_places)) < len(own_places):
-                text = "two of its paths have the same group and port"
-                file.reports.add(first.line(), f"{text}: they need sockets for each network, as `join` makes them")
+            shared = shared_place(stream)
+            if shared is not None:
+                file.reports.add(first.line(), shared)
             places.update(dict.fromkeys(own_places, f"{file.name}:{first.line().number}"))
             streams.append(stream)
+        for other, text in other_clocks(streams):
+            if other.stream.session is file.session:
+                file.reports.add(other.line, text)
         file.reports.end()
     return streams
+
+
+def place_of(section: Section) -> Place:
+    return section.address, section.port, section.source
+
+
+def shared_place(stream: Stream) -> str | None:
+    """What is to be done if two paths have one address and port: `live` takes them only if it is a group that gets them
+    from two sources."""
+    at = defaultdict(list)
+    for section in stream.sections:
+        at[section.address, section.port].append(section.source)
+    for (address, port), sources in at.items():
+        if len(sources) > 1 and not ipaddress.IPv4Address(address).is_multicast:
+            return f"two of its paths have {address} port {port}, and one socket takes all that comes: remove one path"
+        if len(sources) > 1 and None in sources:
+            text = f"two of its paths have {address} port {port}, and not both a source"
+            return f"{text}: they need sockets for each network, as `darbexum-join` makes them"
+    return None
 
 
 def places_of(stream: Stream, count: int, taken: dict[Place, str]) -> list[Place]:
@@ -199,7 +233,7 @@ def places_of(stream: Stream, count: int, taken: dict[Place, str]) -> list[Place
     line = stream.sections[0].line()
     if count == MAX_STREAMS:
         raise LeftOut(line, f"a configuration has at most {MAX_STREAMS} streams")
-    places = [(section.address, section.port, section.source) for section in stream.sections]
+    places = [place_of(section) for section in stream.sections]
     for place in places:
         if place in taken:
             raise LeftOut(line, f"{place[0]} port {place[1]} is received already, by {taken[place]}")

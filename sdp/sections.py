@@ -97,7 +97,7 @@ def milliseconds(line: Line) -> int:
     text = line.attribute()[1]
     found = MILLISECONDS.fullmatch(text)
     if not found or not (found[1] or found[2]):
-        raise LeftOut(line, f"{quoted(text)} is no number of milliseconds")
+        raise LeftOut(line, f"{quoted(line.text())} has no number of milliseconds")
     return int(Fraction(f"{found[1] or 0}.{found[2] or 0}") * PERIODS_A_MS + Fraction(1, 2))
 
 
@@ -106,7 +106,7 @@ def frame_count(line: Line) -> tuple[int, int]:
     text = line.attribute()[1]
     found = FRAME_COUNT.fullmatch(text)
     if not found:
-        raise LeftOut(line, f"{quoted(text)} is no number of frames")
+        raise LeftOut(line, f"{quoted(line.text())} has no number of frames")
     return int(found[1]), int(found[2] or found[1])
 
 
@@ -152,7 +152,8 @@ def check_format(section: Section) -> None:
         raise LeftOut(line, f"it has {form.channels} channels; allowed are 1 to {MAX_CHANNELS}")
     if form.frames not in PACKET_TIMES:
         allowed = "6, 12, 16, 48 and 192, which are 0.125, 0.25, 0.333, 1 and 4 ms"
-        raise LeftOut(section.origins["frames"][-1], f"its packets have {form.frames} frames; allowed are {allowed}")
+        time_line = section.origins["frames"][-1]
+        raise LeftOut(time_line, f"{quoted(time_line.text())} is {form.frames} frames; allowed are {allowed}")
     if form.channels > MAX_CHANNELS_OF_ALL and form.frames != 6:
         found = f"it has {form.channels} channels in packets of {PACKET_TIMES[form.frames]} ms"
         raise LeftOut(line, f"{found}; more than {MAX_CHANNELS_OF_ALL} are received in packets of 0.125 ms")

@@ -18,6 +18,8 @@ class Refused(Exception):
 
 
 def escaped(text: str, is_kept: Callable[[str], bool]) -> str:
+    if text.isascii() and text.isprintable():
+        return text
     return "".join(each if is_kept(each) else each.encode("unicode_escape").decode() for each in text)
 
 
@@ -28,6 +30,8 @@ def printable(text: str) -> str:
 
 def plain(text: str) -> str:
     """A text of printable ASCII alone, for a terminal of any encoding."""
+    if text.isascii() and text.isprintable():
+        return text
     return escaped(text, lambda each: " " <= each <= "~")
 
 
@@ -48,6 +52,10 @@ def is_ipv4(text: str) -> bool:
     except ValueError:
         return False
     return True
+
+
+def reason_of(fault: Exception) -> str:
+    return getattr(fault, "strerror", None) or str(fault)
 
 
 def say(text: str) -> None:

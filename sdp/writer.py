@@ -4,6 +4,7 @@ from collections import defaultdict
 from collections.abc import Iterator
 
 from . import rules
+from .clocks import clock_comments
 from .model import Block, Line, Stream
 from .reader import SdpFile
 from .rules import FIRST_OUTPUT_PORT, MAX_NAME_OCTETS, MAX_OUTPUT_CHANNELS, MAX_PAYLOAD, MIN_WINDOW, OCTETS_A_SAMPLE
@@ -17,8 +18,10 @@ def configuration(files: list[SdpFile], streams: list[Stream], latency: int) -> 
     if any(stream.sections[0].clock.offset is not None for stream in streams):
         start = "start it with `darbexum live CONFIG --clock tai`"
         lines.append(f'# clock = "media" needs International Atomic Time: {start}.')
+    lines += [f"# {comment}" for comment in clock_comments(streams)]
     lines += ["open_at = 0", ""]
-    tables = [list(stream_lines(stream, latency)) for stream in streams]
+    names = names_of(streams)
+    tables = [list(stream_lines(stream, name, latency)) for stream, name in zip(streams, names)]
     for number, table in enumerate(tables):
         lines += [f"# Stream {number}.", *table, ""]
     for file in files:
@@ -29,18 +32,18 @@ def configuration(files: list[SdpFile], streams: list[Stream], latency: int) -> 
     return "".join(f"{printable(line)}\n" for line in lines)
 
 
-def stream_lines(stream: Stream, latency: int) -> Iterator[str]:
-    """The table of a stream."""
+def stream_lines(stream: Stream, name: str | None, latency: int) -> Iterator[str]:
+    """The table of a stream of this name."""
     first = stream.sections[0]
     form, clock = first.format, first.clock
     origins = defaultdict(list)
     for section in stream.sections:
         for key, lines in section.origins.items():
             origins[key] += lines
-    name = name_of(stream)
     window = window_for(latency, form.frames)
     places = " and ".join(str(section.line().number) for section in stream.sections)
-    yield f"# From {stream.file_name}, {'section' if len(stream.sections) == 1 else 'sections'} of line {places}."
+    sections = "section of line" if len(stream.sections) == 1 else "sections of lines"
+    yield f"# From {stream.file_name}, {sections} {places}."
     yield from (f"# {comment}" for comment in stream.comments)
     yield "[[stream]]"
     if name is not None:
@@ -124,15 +127,44 @@ def by_lines(lines: list[Line]) -> str:
     return "; ".join(f"line {line.number}, {line.text()}" for line in unique)
 
 
-def name_of(stream: Stream) -> str | None:
-    """A name for people: the title of the section or the name of the session, as far as it fits."""
-    block = stream.sections[0].block
-    for line in (block.first("i"), stream.session.first("s")):
-        text = printable(line.value.strip()).encode()[:MAX_NAME_OCTETS].decode(errors="ignore").strip() if line else ""
-        if text not in ("", "-"):
+def names_of(streams: list[Stream]) -> list[str | None]:
+    """Names for people, one for each stream."""
+    names = {}
+    for session in {id(stream.session): stream.session for stream in streams}.values():
+        own = [stream for stream in streams if stream.session is session]
+        names |= {id(stream): name for stream, name in zip(own, names_in(session, own))}
+    return [names[id(stream)] for stream in streams]
+
+
+def names_in(session: Block, streams: list[Stream]) -> list[str | None]:
+    """The names of a session's streams, which differ: that of the session alone, or with the titles of the sections if
+    the session has no name or several streams."""
+    of_session = session.first("s")
+    title = title_in(of_session)
+    is_alone = title is not None and len(streams) == 1
+    lines = [None if is_alone else stream.sections[0].block.first("i") for stream in streams]
+    texts = [": ".join(filter(None, (title, title_in(line)))) for line in lines]
+    names = list(map(shortened, texts))
+    known = list(filter(None, names))
+    if len(set(known)) < len(known):
+        names = [text and shortened(text, f" {number}") for number, text in enumerate(texts, 1)]
+    for line, name in [*((of_session, name) for name in names), *zip(lines, names)]:
+        own = title_in(line)
+        # A title of which only a part is in the name stays as a comment.
+        if own is not None and own in name:
             line.is_used = True
-            return text
-    return None
+    return [name or None for name in names]
+
+
+def title_in(line: Line | None) -> str | None:
+    """The text of a title. A hyphen stands for none (RFC 8866, 5.3)."""
+    text = printable(line.value.strip()) if line else ""
+    return text if text not in ("", "-") else None
+
+
+def shortened(text: str, end: str = "") -> str:
+    """As much of a text as a name takes with this end."""
+    return text.encode()[: MAX_NAME_OCTETS - len(end)].decode(errors="ignore").strip() + end
 
 
 def toml_text(text: str) -> str:
