@@ -19,7 +19,7 @@ help:
 	@echo "make demo     a live run with a page in a browser, of senders with faults; not proved if it is not built"
 	@echo "make run      the program on its stored example; not proved if it is not built"
 	@echo "make try      the worked traces and the tests of reception; nothing is proved"
-	@echo "make build    prove and build bin/darbexum, with bin/darbexum-live and -sdp; with CPU=v3, for x86-64-v3"
+	@echo "make build    prove and build bin/darbexum, with bin/darbexum-live, -sdp, -gains and -join; with CPU=v3, for x86-64-v3"
 	@echo "make lib      prove and build libdarbexum for C, in bin/library: archive, shared library, header, pkg-config's file"
 	@echo "make test     the gate: pages, every proof from nothing, the gate's wrong bodies, tests, stored runs"
 	@echo "make check    every crate's proofs, over what earlier checks kept"
@@ -34,7 +34,7 @@ help:
 demo:
 	@demo/run $(DEMO)
 
-build: bin/darbexum bin/darbexum-live bin/darbexum-sdp
+build: bin/darbexum bin/darbexum-live bin/darbexum-sdp bin/darbexum-gains bin/darbexum-join
 
 # Proves what no earlier run on this machine proved, builds the program, and runs it on its stored input.
 bin/darbexum: $(sources) bin/.x86-64-$(CPU)
@@ -55,10 +55,10 @@ bin/library/lib/libdarbexum.a: $(sources) bindings/c/darbexum.h bindings/cpp/dar
 bin/darbexum-live: bin/%: %
 	install -D $* $@
 
-# A link, since the script finds its package from where it is itself.
-bin/darbexum-sdp: sdp/darbexum-sdp
+# Links, since the scripts find their packages from where they are themselves.
+bin/darbexum-sdp bin/darbexum-gains bin/darbexum-join: bin/darbexum-%:
 	mkdir -p bin
-	ln -sf ../$< $@
+	ln -sf ../$*/darbexum-$* $@
 
 # With nothing built, or with sources that are newer, by a run that proves nothing.
 run:
@@ -69,22 +69,25 @@ program := crates/studio_main/out/studio_main
 scripts := memory/check tests/captures tests/sdp tests/package tests/library diff/run $(addprefix examples/,check faults statuses blocks wav chart)
 # Live runs wait for most of their time, so three of them leave a processor free. The longest begin first. What a busy machine would
 # disturb all the same, because other programs send or listen, runs alone behind them.
-live := loopback page numbers desk library control files sockets latencies faders ends demo
+live := loopback page numbers states desk library control files sockets sap service twins faders gains ends demo
 
 try:
 	@gate/try
 
 test:
-	@mkdir -p bin && date +%s > bin/gate-begun
+	@mkdir -p bin && date +%s > bin/gate-begun && rm -f bin/not-judged
 	docs/check
 	gate/progress rt ci $(ANEW)
 	$(MAKE) -j4 --no-print-directory PROVED=--proved $(addsuffix .ran,$(scripts))
 	$(MAKE) -j3 -O --no-print-directory $(addsuffix .live,$(live))
+	gate/tries --timed tests/latencies $(program)
 	gate/tries tests/networks $(program)
-	gate/tries tests/senders $(program)
-	gate/tries tests/holdups $(program)
+	gate/tries --timed tests/senders $(program)
+	gate/tries tests/interfaces $(program)
+	gate/tries --timed tests/holdups $(program)
 	@cat bin/gate-time
-	@echo "gate: pages, proofs, edits, tests, examples, faults, statuses, blocks, WAV files, charts, captures, SDP files, package, library, engine, memory, live runs, their files, pages, numbers, latencies, faders, control, a desk, the demo, networks, senders and hold-ups passed in $$(( ($$(date +%s) - $$(cat bin/gate-begun)) / 60 )) minutes"
+	@if [ -e bin/not-judged ]; then cat bin/not-judged; fi
+	@echo "gate: pages, proofs, edits, tests, examples, faults, statuses, blocks, WAV files, charts, captures, SDP files, package, library, engine, memory, live runs, their files, pages, numbers, states of paths, latencies, announcements, a service, twins, faders, gains, control, a desk, the demo, networks, senders, interfaces and hold-ups passed in $$(( ($$(date +%s) - $$(cat bin/gate-begun)) / 60 )) minutes"
 
 %.ran:
 	$* $(program)

@@ -62,6 +62,8 @@ class HeldRun:
     folder: Path
     frames: int = FRAMES
     latency: int = LATENCY
+    # The words before the program, as those that set its priority.
+    before: tuple[str, ...] = ()
     child: subprocess.Popen | None = None
     ports: list[int] = field(default_factory=list)
     listeners: Listeners | None = None
@@ -92,7 +94,7 @@ class HeldRun:
             outputs += ["--record", str(self.file.with_suffix(".pcapng"))]
         times = ["--clock", "tai", "--tai-offset", "0"] if self.clock == "media" else []
         config = str(self.file.with_suffix(".toml"))
-        self.child = runs.start(program, "live", config, *self.form, *outputs, *times)
+        self.child = runs.start(program, "live", config, *self.form, *outputs, *times, before=self.before)
         runs.wait_bound(self.child, self.ports)
 
     def end(self) -> None:

@@ -9,6 +9,7 @@ ROW = re.compile(r"\| (?P<report>[^|]*) \| (?P<lines>[^|]*) \| `(?P<key>[^|]*)` 
 # The words of each metric of a state.
 STATES = {
     "darbexum_stream_state": ("no_packet", "running", "lost", "ended"),
+    "darbexum_path_state": ("given_up", "no_datagrams", "refused", "late", "too_early", "losing", "in_time"),
     "darbexum_record_state": ("none", "writing", "ended"),
     "darbexum_wav_state": ("none", "writing", "ended"),
     "darbexum_pcm_state": ("none", "waiting", "writing", "ended"),
@@ -85,7 +86,7 @@ def named(row: dict[str, str], value: Any, labels: dict[str, str], stream: str, 
         report = " ".join([report[0], *place]), report[1]
     for word in STATES.get(row["metric"], ("",)):
         own = labels | ({"state": word} if word else {})
-        number = int(value == word) if word else value
+        number = int(value == word) if word and value is not None else value
         yield Number(number, (row["metric"], frozenset(own.items())), None if word else lines, report)
     if row["metric"] in STATES and lines:
         yield Number(value, ("", frozenset()), lines, None)

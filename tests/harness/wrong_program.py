@@ -44,12 +44,13 @@ def run(edits: Edits, program: str, words: list[str]) -> None:
     """Becomes the program with these words, altered; or runs it to its end, if its status is altered."""
     words = edits.words(words) if edits.words else words
     words, copies = with_config(edits, words)
+    words, page = with_page(edits, words)
     if edits.status:
         status = os.spawnv(os.P_WAIT, program, [program, *words])
         os._exit(edits.status(status))
     piped = [1] * bool(edits.output or edits.files) + [2] * bool(edits.line or edits.page or copies)
     if piped:
-        begin_filter(edits, words, copies, piped)
+        begin_filter(edits, words, copies, page, piped)
     # Python ignores both.
     for number in (signal.SIGPIPE, signal.SIGXFSZ):
         signal.signal(number, signal.SIG_DFL)
@@ -69,6 +70,14 @@ def with_config(edits, words):
     with tempfile.NamedTemporaryFile("w", suffix=".toml", delete=False) as file:
         file.write(text)
     return [words[0], file.name, *words[2:]], copies
+
+
+def with_page(edits, words):
+    """The words by which the system chooses the page's port, and the port at which clients ask, or 0 for any."""
+    if not edits.page or "--page" not in words:
+        return words, 0
+    at = words.index("--page") + 1
+    return [*words[:at], "0", *words[at + 1 :]], int(words[at])
 
 
 class Copies:
@@ -95,11 +104,11 @@ def through_relay(text):
     return re.sub(r"(?m)^to_b = \d+", f"to_b = {copies.taken.getsockname()[1]}", text), copies
 
 
-def begin_filter(edits, words, copies, piped):
+def begin_filter(edits, words, copies, page, piped):
     """Makes the process that alters what the program writes to these descriptors, of standard output and error."""
     pipes = {own: os.pipe() for own in piped}
     if os.fork() == 0:
-        filter_all(edits, words, copies, {own: reads for own, (reads, _) in pipes.items()})
+        filter_all(edits, words, copies, page, {own: reads for own, (reads, _) in pipes.items()})
         os._exit(0)
     for own, (reads, writes) in pipes.items():
         os.dup2(writes, own)
@@ -110,7 +119,7 @@ def begin_filter(edits, words, copies, piped):
         copies.out.close()
 
 
-def filter_all(edits, words, copies, pipes):
+def filter_all(edits, words, copies, page, pipes):
     """Passes on what comes by the pipes, altered, and alters the files behind the end."""
     kept = {0, 1, 2, *pipes.values()} | ({copies.taken.fileno(), copies.out.fileno()} if copies else set())
     # There may be no /proc.
@@ -121,7 +130,7 @@ def filter_all(edits, words, copies, pipes):
     if copies:
         threading.Thread(target=copies.relay, args=(edits.copy,), daemon=True).start()
     if 2 in pipes:
-        lines = threading.Thread(target=pass_lines, args=(edits, copies, pipes[2]))
+        lines = threading.Thread(target=pass_lines, args=(edits, copies, page, pipes[2]))
         lines.start()
     octets = b""
     if 1 in pipes:
@@ -138,12 +147,12 @@ def filter_all(edits, words, copies, pipes):
             octets = octets[os.write(1, octets) :]
 
 
-def pass_lines(edits, copies, reads):
+def pass_lines(edits, copies, page, reads):
     """Passes on the lines of standard error, each at once. In the first one the places of relays are put right."""
     with open(reads, encoding="utf-8", newline="\n") as lines:
         for line in lines:
             if edits.page and (found := OWN_NAME.search(line)):
-                line = line.replace(found[1], str(begin_page(edits.page, int(found[1]))))
+                line = line.replace(found[1], str(begin_page(edits.page, int(found[1]), page)))
             if copies and line.startswith("live "):
                 line = re.sub(r" to_b=\S+", " to_b={}:{}".format(*copies.place), line)
             line = edits.line(line) if edits.line else line
@@ -151,9 +160,9 @@ def pass_lines(edits, copies, reads):
                 os.write(2, line.encode())
 
 
-def begin_page(alter, port):
-    """Listens for clients of the page at another port, which is returned."""
-    server = socket.create_server(("127.0.0.1", 0))
+def begin_page(alter, port, own):
+    """Listens for clients of the page at this port of its own, or at any if it is 0. Returns the port."""
+    server = socket.create_server(("127.0.0.1", own))
 
     def serve():
         while True:
