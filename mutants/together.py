@@ -14,7 +14,7 @@ from pathlib import Path
 from typing import NamedTuple
 
 sys.path.insert(0, str(Path(__file__).resolve().parent.parent / "gate"))
-import kept
+import kept_libraries as kept
 
 FUNCTION = re.compile(r"(?:    )?(?:pub(?:\(\w+\))? )?(?:const )?(?:unsafe )?(?:extern \"C\" )?fn (\w+)")
 # What the prover says of a place: an error of a proof, or a goal of a function that it could not prove.
@@ -164,6 +164,11 @@ def modules(home: Path, texts: dict[str, str]) -> list[str]:
     return kept.words(home.parent.parent, home.name, flags)
 
 
+def laid(home: Path, texts: dict[str, str]) -> list[str]:
+    """The command that checks a crate over libraries that were laid, whatever its texts are."""
+    return kept.words(home.parent.parent, home.name, ["--jobs", "1"])
+
+
 def check(home, texts, command):
     """Checks a crate with these texts of its files, and puts the files back."""
     former = {file: (home / file).read_text() for file in texts}
@@ -207,19 +212,23 @@ def changed(edit, home):
     return texts
 
 
-def is_refused_alone(home, edit):
-    """Whether a check of the crate with this edit alone refuses it, by a message that says more than that a name is
-    gone."""
+def is_refused_alone(home, edit, command=whole):
+    """Whether a check of the crate, or of the modules that are changed, with this edit alone refuses it, by a message
+    that says more than that a name is gone."""
     texts = changed(edit, home)
     if not texts:
         return False
-    ran = check(home, texts, whole)
+    ran = check(home, texts, command)
     lines = (ran.stdout + ran.stderr).rstrip().splitlines()
     placed = [line for line in lines if PLACED.match(line) and ": warning" not in line]
     unread = [
         line for line in placed if UNTRIED.search(line) or NAMES.search(line) and not re.match(r"(\./)?proofs/", line)
     ]
-    verdict = any(line.startswith("logic=not-proved") for line in lines)
+    # A check of some modules has no verdict on the crate.
+    verdict = any(
+        line.startswith("logic=not-proved") or (found := UNPROVED.match(line)) and found[1] == home.name
+        for line in lines
+    )
     return (
         ran.returncode == 1 and verdict and not unread and not UNREAD.search("\n".join(lines))
         and any(not NAMES.search(line) for line in placed)
@@ -249,5 +258,10 @@ def refused_over_laid(home: Path, files: list[Path]) -> list[Path]:
     refuse. `rt ci` proved the crate, so that a function that is not proved is one that an edit changed."""
     edits = [read(file) for file in files]
     found = refused_over(modules, home, edits)
-    left = [edit for edit in edits if edit not in found and applied({}, edit, home)]
-    return [edit.file for edit in found + [it for edit in left for it in refused_in(home, [edit], modules)]]
+    # An edit of a constant is in no function, and one of a type may be refused in another function, or another module.
+    left = [
+        edit
+        for edit in edits
+        if edit not in found and (is_refused_alone(home, edit, modules) or is_refused_alone(home, edit, laid))
+    ]
+    return [edit.file for edit in found + left]
