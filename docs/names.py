@@ -56,6 +56,7 @@ IN_STATS = {
 # The numbers that no list of fields has, with their names in /state and the constant that describes them.
 FURTHER = {
     "stream_state": ("state", "STATE_HELP", True),
+    "path_state": ("state", "PATH_STATE_HELP", True),
     "sends_failed": ("failed_sends", "FAILED_HELP", False),
     "sends_stale": ("stale", "STALE_HELP", False),
 }

@@ -121,10 +121,10 @@ def wrong_defaults():
         ]
         column = head.index("Default") + 1 if "Default" in head else None
         for row in rows if column else []:
-            written = row[column].replace("`", "").partition(";")[0]
+            written = re.sub('[`"]', "", row[column]).partition(";")[0]
             for key in re.findall(r"`(\w+)`", row[0]):
-                # A source (SSRC) has a default in a stream's table alone.
-                if written != known.get(key, "") and (key, written) != ("ssrc", "any"):
+                # A source (SSRC) has a default in a stream's table alone, and a clock in the output's.
+                if written != known.get(key, "") and (key, written) not in {("ssrc", "any"), ("clock", "run")}:
                     yield (
                         f"docs/CONFIGURATION.md has the default '{written}' of {key}, and help config"
                         f" '{known.get(key, 'required')}'"
@@ -178,7 +178,7 @@ def metrics():
     yield from metric_names("path", "path.rt")
     yield from metric_names("output", "output.rt")
     yield from (
-        "darbexum_stream_state", "darbexum_sends_failed_total", "darbexum_record_state",
+        "darbexum_stream_state", "darbexum_path_state", "darbexum_sends_failed_total", "darbexum_record_state",
         "darbexum_record_datagrams_total"
     )
     yield from ("darbexum_wav_state", "darbexum_wav_blocks_total")

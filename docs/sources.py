@@ -267,7 +267,9 @@ CASE_PLACES = {
         ),
         *(
             f"examples/{name}"
-            for name in ("silent-stream", "long-latency", "gain-change", "moving-gains", "restart", "four-paths")
+            for name in (
+                "silent-stream", "long-latency", "gain-change", "moving-gains", "restart", "four-paths", "media-output"
+            )
         ),
         *(
             f"examples/follow-{name}"
@@ -287,11 +289,11 @@ CASE_PLACES = {
     "Records and statistics": [
         f"{LIVE}/{name}.rt" for name in ("records/octets", "records/changes", "records/marks", "statistics", "drift")
     ],
-    "Sockets and the clock": [f"{LIVE}/{name}.rt" for name in ("sockets", "hold_ups")],
+    "Sockets and the clock": [f"{LIVE}/{name}.rt" for name in ("sockets", "sends", "hold_ups")],
     "The page": [f"{PAGE}/tests/{name}.rt" for name in ("texts", "requests", "controls", "sockets")],
     "Captures and live runs": [
         "tests/captures", "tests/control", "tests/desk", "tests/ends", "tests/loopback", "tests/networks",
-        "tests/numbers", "tests/page", "tests/faders", "tests/senders"
+        "tests/numbers", "tests/page", "tests/states", "tests/faders", "tests/senders", "tests/twins", "tests/service"
     ],
 }
 ROW = re.compile(r'\bshows:\s*"((?:[^"\\]|\\.)*)"', re.DOTALL)
@@ -322,8 +324,7 @@ def rows_of_script(text):
     lines, tree, rows = text.splitlines(), ast.parse(text), []
     for node in tree.body:
         if isinstance(node, ast.Assign) and isinstance(node.value, ast.List):
-            parts = [part.value.elts if isinstance(part, ast.Starred) else [part] for part in node.value.elts]
-            entries = [entry for part in parts for entry in part if isinstance(entry, ast.Tuple)]
+            entries = [entry for part in node.value.elts for entry in entries_in(part) if isinstance(entry, ast.Tuple)]
             above = next(place for place in range(node.lineno - 2, -1, -1) if not lines[place].startswith("# "))
             if entries:
                 rows.append(
@@ -345,6 +346,14 @@ def rows_of_script(text):
             if isinstance(name, str) and " " in name:
                 rows.append((node.lineno, name))
     return list(dict.fromkeys(row for _, row in sorted(rows, key=lambda row: row[0])))
+
+
+def entries_in(part):
+    """The entries that a part of a list adds to it: those of a list that is spread into it, the one of which a loop
+    makes each, or the part itself."""
+    if not isinstance(part, ast.Starred):
+        return [part]
+    return [part.value.elt] if isinstance(part.value, ast.GeneratorExp) else part.value.elts
 
 
 def shortened(row):
