@@ -66,7 +66,7 @@ run:
 
 # The scripts drive the program that the gate has built, four side by side.
 program := crates/studio_main/out/studio_main
-scripts := memory/check tests/captures tests/sdp tests/package tests/library diff/run $(addprefix examples/,check faults statuses blocks wav chart)
+scripts := memory/check tests/captures tests/sdp tests/package tests/library diff/run $(addprefix examples/,check faults statuses levels blocks wav chart)
 # Live runs wait for most of their time, so three of them leave a processor free. The longest begin first. What a busy machine would
 # disturb all the same, because other programs send or listen, runs alone behind them.
 live := loopback page numbers states desk library control files sockets sap service twins faders gains ends demo

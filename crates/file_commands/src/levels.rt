@@ -2,20 +2,18 @@
 use std::io;
 use std::io::Write;
 
-/// The gain 1 while a level is looked for: 2^34.
-const ONE: u64 = 17_179_869_184;
+/// The gain 1 while a level is looked for: 2^60.
+// With these units no gain is so near to a bound between two levels that rounding in the steps below changes its level.
+const ONE: u128 = 1_152_921_504_606_846_976;
 
 /// The number of these units in a unit of gains, 1/65,536.
-const UNITS: u64 = 262_144;
+const UNITS: u128 = 17_592_186_044_416;
 
-/// The gain of half a tenth of a decibel, 10^(1/400), in the same units.
-const HALF_TENTH: u64 = 17_279_049_651;
+/// The gain of half a tenth of a decibel, 10^(1/400).
+const HALF_TENTH: u128 = 1_159_577_393_089_001_151;
 
-/// The gain of a tenth of a decibel, 10^(1/200), in units of 1/2^26.
-const TENTH: u64 = 67_885_948;
-
-/// The number of those units in 1.
-const TENTH_UNITS: u64 = 67_108_864;
+/// The gain of a tenth of a decibel, 10^(1/200).
+const TENTH: u128 = 1_166_271_706_434_695_346;
 
 /// The number of tenths of a decibel in a factor of 10.
 const TENTHS_IN_TEN: i32 = 200;
@@ -39,14 +37,14 @@ pub(crate) fn write_level<W: Write>(gain: i32, output: &mut W) -> io::Result<()>
 /// Returns the level of an amount of 1/65,536 in tenths of a decibel, rounded.
 // In whole numbers, so that the text is the same on every machine.
 fn tenths_of(amount: u32) -> i32 {
-    let (scaled, tens) = from_one_to_ten(u64::from(amount).saturating_mul(UNITS));
+    let (scaled, tens) = from_one_to_ten(u128::from(amount).saturating_mul(UNITS));
     tens.saturating_mul(TENTHS_IN_TEN)
         .saturating_add(tenths_above_one(scaled))
 }
 
 /// Returns an amount as one from 1 to less than 10, with the number of tens by which the amount is greater.
 // The least gain, 1/65,536, is more than 10^-5, and the greatest one, 16, less than 10^2.
-fn from_one_to_ten(amount: u64) -> (u64, i32) {
+fn from_one_to_ten(amount: u128) -> (u128, i32) {
     let mut scaled = amount;
     let mut tens = 0i32;
     for _ in 0..5 {
@@ -62,7 +60,7 @@ fn from_one_to_ten(amount: u64) -> (u64, i32) {
 }
 
 /// Returns the level of an amount from 1 to less than 10 in tenths of a decibel, rounded.
-fn tenths_above_one(amount: u64) -> i32 {
+fn tenths_above_one(amount: u128) -> i32 {
     let mut tenths = 0i32;
     let mut least = HALF_TENTH;
     for _ in 0..TENTHS_IN_TEN {
@@ -70,7 +68,7 @@ fn tenths_above_one(amount: u64) -> i32 {
             return tenths;
         }
         tenths = tenths.saturating_add(1);
-        least = least.saturating_mul(TENTH) / TENTH_UNITS;
+        least = least.saturating_mul(TENTH) / ONE;
     }
     tenths
 }
