@@ -1,6 +1,6 @@
 //! The page: the service that responds to requests from one snapshot. `html` has the page's text, `controls_html` that
-//! of its gains, `state` writes the snapshot as JSON, and `metrics` as metrics, of lines in `samples` and pieces in
-//! `text`. `resource` has the paths, and `host` the hosts to which requests may be addressed.
+//! of its gains, `state` writes the snapshot as JSON, and `metrics` and `path_states` as metrics, of lines in
+//! `samples` and pieces in `text`. `resource` has the paths, and `host` the hosts to which requests may be addressed.
 ghost use Rattle.std.specs.Prelude.{◌≡◌, [], ◌∷◌, ◌++◌, codes, OnOk, IfOk};
 ghost use Rattle.http_server.specs.Connection.{config_of, history};
 ghost use Rattle.http_server.specs.History.{IsServed, Rests};
@@ -34,6 +34,7 @@ pub(crate) mod controls_html;
 pub(crate) mod host;
 pub(crate) mod html;
 pub(crate) mod metrics;
+mod path_states;
 pub(crate) mod resource;
 mod samples;
 pub(crate) mod state;

@@ -122,6 +122,7 @@ const CONDITIONS = {
 // the states of a path, the worst first
 const STATES = {
   given_up: ["given up", "bad"],
+  not_joined: ["not joined", "bad"],
   no_datagrams: ["no datagrams", "bad"],
   refused: ["refused", "bad"],
   late: ["late", "bad"],
@@ -335,11 +336,11 @@ function drawRun(state, old) {
 // the problems of a stream: that it is lost, or those of its paths
 function addProblems(problems, stream, n, old, seconds) {
   const name = nameOf(stream, n);
-  if (stream.state === "lost") problems.lost.push(name + " lost");
+  if (stream.state === "lost") problems.lost.push(name + ": lost");
   if (stream.state !== "running") return;
   stream.paths.forEach((path, p) => {
     const [word, kind] = wordOf(path, old.paths[p], seconds);
-    if (kind in problems) problems[kind].push(name + " " + LETTERS[p] + " " + word);
+    if (kind in problems) problems[kind].push(name + ": " + LETTERS[p] + " " + word);
   });
 }
 

@@ -6,10 +6,6 @@ ghost use Rattle.status_page.specs.Metrics.{
   all_path_samples,
   condition_samples,
   all_condition_samples,
-  known_condition_samples,
-  path_condition_samples,
-  paths_condition_samples,
-  all_path_condition_samples,
   output_samples,
   stream_family,
   last_families,
@@ -32,7 +28,6 @@ ghost use Rattle.status_page.specs.Metrics.{
   written_family,
   metrics_text,
   state_header,
-  path_state_header,
 };
 
 use crate::condition::CONDITIONS;
@@ -40,13 +35,13 @@ use crate::fields::MetricKind;
 use crate::fields::output::{OUTPUT_FIELDS, OutputField};
 use crate::fields::path::{PATH_FIELDS, PathField};
 use crate::fields::stream::StreamField;
+use crate::page::path_states::push_path_conditions;
 use crate::page::samples::{
     push_condition_sample, push_count_sample, push_failed_sample, push_output_sample,
-    push_path_condition_sample, push_path_sample, push_state_sample, push_stream_sample,
+    push_path_sample, push_state_sample, push_stream_sample,
 };
 use crate::page::text::push_header;
-use crate::path_condition::PATH_CONDITIONS;
-use crate::snapshot::{ChannelState, Condition, PathCondition, PathState, Snapshot, StreamState};
+use crate::snapshot::{ChannelState, Condition, PathState, Snapshot, StreamState};
 use rtp_stream::{COUNT_FIELDS, CountField, Path};
 use std::alloc::{AllocError, Global};
 use studio_io::{OUTPUT_KINDS, OutputKind, OutputState, OutputStates};
@@ -117,88 +112,6 @@ fn push_condition_samples(
 {
     for condition in conditions {
         push_condition_sample(text, number, stream, *condition)?;
-    }
-    Ok(())
-}
-
-/// The description of the metric of the paths' conditions.
-const PATH_STATE_HELP: &str =
-    "Where the path stands: 1 for the state that it is in, and 0 for the others.";
-
-/// Appends the metric of the paths' conditions.
-fn push_path_conditions(text: &mut Vec<u8>, streams: &[StreamState]) -> Result<(), AllocError>
-    ensures { OnOk result (text.new.items
-        ≡ text.old.items ++ (path_state_header ++ all_path_condition_samples 0 streams.now)) }
-{
-    push_header(text, "path_", "state", MetricKind::Gauge, PATH_STATE_HELP)?;
-    push_all_path_conditions(text, streams)
-}
-
-/// Appends the lines with each path's condition.
-#[tactic(auto, unfolding(crate::specs::Metrics::all_path_condition_samples))]
-fn push_all_path_conditions(text: &mut Vec<u8>, streams: &[StreamState]) -> Result<(), AllocError>
-    ensures { OnOk result (text.new.items ≡ text.old.items ++ all_path_condition_samples 0 streams.now) }
-{
-    for (number, stream) in streams.iter().enumerate() {
-        push_paths_conditions(text, number, stream, stream.paths.as_slice())?;
-    }
-    Ok(())
-}
-
-/// Appends the lines with the condition of each path of a stream.
-#[tactic(auto, unfolding(crate::specs::Metrics::paths_condition_samples))]
-fn push_paths_conditions(
-    text: &mut Vec<u8>,
-    number: usize,
-    stream: &StreamState,
-    states: &[PathState],
-) -> Result<(), AllocError>
-    requires few { length states.now ≤ 4 }
-    ensures text { OnOk result
-        (text.new.items ≡ text.old.items ++ paths_condition_samples number stream.now 0 states.now) }
-{
-    for (place, state) in states.iter().enumerate() {
-        let Some(path) = Path::new(place as u8) else {
-            unreachable!()
-        };
-        push_conditions_of_path(text, number, stream, path, state.condition)?;
-    }
-    Ok(())
-}
-
-/// Appends the lines with a path's condition, one for each that there is. Appends nothing if it is not known.
-fn push_conditions_of_path(
-    text: &mut Vec<u8>,
-    number: usize,
-    stream: &StreamState,
-    path: Path,
-    condition: Option<PathCondition>,
-) -> Result<(), AllocError>
-    ensures { OnOk result (text.new.items ≡ text.old.items ++ path_condition_samples number stream.now path condition) }
-{
-    match condition {
-        Some(present) => {
-            push_known_conditions(text, number, stream, path, present, &PATH_CONDITIONS)
-        }
-        None => Ok(()),
-    }
-}
-
-/// Appends the lines with a path's present condition, one for each of these conditions.
-#[tactic(auto, unfolding(crate::specs::Metrics::known_condition_samples))]
-fn push_known_conditions(
-    text: &mut Vec<u8>,
-    number: usize,
-    stream: &StreamState,
-    path: Path,
-    present: PathCondition,
-    conditions: &[PathCondition],
-) -> Result<(), AllocError>
-    ensures { OnOk result
-        (text.new.items ≡ text.old.items ++ known_condition_samples number stream.now path present conditions.now) }
-{
-    for condition in conditions {
-        push_path_condition_sample(text, number, stream, path, present, *condition)?;
     }
     Ok(())
 }
