@@ -9,7 +9,9 @@ ROW = re.compile(r"\| (?P<report>[^|]*) \| (?P<lines>[^|]*) \| `(?P<key>[^|]*)` 
 # The words of each metric of a state.
 STATES = {
     "darbexum_stream_state": ("no_packet", "running", "lost", "ended"),
-    "darbexum_path_state": ("given_up", "no_datagrams", "refused", "late", "too_early", "losing", "in_time"),
+    "darbexum_path_state": (
+        "given_up", "not_joined", "no_datagrams", "refused", "late", "too_early", "losing", "in_time"
+    ),
     "darbexum_record_state": ("none", "writing", "ended"),
     "darbexum_wav_state": ("none", "writing", "ended"),
     "darbexum_pcm_state": ("none", "waiting", "writing", "ended"),

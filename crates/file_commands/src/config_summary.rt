@@ -1,5 +1,5 @@
 //! The summary of a configuration: lines for its streams and their paths, the output and its copies, and the gains.
-ghost use Rattle.std.specs.Prelude.{◌≡◌};
+ghost use Rattle.std.specs.Prelude.{◌≡◌, ◌*◌};
 ghost use Rattle.file_commands.specs.Warning as spec;
 
 use crate::explanation::table_at;
@@ -129,12 +129,16 @@ fn is_window_short(stream: &StreamSpec) -> bool
 }
 
 /// Returns what the window of a stream spans, in sampling instants.
-fn span_of(stream: &StreamSpec) -> u64 {
+fn span_of(stream: &StreamSpec) -> u64
+    ensures { result ≡ stream.now.window * stream.now.frames }
+{
     u64::from(stream.window()) * u64::from(stream.frames())
 }
 
 /// Returns how early a packet of a stream may come, in sampling instants: what its window spans beyond the latency.
-fn earliness_of(stream: &StreamSpec) -> u64 {
+fn earliness_of(stream: &StreamSpec) -> u64
+    ensures { result ≡ spec.earliness_of stream.now }
+{
     span_of(stream).saturating_sub(u64::from(stream.latency()))
 }
 
@@ -152,7 +156,9 @@ fn write_early_advice<W: Write>(stream: &StreamSpec, output: &mut W) -> io::Resu
 
 /// Returns true if the media times of a stream follow from when its first packet arrived, and a later packet may come
 /// by less than 70 ms earlier than that one.
-fn is_close_to_first(stream: &StreamSpec) -> bool {
+fn is_close_to_first(stream: &StreamSpec) -> bool
+    ensures { result ≡ spec.is_close_to_first stream.now }
+{
     match stream.clock() {
         StreamClock::Follow | StreamClock::Arrival => earliness_of(stream) < SETTLING,
         StreamClock::Media { .. } => false,
@@ -269,7 +275,7 @@ fn write_advice<W: Write>(name: &str, output: &mut W) -> io::Result<()> {
 }
 
 /// Writes a path's port, and, if the configuration has them, the address to which its packets come and the source
-/// address that they must have.
+/// address that they must have. Of a group it says who has to join it: `live` does not.
 fn write_path<W: Write>(
     name: &str,
     port: Option<u16>,
@@ -283,6 +289,12 @@ fn write_path<W: Write>(
     }
     write_address(" at", at, output)?;
     write_address(", from", from, output)?;
+    match at {
+        Some(at) if at.is_multicast() => {
+            write!(output, ", to be joined by darbexum-join or the system")?
+        }
+        _ => {}
+    }
     writeln!(output)
 }
 

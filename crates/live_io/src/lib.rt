@@ -38,6 +38,7 @@ pub use record::observer::RecordObserver;
 pub use record::output::{RecordOutput, RecordTask};
 pub use record::writer::{FileResult, RecordWriter, write_record};
 pub use sockets::feed::{FeedFlags, UdpFeed, udp_feeds};
+pub use sockets::group_table::{has_group, read_joined_groups};
 pub use sockets::health::{RunHealth, SendHealth, SocketHealth};
 pub use sockets::hold_up::HoldUp;
 pub use sockets::inherited::{InheritedSocketFault, InheritedSockets};

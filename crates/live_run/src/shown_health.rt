@@ -33,6 +33,7 @@ impl ShownHealth<'_> {
         Some(SocketState {
             faults: health.faults(),
             has_ended: health.has_ended(),
+            is_unjoined: health.is_joined() == Some(false),
             dropped: health.dropped(),
             too_long: health.too_long(),
             held_up: health.held_up(),

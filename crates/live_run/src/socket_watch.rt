@@ -1,8 +1,10 @@
-//! The watch of a run's sockets: a line on standard error for each path that fails or ends, and the kernel's drops.
+//! The watch of a run's sockets: the kernel's drops, the groups that are joined, and a line on standard error for each
+//! path that fails, ends, or is at a group that is not joined.
 
 use crate::supervisor::{POLL_INTERVAL_MS, StatusTask};
-use live_io::{RunHealth, STDERR, SocketHealth, is_ready, read_kernel_drops};
+use live_io::{RunHealth, STDERR, SocketHealth, is_ready, read_joined_groups, read_kernel_drops};
 use rtp_stream::{Path, StreamSpec};
+use std::net::Ipv4Addr;
 use studio_config::StudioSpec;
 
 /// The greatest number of paths: 16 streams with four each.
@@ -11,11 +13,20 @@ const MAX_PATHS: usize = 64;
 /// The number of polls from one reading of the kernel's drops to the next: a second.
 const POLLS_PER_READING: u64 = 1_000 / POLL_INTERVAL_MS;
 
+/// The number of polls from one reading of the groups that are joined to the next: ten seconds.
+const POLLS_PER_GROUPS: u64 = 10_000 / POLL_INTERVAL_MS;
+
 /// The rest of a path's line at its first fault.
 const FAULT_TEXT: &[u8] = b": socket error\n";
 
 /// The rest of a path's line at its end.
 const END_TEXT: &[u8] = b": ended after 1000 socket errors\n";
+
+/// The rest of a path's line once its group is found not to be joined, behind the group.
+const UNJOINED_TEXT: &[u8] = b": not joined on any interface\n";
+
+/// The rest of a path's line once its group is found to be joined again, behind the group.
+const JOINED_TEXT: &[u8] = b": joined\n";
 
 /// The watch of a run's sockets, which the supervisor's thread polls.
 #[derive(Drop)]
@@ -26,6 +37,8 @@ pub(crate) struct SocketWatch<'a> {
     is_shown: bool,
     /// The number of polls since the kernel's drops were read.
     polls: u64,
+    /// The number of polls since the groups that are joined were read.
+    group_polls: u64,
     /// The lines that were written for each path.
     written: [WrittenLines; MAX_PATHS],
 }
@@ -35,6 +48,8 @@ pub(crate) struct SocketWatch<'a> {
 struct WrittenLines {
     fault: bool,
     end: bool,
+    /// True if the last line on the path's group says that it is not joined.
+    unjoined: bool,
 }
 
 impl<'a> SocketWatch<'a> {
@@ -50,9 +65,11 @@ impl<'a> SocketWatch<'a> {
             is_shown,
             // The first poll reads.
             polls: POLLS_PER_READING,
+            group_polls: POLLS_PER_GROUPS,
             written: [WrittenLines {
                 fault: false,
                 end: false,
+                unjoined: false,
             }; MAX_PATHS],
         }
     }
@@ -69,7 +86,27 @@ impl<'a> SocketWatch<'a> {
         }
     }
 
-    /// Writes the lines of the paths whose first fault or end came since the last poll.
+    /// Reads each ten seconds which groups are joined, if a path is at a group.
+    fn read_groups_if_due(&mut self) {
+        self.group_polls = self.group_polls.saturating_add(1);
+        if self.group_polls <= POLLS_PER_GROUPS {
+            return;
+        }
+        self.group_polls = 1;
+        if self
+            .health
+            .paths()
+            .iter()
+            .any(|path| path.group().is_some())
+        {
+            // Only of a socket that the kernel's table lists is it known that its groups are in the other table.
+            read_kernel_drops(self.health);
+            read_joined_groups(self.health);
+        }
+    }
+
+    /// Writes the lines of the paths of which there is something new since the last poll: the first fault, the end, a
+    /// group that is not joined, or one that is joined again.
     fn write_lines(&mut self) {
         let mut paths = self.health.paths().iter().zip(self.written.iter_mut());
         for (number, stream) in self.streams.iter().enumerate() {
@@ -86,6 +123,7 @@ impl<'a> SocketWatch<'a> {
 impl StatusTask for SocketWatch<'_> {
     fn poll(&mut self) {
         self.read_drops_if_due();
+        self.read_groups_if_due();
         self.write_lines();
     }
 
@@ -116,24 +154,32 @@ impl<T: StatusTask> StatusTask for WatchedTask<'_, T> {
 /// Writes the lines of a path that are due. A line that standard error does not take now is written later.
 fn write_path_lines(stream: usize, path: Path, health: &SocketHealth, written: &mut WrittenLines) {
     if health.faults() > 0 && !written.fault {
-        written.fault = write_line(stream, path, FAULT_TEXT);
+        written.fault = write_line(Line::of(stream, path), FAULT_TEXT);
     }
     if health.has_ended() && !written.end {
-        written.end = write_line(stream, path, END_TEXT);
+        written.end = write_line(Line::of(stream, path), END_TEXT);
+    }
+    if let (Some(group), Some(is_joined)) = (health.group(), health.is_joined()) {
+        let rest = if is_joined {
+            JOINED_TEXT
+        } else {
+            UNJOINED_TEXT
+        };
+        let is_new = written.unjoined == is_joined;
+        if is_new && write_line(Line::of(stream, path).with_group(group), rest) {
+            written.unjoined = !is_joined;
+        }
     }
 }
 
-/// Writes the line of a path with this rest to standard error, and returns true if it did. Returns false if standard
-/// error would block.
+/// Writes a line with this rest to standard error, and returns true if it did. Returns false if standard error would
+/// block.
 // By the descriptor: the writer of standard error belongs to the status, which another thread may publish.
-fn write_line(stream: usize, path: Path, rest: &[u8]) -> bool {
+fn write_line(line: Line, rest: &[u8]) -> bool {
     if !is_ready(STDERR, libc::net::POLLOUT) {
         return false;
     }
-    let mut line = Line::new();
-    line.push(b"path ");
-    line.push_number(stream);
-    line.push(path.letter().as_bytes());
+    let mut line = line;
     line.push(rest);
     // In one call, so that no other line comes between. An error is ignored: nothing is left that could report it.
     let _ = libc::write(STDERR, &line.octets[..line.len.min(MAX_LINE)]);
@@ -151,12 +197,28 @@ struct Line {
 }
 
 impl Line {
-    /// Returns an empty line.
-    fn new() -> Line {
-        Line {
+    /// Returns the begin of a path's line.
+    fn of(stream: usize, path: Path) -> Line {
+        let mut line = Line {
             octets: [0; MAX_LINE],
             len: 0,
+        };
+        line.push(b"path ");
+        line.push_number(stream);
+        line.push(path.letter().as_bytes());
+        line
+    }
+
+    /// Returns the begin of a path's line with the path's group behind it.
+    fn with_group(mut self, group: Ipv4Addr) -> Line {
+        self.push(b": ");
+        for (place, octet) in group.octets().iter().enumerate() {
+            if place > 0 {
+                self.push(b".");
+            }
+            self.push_number(usize::from(*octet));
         }
+        self
     }
 
     /// Appends octets, as far as there is space.
@@ -169,10 +231,13 @@ impl Line {
         }
     }
 
-    /// Appends a number below 100 in decimal.
+    /// Appends a number below 1,000 in decimal.
     fn push_number(&mut self, number: usize) {
-        let [tens, ones] = [number / 10 % 10, number % 10];
-        if tens > 0 {
+        let [hundreds, tens, ones] = [number / 100 % 10, number / 10 % 10, number % 10];
+        if hundreds > 0 {
+            self.push(&[b'0' + hundreds as u8]);
+        }
+        if hundreds > 0 || tens > 0 {
             self.push(&[b'0' + tens as u8]);
         }
         self.push(&[b'0' + ones as u8]);

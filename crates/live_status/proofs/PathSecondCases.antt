@@ -1,6 +1,6 @@
 -- Worked cases of the condition of a path.
 use Rattle.std.specs.Prelude.{◌≡◌, ℕ, true, false, None, pos, refl}
-use Rattle.status_page.specs.declared.snapshot.PathCondition.TheVariants.{NoDatagrams, Refused, Late, TooEarly, Losing, InTime}
+use Rattle.status_page.specs.declared.snapshot.PathCondition.TheVariants.{NotJoined, NoDatagrams, Refused, Late, TooEarly, Losing, InTime}
 use Rattle.live_status.specs.PathSeconds.{condition_in, is_losing, known_condition, no_tally, noted_second, tally_since}
 use Rattle.live_status.specs.declared.reception_watch.second_watch.PathTally.{PathTally}
 use Rattle.live_status.specs.declared.reception_watch.second_watch.SecondWatch.{SecondWatch}
@@ -10,33 +10,40 @@ abbrev second : ℕ → ℕ → ℕ → ℕ → PathTally
 second datagrams in_time late ahead = record { datagrams = datagrams; in_time = in_time; late = late; ahead = ahead }
 
 -- a thousand packets, all in time
-in_time : condition_in false (second 1000 1000 0 0) ≡ InTime
+in_time : condition_in false false (second 1000 1000 0 0) ≡ InTime
 in_time = refl
 
 -- none came
-silent : condition_in false (second 0 0 0 0) ≡ NoDatagrams
+silent : condition_in false false (second 0 0 0 0) ≡ NoDatagrams
 silent = refl
 
+-- none came to a group that this machine has not joined; if any come, it is no matter who joined it
+not_joined : condition_in true true (second 0 0 0 0) ≡ NotJoined
+not_joined = refl
+
+joined_elsewhere : condition_in true false (second 1000 1000 0 0) ≡ InTime
+joined_elsewhere = refl
+
 -- a thousand datagrams, none of which is of the stream
-refused : condition_in false (second 1000 0 0 0) ≡ Refused
+refused : condition_in false false (second 1000 0 0 0) ≡ Refused
 refused = refl
 
 -- all are late; 501 of a thousand are; 500 are not most
-all_late : condition_in true (second 1000 0 1000 0) ≡ Late
+all_late : condition_in false true (second 1000 0 1000 0) ≡ Late
 all_late = refl
 
-most_late : condition_in true (second 1000 499 501 0) ≡ Late
+most_late : condition_in false true (second 1000 499 501 0) ≡ Late
 most_late = refl
 
-half_late : condition_in true (second 1000 500 500 0) ≡ Losing
+half_late : condition_in false true (second 1000 500 500 0) ≡ Losing
 half_late = refl
 
 -- most are too early, next to datagrams of others
-most_early : condition_in false (second 2000 400 0 600) ≡ TooEarly
+most_early : condition_in false false (second 2000 400 0 600) ≡ TooEarly
 most_early = refl
 
 -- a loss in the last ten seconds, by packets that were all in time in the last one
-losing : condition_in true (second 1000 1000 0 0) ≡ Losing
+losing : condition_in false true (second 1000 1000 0 0) ≡ Losing
 losing = refl
 
 -- a count that never rose is no loss; one that rose nine seconds ago is, and ten seconds ago not

@@ -2,7 +2,7 @@
 use Rattle.std.specs.Prelude.{ℕ, ◌-◌, Bool, false, not, ◌&&◌, ◌==◌, nat_lt, ℤ, pos, ◌+ℤ◌, int_le, Option, Some, None, if◌then◌else◌}
 use Rattle.status_page.specs.declared.snapshot.CopyCounts.{CopyCounts}
 use Rattle.status_page.specs.declared.snapshot.PathCondition.{PathCondition}
-use Rattle.status_page.specs.declared.snapshot.PathCondition.TheVariants.{GivenUp, NoDatagrams, Refused, Late, TooEarly, Losing, InTime}
+use Rattle.status_page.specs.declared.snapshot.PathCondition.TheVariants.{GivenUp, NotJoined, NoDatagrams, Refused, Late, TooEarly, Losing, InTime}
 use Rattle.status_page.specs.declared.snapshot.PathState.{PathState}
 use Rattle.status_page.specs.declared.snapshot.SocketState.{SocketState}
 use Rattle.live_status.specs.Counts.{count_after, in_time_of, is_unchanged_for, sum_in_64_bits}
@@ -77,9 +77,9 @@ abbrev pub is_too_early : PathTally → Bool
 is_too_early second = nat_lt (sum_in_64_bits second.in_time second.late) second.ahead
 
 -- the condition of a path that was not given up, by what came in a second
-abbrev pub condition_in : Bool → PathTally → PathCondition
-condition_in losing second =
-    if second.datagrams == 0 then NoDatagrams
+abbrev pub condition_in : Bool → Bool → PathTally → PathCondition
+condition_in unjoined losing second =
+    if second.datagrams == 0 then (if unjoined then NotJoined else NoDatagrams)
     else (if is_refused second then Refused
     else (if is_late second then Late
     else (if is_too_early second then TooEarly
@@ -90,9 +90,14 @@ abbrev pub is_given_up : Option SocketState → Bool
 is_given_up None = false
 is_given_up (Some socket) = socket.has_ended
 
+-- a path is at a group that this machine is known not to have joined
+abbrev pub is_unjoined : Option SocketState → Bool
+is_unjoined None = false
+is_unjoined (Some socket) = socket.is_unjoined
+
 -- the condition of a path whose copies are counted
 abbrev pub known_condition : SecondWatch → ℤ → Option SocketState → PathCondition
-known_condition watch now socket = if is_given_up socket then GivenUp else condition_in (is_losing watch.losses now) watch.last
+known_condition watch now socket = if is_given_up socket then GivenUp else condition_in (is_unjoined socket) (is_losing watch.losses now) watch.last
 
 -- the condition of a path, by its watch
 abbrev pub condition_at : SecondWatch → ℤ → Option SocketState → Option CopyCounts → Option PathCondition

@@ -5,7 +5,7 @@ ghost use Rattle.std.specs.Prelude.{[]};
 
 use live_io::{
     DatagramSocket, PathPlace, PauseClock, ReceivePace, RetryingSocket, SocketHealth, TaiOffset,
-    drops_in, have_collision, tai_now,
+    drops_in, has_group, have_collision, tai_now,
 };
 use std::cell::Cell;
 use std::io::ErrorKind;
@@ -339,6 +339,26 @@ fn drops_are_read_by_the_inode(rt: HostRuntime) {
         return;
     };
     assert_eq!(rt; drops_in(whole, 4_026_531), None);
+}
+
+/// A table of the kernel: 224.0.0.1 is joined on both interfaces, and 239.71.10.5 on the second one.
+const GROUPS: &[u8] =
+    b"Idx\tDevice    : Count Querier\tGroup    Users Timer\tReporter\n\
+    1\tlo        :     1      V3\n\
+    \t\t\t\t010000E0     1 0:00000000\t\t0\n\
+    3\t0A0A47EF  :     2      V3\n\
+    \t\t\t\t050A47EF     2 0:00000000\t\t0\n\
+    \t\t\t\t010000E0     1 0:00000000\t\t0\n";
+
+/// A group is joined if a line of the table has it; the name of an interface is no group, and nor is half of one.
+#[test]
+fn groups_are_read_by_their_addresses(rt: HostRuntime) {
+    assert!(rt; has_group(GROUPS, Ipv4Addr::new(224, 0, 0, 1)));
+    assert!(rt; has_group(GROUPS, Ipv4Addr::new(239, 71, 10, 5)));
+    assert!(rt; !has_group(GROUPS, Ipv4Addr::new(239, 71, 10, 10)));
+    assert!(rt; !has_group(GROUPS, Ipv4Addr::new(5, 10, 71, 239)));
+    assert!(rt; !has_group(b"\t\t\t\t050A47", Ipv4Addr::new(239, 71, 10, 5)));
+    assert!(rt; !has_group(b"", Ipv4Addr::new(224, 0, 0, 1)));
 }
 
 /// A clock whose monotonic reading steps by this many microseconds each time, for this many readings, and then stays

@@ -10,8 +10,9 @@ ghost use Rattle.status_page.specs.PathConditions.{
 use crate::snapshot::{PathCondition, PathState};
 
 /// All conditions of a path, in the order in which `/metrics` lists them.
-pub(crate) const PATH_CONDITIONS: [PathCondition; 7] = [
+pub(crate) const PATH_CONDITIONS: [PathCondition; 8] = [
     PathCondition::GivenUp,
+    PathCondition::NotJoined,
     PathCondition::NoDatagrams,
     PathCondition::Refused,
     PathCondition::Late,
@@ -27,6 +28,7 @@ impl PathCondition {
     {
         match self {
             PathCondition::GivenUp => "given_up",
+            PathCondition::NotJoined => "not_joined",
             PathCondition::NoDatagrams => "no_datagrams",
             PathCondition::Refused => "refused",
             PathCondition::Late => "late",
@@ -43,6 +45,7 @@ impl PathCondition {
         // By cases, as the contract's `has_path_condition` is.
         match (self, other) {
             (PathCondition::GivenUp, PathCondition::GivenUp)
+            | (PathCondition::NotJoined, PathCondition::NotJoined)
             | (PathCondition::NoDatagrams, PathCondition::NoDatagrams)
             | (PathCondition::Refused, PathCondition::Refused)
             | (PathCondition::Late, PathCondition::Late)

@@ -30,6 +30,8 @@ pub enum Condition {
 pub enum PathCondition {
     /// The path was given up, because its socket failed again and again.
     GivenUp,
+    /// No datagram came, and this machine has not joined the path's multicast group on any interface.
+    NotJoined,
     /// No datagram came.
     NoDatagrams,
     /// Datagrams came, but none of the stream in time, late or too early.
@@ -69,6 +71,8 @@ pub struct SocketState {
     pub faults: u64,
     /// True once the path was given up, because its socket failed again and again.
     pub has_ended: bool,
+    /// True if the path is at a multicast group that this machine is known not to have joined on any interface.
+    pub is_unjoined: bool,
     /// The number of datagrams that the system dropped because the socket's buffer was full. `None` if the system does
     /// not list the socket.
     pub dropped: Option<u64>,

@@ -6,7 +6,8 @@ use crate::path_count::path_count;
 use crate::sockets::mix_times::MixProgress;
 use std::alloc::{AllocError, Global};
 use std::io;
-use std::sync::atomic::{AtomicBool, AtomicU64, Ordering};
+use std::net::Ipv4Addr;
+use std::sync::atomic::{AtomicBool, AtomicU32, AtomicU64, Ordering};
 use studio_config::StudioSpec;
 
 /// The value for a number of dropped datagrams that is not known.
@@ -14,6 +15,18 @@ const UNKNOWN: u64 = u64::MAX;
 
 /// The value for an inode that is not known. No socket has it.
 const NO_INODE: u64 = 0;
+
+/// The value for a path that is at no group.
+const NO_GROUP: u32 = 0;
+
+/// The value for a group of which it is not known whether it is joined.
+const JOIN_UNKNOWN: u32 = 0;
+
+/// The value for a group that no interface has joined.
+const NOT_JOINED: u32 = 1;
+
+/// The value for a group that an interface has joined.
+const JOINED: u32 = 2;
 
 /// The health of all sockets of a run.
 // Atomics throughout: feeds in several threads write, and the threads of the supervisor and of the page read.
@@ -97,6 +110,8 @@ pub struct SocketHealth {
     pausing: AtomicBool,
     inode: AtomicU64,
     dropped: AtomicU64,
+    group: AtomicU32,
+    joined: AtomicU32,
 }
 
 impl SocketHealth {
@@ -110,6 +125,8 @@ impl SocketHealth {
             pausing: AtomicBool::new(false),
             inode: AtomicU64::new(NO_INODE),
             dropped: AtomicU64::new(UNKNOWN),
+            group: AtomicU32::new(NO_GROUP),
+            joined: AtomicU32::new(JOIN_UNKNOWN),
         }
     }
 
@@ -144,6 +161,24 @@ impl SocketHealth {
         match self.dropped.load(Ordering::SeqCst) {
             UNKNOWN => None,
             dropped => Some(dropped),
+        }
+    }
+
+    /// Returns the multicast group to which the path's datagrams are sent, or `None` if they are not sent to one.
+    pub fn group(&self) -> Option<Ipv4Addr> {
+        match self.group.load(Ordering::SeqCst) {
+            NO_GROUP => None,
+            group => Some(Ipv4Addr::from(group.to_be_bytes())),
+        }
+    }
+
+    /// Returns true if this machine has joined the path's group on any interface, as of the last `read_joined_groups`.
+    /// Returns `None` if the path is at no group, or if it is not known.
+    pub fn is_joined(&self) -> Option<bool> {
+        match self.joined.load(Ordering::SeqCst) {
+            NOT_JOINED => Some(false),
+            JOINED => Some(true),
+            _ => None,
         }
     }
 
@@ -182,6 +217,26 @@ impl SocketHealth {
     /// Returns true if the socket has this inode.
     pub(crate) fn has_inode(&self, inode: u64) -> bool {
         inode != NO_INODE && self.inode.load(Ordering::SeqCst) == inode
+    }
+
+    /// Sets the address to which the path's datagrams are sent.
+    pub(crate) fn set_address(&self, address: Ipv4Addr) {
+        let group = if address.is_multicast() {
+            u32::from_be_bytes(address.octets())
+        } else {
+            NO_GROUP
+        };
+        self.group.store(group, Ordering::SeqCst);
+    }
+
+    /// Sets whether this machine has joined the path's group, if it is known.
+    pub(crate) fn set_joined(&self, joined: Option<bool>) {
+        let value = match joined {
+            Some(true) => JOINED,
+            Some(false) => NOT_JOINED,
+            None => JOIN_UNKNOWN,
+        };
+        self.joined.store(value, Ordering::SeqCst);
     }
 
     /// Sets the number of datagrams that the kernel dropped at the socket, if it is known.

@@ -56,6 +56,7 @@ impl<'a> Receiver<'a> {
         };
         if let Some(health) = health {
             health.set_inode(inode_of(socket.as_raw_fd()));
+            health.set_address(*address.ip());
         }
         Receiver {
             socket,

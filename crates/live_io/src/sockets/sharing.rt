@@ -24,8 +24,8 @@ impl PathPlace {
     }
 
     /// Returns true if both paths are at the same group and port, and their sources are configured and differ. Then
-    /// each can
-    /// have a socket of its own: the group's datagrams come to both, and the source decides which path takes one.
+    /// each can have a socket of its own: the group's datagrams come to both, and the source decides which path takes
+    /// one.
     pub fn shares_with(&self, other: &PathPlace) -> bool
         ensures { IsTrue result ↔ Share self.now other.now }
     {

@@ -2,6 +2,7 @@
 //! the kernel dropped there because the receive buffer was full.
 
 use crate::sockets::health::{RunHealth, SocketHealth};
+use crate::sockets::kernel_table::{TableReader, read_table};
 
 /// The kernel's table of the UDP sockets of this process's network.
 pub(crate) const UDP_TABLE: &[u8] = b"/proc/self/net/udp";
@@ -14,10 +15,6 @@ const INODE_FIELD: u32 = 9;
 
 /// The field of a line with the number of dropped datagrams.
 const DROPS_FIELD: u32 = 12;
-
-/// The greatest number of reads of a table.
-// 65,536 reads of 4,096 octets, which hold two million sockets. A limit, since the table may grow while it is read.
-const MAX_READS: u32 = 65_536;
 
 /// A socket as a table of the kernel lists it.
 #[derive(Clone, Copy, PartialEq, Eq)]
@@ -186,22 +183,24 @@ pub fn read_kernel_drops(health: &RunHealth) {
 
 /// Passes the rows of a table to a visitor. Passes none if the table cannot be read.
 fn visit_rows<V: RowVisitor>(table: &[u8], visitor: &mut V) {
-    let file = os::open_read(table);
-    if file < 0 {
-        return;
-    }
-    let mut scan = TableScan::new();
-    let mut octets = [0u8; 4096];
-    for _ in 0..MAX_READS {
-        let count = libc::read(file, &mut octets);
-        if count <= 0 {
-            break;
+    let mut rows = RowReader {
+        scan: TableScan::new(),
+        visitor,
+    };
+    read_table(table, &mut rows);
+}
+
+/// The reader of a table that passes its rows to a visitor.
+#[derive(Drop)]
+struct RowReader<'a, V> {
+    scan: TableScan,
+    visitor: &'a mut V,
+}
+
+impl<V: RowVisitor> TableReader for RowReader<'_, V> {
+    fn take(&mut self, octet: u8) {
+        if let Some(row) = self.scan.take(octet) {
+            self.visitor.visit(row);
         }
-        for octet in &octets[..count as usize] {
-            if let Some(row) = scan.take(*octet) {
-                visitor.visit(row);
-            }
-        }
     }
-    let _ = libc::close(file);
 }

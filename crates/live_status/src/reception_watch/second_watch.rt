@@ -4,6 +4,7 @@ ghost use Rattle.live_status.specs.PathSeconds.{
   condition_at,
   condition_in,
   is_given_up,
+  is_unjoined,
   known_condition,
   losses_of,
   new_second_watch,
@@ -93,7 +94,8 @@ impl SecondWatch {
         if is_given_up(socket) {
             return PathCondition::GivenUp;
         }
-        condition_in(self.losses.has_risen_lately(now), self.last)
+        let is_losing = self.losses.has_risen_lately(now);
+        condition_in(is_unjoined(socket), is_losing, self.last)
     }
 }
 
@@ -136,9 +138,12 @@ impl PathTally {
 }
 
 /// Returns the condition of a path that was not given up, by what came in a second.
-fn condition_in(is_losing: bool, second: PathTally) -> PathCondition
-    ensures { result ≡ condition_in is_losing second }
+fn condition_in(is_unjoined: bool, is_losing: bool, second: PathTally) -> PathCondition
+    ensures { result ≡ condition_in is_unjoined is_losing second }
 {
+    if second.datagrams == 0 && is_unjoined {
+        return PathCondition::NotJoined;
+    }
     if second.datagrams == 0 {
         return PathCondition::NoDatagrams;
     }
@@ -176,6 +181,16 @@ fn is_given_up(socket: Option<SocketState>) -> bool
 {
     match socket {
         Some(socket) => socket.has_ended,
+        None => false,
+    }
+}
+
+/// Returns true if a path is at a group that this machine is known not to have joined.
+fn is_unjoined(socket: Option<SocketState>) -> bool
+    ensures { result ≡ is_unjoined socket }
+{
+    match socket {
+        Some(socket) => socket.is_unjoined,
         None => false,
     }
 }

@@ -48,6 +48,7 @@ fn heard_path() -> PathState {
         socket: Some(SocketState {
             faults: 8,
             has_ended: true,
+            is_unjoined: false,
             dropped: Some(9),
             unexpected: None,
             too_long: 26,

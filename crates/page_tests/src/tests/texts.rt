@@ -30,6 +30,7 @@ const METRICS: [&str; 20] = [
     darbexum_stream_state{stream=\"0\",name=\"L\\\"\\\\\\n<b>\",state=\"running\"} 1\n",
     "# TYPE darbexum_path_state gauge\n\
     darbexum_path_state{stream=\"0\",name=\"L\\\"\\\\\\n<b>\",path=\"a\",state=\"given_up\"} 0\n\
+    darbexum_path_state{stream=\"0\",name=\"L\\\"\\\\\\n<b>\",path=\"a\",state=\"not_joined\"} 0\n\
     darbexum_path_state{stream=\"0\",name=\"L\\\"\\\\\\n<b>\",path=\"a\",state=\"no_datagrams\"} 0\n\
     darbexum_path_state{stream=\"0\",name=\"L\\\"\\\\\\n<b>\",path=\"a\",state=\"refused\"} 0\n\
     darbexum_path_state{stream=\"0\",name=\"L\\\"\\\\\\n<b>\",path=\"a\",state=\"late\"} 0\n\
