@@ -8,7 +8,7 @@ from sources import ROOT
 
 SOURCES = ROOT / "crates"
 FIELDS = SOURCES / "status_page/src/fields"
-METRICS = SOURCES / "status_page/src/page/metrics.rt"
+METRICS = [SOURCES / f"status_page/src/page/{name}.rt" for name in ("metrics", "path_states")]
 COUNTS = SOURCES / "rtp_stream/src/count_field.rt"
 KINDS = SOURCES / "studio_io/src/output_kind.rt"
 # The files that write the lines of the report, and of --stats.
@@ -109,7 +109,7 @@ def rows_of_fields():
         for name, key in texts(source, "fn key(").items():
             metric = f"darbexum_{group}_{key}{'' if name in gauge else '_total'}"
             yield row(IN_REPORT.get(f"{group}_{key}"), IN_STATS.get(f"{group}_{key}"), key, metric, help_of[name])
-    source = METRICS.read_text()
+    source = "\n".join(file.read_text() for file in METRICS)
     for name, (state, constant, is_gauge) in FURTHER.items():
         meaning = re.search(rf'const {constant}: &str =\s+"([^"]+)"', source)[1]
         yield row(

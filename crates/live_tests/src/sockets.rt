@@ -342,8 +342,7 @@ fn drops_are_read_by_the_inode(rt: HostRuntime) {
 }
 
 /// A table of the kernel: 224.0.0.1 is joined on both interfaces, and 239.71.10.5 on the second one.
-const GROUPS: &[u8] =
-    b"Idx\tDevice    : Count Querier\tGroup    Users Timer\tReporter\n\
+const GROUPS: &[u8] = b"Idx\tDevice    : Count Querier\tGroup    Users Timer\tReporter\n\
     1\tlo        :     1      V3\n\
     \t\t\t\t010000E0     1 0:00000000\t\t0\n\
     3\t0A0A47EF  :     2      V3\n\
