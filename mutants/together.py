@@ -17,6 +17,9 @@ sys.path.insert(0, str(Path(__file__).resolve().parent.parent / "gate"))
 import kept_libraries as kept
 
 FUNCTION = re.compile(r"(?:    )?(?:pub(?:\(\w+\))? )?(?:const )?(?:unsafe )?(?:extern \"C\" )?fn (\w+)")
+# The first line of an impl block without its generic parameters: the trait, if there is one, and the type.
+IMPL = re.compile(r"impl (?:(?:\w+::)*(\w+) for )?&?(?:mut )?(?:\w+::)*(\w+)")
+GENERIC = re.compile(r"<[^<>]*>")
 # What the prover says of a place: an error of a proof, or a goal of a function that it could not prove.
 MESSAGE = re.compile(r"(?:note: )?(?:\./)?(src|proofs)/(\S+?):(\d+):\d+: (error|warning|it is not proved)?")
 # The function of a crate that is not proved, by its path. A message's file alone may be of a crate below.
@@ -47,9 +50,11 @@ class Edit(NamedTuple):
 
 
 class Place(NamedTuple):
-    """A function: its module's path and its name."""
+    """A function: its module's path, the name under which the prover has its impl block, if it is in one, and its
+    name."""
 
     module: tuple
+    owner: str
     name: str
 
 
@@ -73,20 +78,35 @@ def module_of(file):
     return () if parts in (("lib",), ("main",)) else parts
 
 
-def function_at(lines, number):
-    """The name of the function that holds a line, its attributes among them, or None between functions.
+def place_at(file, lines, number):
+    """The function of a file that holds a line, its attributes among them, or None between functions.
 
     A message may point into a file of the same name of a crate below, which may have more lines."""
     if number >= len(lines):
         return None
     while lines[number].lstrip().startswith(("#[", "//")) and number + 1 < len(lines):
         number += 1
-    for line in reversed(lines[: number + 1]):
+    for at, line in reversed(list(enumerate(lines[: number + 1]))):
         if found := FUNCTION.match(line):
-            return found[1]
-        if line.startswith("}") and line is not lines[number]:
+            return Place(module_of(file), owner_at(lines, at), found[1])
+        if line.startswith("}") and at != number:
             return None
     return None
+
+
+def owner_at(lines, number):
+    """The name under which the prover has the impl block that holds a function: its type and its trait, or nothing
+    outside of one."""
+    for line in reversed(lines[:number]):
+        if line.startswith("}"):
+            break
+        if line.startswith("impl"):
+            bare = line
+            while bare != (bare := GENERIC.sub("", bare)):
+                pass
+            found = IMPL.match(bare)
+            return found[2] + (found[1] or "") if found else ""
+    return ""
 
 
 def applied(texts, edit, home):
@@ -98,10 +118,10 @@ def applied(texts, edit, home):
         if not change.old or text.count(change.old) != 1:
             return None
         number = text[: text.index(change.old)].count("\n")
-        name = function_at(text.splitlines(), number)
-        if not name:
+        place = place_at(change.file, text.splitlines(), number)
+        if not place:
             return None
-        places.add(Place(module_of(change.file), name))
+        places.add(place)
         texts[change.file] = text.replace(change.old, change.new)
     return texts, places
 
@@ -134,13 +154,20 @@ def points_into(line, places, texts, home):
             # It is of a crate below.
             return False
         lines = (texts.get(file) or (home / file).read_text()).splitlines()
-        return Place(module_of(file), function_at(lines, number - 1) or "") in places
+        return place_at(file, lines, number - 1) in places
     return holds(Path(path).parts[:-1], places)
 
 
 def holds(parts, places):
     """Whether a path in a crate, as its names, is that of one of these functions, or of a part of it."""
-    return any(parts[: len(it.module)] == it.module and it.name in parts[len(it.module) :] for it in places)
+    return any(it.name in behind(parts, it) for it in places)
+
+
+def behind(parts, place):
+    """What is behind the module of a function in a path. A method is found by its type, which may be in another one."""
+    if place.owner:
+        return parts[parts.index(place.owner) + 1 :] if place.owner in parts else ()
+    return parts[len(place.module) :] if parts[: len(place.module)] == place.module else ()
 
 
 def is_unproved(lines, places, crate):
@@ -149,33 +176,44 @@ def is_unproved(lines, places, crate):
     return any(it[1] == crate and holds(tuple(it[2].split("::")), places) for it in found)
 
 
-def whole(home: Path, texts: dict[str, str]) -> list[str]:
+def whole(home: Path, texts: dict[str, str], places: set[Place]) -> list[str]:
     """The command that checks a crate over what its check kept, whatever its texts are."""
     return ["rt", "check", "--jobs", "1"]
 
 
-def modules(home: Path, texts: dict[str, str]) -> list[str]:
+def functions(home: Path, texts: dict[str, str], places: set[Place]) -> list[str]:
+    """The command that checks these functions over libraries that were laid. It decides nothing if the prover has one
+    of them by another name."""
+    names = {f"{it.owner}::{it.name}" if it.owner else "::".join([home.name, *it.module, it.name]) for it in places}
+    return only(home, sorted(names))
+
+
+def modules(home: Path, texts: dict[str, str], places: set[Place]) -> list[str]:
     """The command that checks the modules of these texts over libraries that were laid; the whole crate if one of the
     texts is no source."""
-    flags = ["--jobs", "1"]
     if all(file.startswith("src/") for file in texts):
-        names = ["::".join([home.name, *module_of(file)]) for file in sorted(texts)]
-        flags += ["--allow-holes", *(word for name in names for word in ("--only", name))]
-    return kept.words(home.parent.parent, home.name, flags)
+        return only(home, ["::".join([home.name, *module_of(file)]) for file in sorted(texts)])
+    return laid(home, texts, places)
 
 
-def laid(home: Path, texts: dict[str, str]) -> list[str]:
+def only(home, names):
+    """The command that checks these functions or modules of a crate over libraries that were laid."""
+    words = [word for name in names for word in ("--only", name)]
+    return kept.words(home.parent.parent, home.name, ["--jobs", "1", "--allow-holes", *words])
+
+
+def laid(home: Path, texts: dict[str, str], places: set[Place]) -> list[str]:
     """The command that checks a crate over libraries that were laid, whatever its texts are."""
     return kept.words(home.parent.parent, home.name, ["--jobs", "1"])
 
 
-def check(home, texts, command):
-    """Checks a crate with these texts of its files, and puts the files back."""
+def check(home, texts, command, places=frozenset()):
+    """Checks a crate with these texts of its files, which change these functions, and puts the files back."""
     former = {file: (home / file).read_text() for file in texts}
     try:
         for file, text in texts.items():
             (home / file).write_text(text)
-        words = command(home, texts)
+        words = command(home, texts, places)
         return subprocess.run(words, cwd=home, capture_output=True, text=True, errors="replace", check=False)
     finally:
         for file, text in former.items():
@@ -185,10 +223,11 @@ def check(home, texts, command):
 def refused_in(home, edits, command=whole):
     """The edits that one check of all of them refuses, each by a message of its own. Where the check decides nothing,
     halves are tried."""
-    texts = {}
+    texts, changed_places = {}, set()
     for edit in edits:
-        texts = applied(texts, edit, home)[0]
-    ran = check(home, texts, command)
+        texts, own = applied(texts, edit, home)
+        changed_places |= own
+    ran = check(home, texts, command, changed_places)
     said = ran.stdout + ran.stderr
     if ran.returncode != 1 or UNREAD.search(said):
         half = len(edits) // 2
@@ -257,7 +296,7 @@ def refused_over_laid(home: Path, files: list[Path]) -> list[Path]:
     """Of these files of edits of the crate in a folder, those that checks over the libraries that were laid there
     refuse. `rt ci` proved the crate, so that a function that is not proved is one that an edit changed."""
     edits = [read(file) for file in files]
-    found = refused_over(modules, home, edits)
+    found = refused_over(functions, home, edits)
     # An edit of a constant is in no function, and one of a type may be refused in another function, or another module.
     left = [
         edit
