@@ -53,7 +53,8 @@ struct WrittenLines {
 }
 
 impl<'a> SocketWatch<'a> {
-    /// Returns the watch of a run of this studio. The kernel's drops are read if the status of the run is shown.
+    /// Returns the watch of a run of this studio. The kernel's drops are read each second if the status of the run is
+    /// shown.
     pub(crate) fn new(
         studio: &'a StudioSpec,
         health: &'a RunHealth,

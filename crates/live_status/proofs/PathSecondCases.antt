@@ -1,7 +1,8 @@
 -- Worked cases of the condition of a path.
-use Rattle.std.specs.Prelude.{◌≡◌, ℕ, true, false, None, pos, refl}
-use Rattle.status_page.specs.declared.snapshot.PathCondition.TheVariants.{NotJoined, NoDatagrams, Refused, Late, TooEarly, Losing, InTime}
-use Rattle.live_status.specs.PathSeconds.{condition_in, is_losing, known_condition, no_tally, noted_second, tally_since}
+use Rattle.std.specs.Prelude.{◌≡◌, ℕ, Bool, true, false, Some, None, pos, refl}
+use Rattle.status_page.specs.declared.snapshot.PathCondition.TheVariants.{GivenUp, NotJoined, NoDatagrams, Refused, Late, TooEarly, Losing, InTime}
+use Rattle.status_page.specs.declared.snapshot.SocketState.{SocketState}
+use Rattle.live_status.specs.PathSeconds.{condition_in, is_losing, known_condition, no_tally, noted_second, others_of, tally_since}
 use Rattle.live_status.specs.declared.reception_watch.second_watch.PathTally.{PathTally}
 use Rattle.live_status.specs.declared.reception_watch.second_watch.SecondWatch.{SecondWatch}
 
@@ -58,19 +59,39 @@ long_ago = refl
 
 -- a watch that began at 0: the numbers of a second count once it is over
 abbrev begun : SecondWatch
-begun = record { from = pos 0; begun = no_tally; last = no_tally; losses = record { count = 0; since = pos 0 } }
+begun = record { from = pos 0; begun = no_tally; last = None; losses = record { count = 0; since = pos 0 } }
 
 not_over : noted_second (second 900 900 0 0) (pos 47999) begun ≡ begun
 not_over = refl
 
 over : noted_second (second 1000 998 2 0) (pos 48000) begun
-    ≡ record { from = pos 48000; begun = second 1000 998 2 0; last = second 1000 998 2 0; losses = record { count = 0; since = pos 0 } }
+    ≡ record { from = pos 48000; begun = second 1000 998 2 0; last = Some (second 1000 998 2 0); losses = record { count = 0; since = pos 0 } }
 over = refl
 
 -- 2,000 datagrams by the end of the next second: 1,000 came in it
 next : tally_since (second 2000 1990 10 0) (second 1000 998 2 0) ≡ second 1000 992 8 0
 next = refl
 
--- a path without numbers of its socket was not given up
-given_up : known_condition begun (pos 0) None ≡ NoDatagrams
+-- a path has no condition before its first second is over, but for one that was given up
+abbrev socket : Bool → Bool → SocketState
+socket ended unjoined = record { faults = 1000; has_ended = ended; is_unjoined = unjoined; dropped = None; unexpected = None; too_long = 0; held_up = 0 }
+
+not_judged : known_condition begun (pos 0) None ≡ None
+not_judged = refl
+
+given_up : known_condition begun (pos 0) (Some (socket true false)) ≡ Some GivenUp
 given_up = refl
+
+-- one without datagrams in its second, by its group
+abbrev silent_second : SecondWatch
+silent_second = record begun { last = Some no_tally }
+
+without_datagrams : known_condition silent_second (pos 48000) (Some (socket false false)) ≡ Some NoDatagrams
+without_datagrams = refl
+
+without_group : known_condition silent_second (pos 48000) (Some (socket false true)) ≡ Some NotJoined
+without_group = refl
+
+-- datagrams that were left out after a hold-up came all the same
+held_up : others_of (Some (record (socket false false) { held_up = 1000 })) ≡ 1000
+held_up = refl

@@ -16,17 +16,18 @@ no_tally = record { datagrams = 0; in_time = 0; late = 0; ahead = 0 }
 
 -- the watch of a path on which nothing came by this time
 abbrev pub new_second_watch : ℤ → SecondWatch
-new_second_watch now = record { from = now; begun = no_tally; last = no_tally; losses = record { count = 0; since = now } }
+new_second_watch now = record { from = now; begun = no_tally; last = None; losses = record { count = 0; since = now } }
 
 -- a number that isn't known counts as none
 abbrev pub or_zero : Option ℕ → ℕ
 or_zero None = 0
 or_zero (Some n) = n
 
--- the datagrams that came to a socket and were not passed on: from unexpected sources, and too long
+-- the datagrams that came to a socket and were not passed on: from unexpected sources, too long, and left out after a
+-- hold-up
 abbrev pub others_of : Option SocketState → ℕ
 others_of None = 0
-others_of (Some socket) = sum_in_64_bits (or_zero socket.unexpected) socket.too_long
+others_of (Some socket) = sum_in_64_bits (sum_in_64_bits (or_zero socket.unexpected) socket.too_long) socket.held_up
 
 -- what has come on a path
 abbrev pub tally_of : PathState → CopyCounts → PathTally
@@ -49,7 +50,7 @@ tally_since tally earlier = record {
 -- a second is over once 48000 sampling instants are past: the next one begins then
 abbrev pub noted_second : PathTally → ℤ → SecondWatch → SecondWatch
 noted_second tally now watch =
-    if int_le (watch.from +ℤ pos 48000) now then record watch { from = now; begun = tally; last = tally_since tally watch.begun } else watch
+    if int_le (watch.from +ℤ pos 48000) now then record watch { from = now; begun = tally; last = Some (tally_since tally watch.begun) } else watch
 
 -- the packets that were lost on a path or came late
 abbrev pub losses_of : CopyCounts → ℕ
@@ -95,11 +96,16 @@ abbrev pub is_unjoined : Option SocketState → Bool
 is_unjoined None = false
 is_unjoined (Some socket) = socket.is_unjoined
 
+-- the condition of a path by the second before, once the first one is over
+abbrev pub judged : Bool → Bool → Option PathTally → Option PathCondition
+judged unjoined losing None = None
+judged unjoined losing (Some second) = Some (condition_in unjoined losing second)
+
 -- the condition of a path whose copies are counted
-abbrev pub known_condition : SecondWatch → ℤ → Option SocketState → PathCondition
-known_condition watch now socket = if is_given_up socket then GivenUp else condition_in (is_unjoined socket) (is_losing watch.losses now) watch.last
+abbrev pub known_condition : SecondWatch → ℤ → Option SocketState → Option PathCondition
+known_condition watch now socket = if is_given_up socket then Some GivenUp else judged (is_unjoined socket) (is_losing watch.losses now) watch.last
 
 -- the condition of a path, by its watch
 abbrev pub condition_at : SecondWatch → ℤ → Option SocketState → Option CopyCounts → Option PathCondition
 condition_at watch now socket None = None
-condition_at watch now socket (Some copies) = Some (known_condition watch now socket)
+condition_at watch now socket (Some copies) = known_condition watch now socket

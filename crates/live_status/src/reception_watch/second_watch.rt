@@ -43,8 +43,8 @@ pub(crate) struct SecondWatch {
     from: i64,
     /// The numbers of what had come by that time.
     begun: PathTally,
-    /// The numbers of what came in the second before.
-    last: PathTally,
+    /// The numbers of what came in the second before, once the first one is over.
+    last: Option<PathTally>,
     /// The packets that were lost on the path or came late.
     losses: CountWatch,
 }
@@ -57,13 +57,13 @@ impl SecondWatch {
         SecondWatch {
             from: now,
             begun: PathTally::none(),
-            last: PathTally::none(),
+            last: None,
             losses: CountWatch::new(now),
         }
     }
 
     /// Notes the state of the path at the time `now`, in sampling instants, and returns its condition, or `None` if its
-    /// copies are not counted.
+    /// copies are not counted, or the first second is not over.
     pub(crate) fn note(&mut self, now: i64, path: &PathState) -> Option<PathCondition>
         ensures watch { self.new ≡ watch_after path.now now path.now.copies self.old }
         ensures condition { result ≡ condition_at self.new now path.now.socket path.now.copies }
@@ -73,7 +73,7 @@ impl SecondWatch {
         };
         self.note_second(now, PathTally::of(path, &copies));
         self.losses.update(now, losses_of(&copies));
-        Some(self.condition(now, path.socket))
+        self.condition(now, path.socket)
     }
 
     /// Notes what had come by the time `now`, and begins the next second if the present one is over.
@@ -81,21 +81,24 @@ impl SecondWatch {
         ensures { self.new ≡ noted_second tally now self.old }
     {
         if now.saturating_sub(self.from) >= SECOND {
-            self.last = tally.since(self.begun);
+            self.last = Some(tally.since(self.begun));
             self.begun = tally;
             self.from = now;
         }
     }
 
-    /// Returns the condition at the time `now` of a path with this socket.
-    fn condition(&self, now: i64, socket: Option<SocketState>) -> PathCondition
+    /// Returns the condition at the time `now` of a path with this socket, or `None` before the first second is over.
+    fn condition(&self, now: i64, socket: Option<SocketState>) -> Option<PathCondition>
         ensures { result ≡ known_condition self.now now socket }
     {
         if is_given_up(socket) {
-            return PathCondition::GivenUp;
+            return Some(PathCondition::GivenUp);
         }
         let is_losing = self.losses.has_risen_lately(now);
-        condition_in(is_unjoined(socket), is_losing, self.last)
+        match self.last {
+            Some(second) => Some(condition_in(is_unjoined(socket), is_losing, second)),
+            None => None,
+        }
     }
 }
 
@@ -170,7 +173,8 @@ fn others_of(socket: Option<SocketState>) -> u64
         Some(socket) => socket
             .unexpected
             .unwrap_or(0)
-            .saturating_add(socket.too_long),
+            .saturating_add(socket.too_long)
+            .saturating_add(socket.held_up),
         None => 0,
     }
 }
