@@ -43,11 +43,10 @@ impl NotifySocket {
 }
 
 impl ManagerSocket for NotifySocket {
-    // A text that the manager does not take at once is lost: the next one says as much.
-    fn send(&self, lines: &str) {
+    fn send(&self, lines: &str) -> bool {
         let flags = MSG_NOSIGNAL | MSG_DONTWAIT;
         let len = self.len.min(_SS_SIZE as u32);
-        let _ = unsafe {
+        let sent = unsafe {
             libc::net::sendto(
                 self.socket.as_raw_fd(),
                 lines.as_bytes(),
@@ -56,6 +55,7 @@ impl ManagerSocket for NotifySocket {
                 len,
             )
         };
+        sent >= 0
     }
 }
 

@@ -30,13 +30,13 @@ const MILLISECOND: u64 = 48;
 const SLACK_MS: u64 = 2_000;
 
 /// The lines of a run that is ready.
-const READY: &str = "READY=1\nSTATUS=The mix is sent.\n";
+const READY: &str = "READY=1\nSTATUS=The sockets are open.\n";
 
-/// The line of a run whose mix goes on again.
-const SENT: &str = "STATUS=The mix is sent.\n";
+/// The line of a run whose mix goes on.
+const GOING: &str = "STATUS=The mix goes on.\n";
 
 /// The line of a run whose mix stands still.
-const STOPPED: &str = "STATUS=The mix stands still.\n";
+const STILL: &str = "STATUS=The mix stands still.\n";
 
 /// The line of a run whose mix goes on, which the manager asks for.
 const ALIVE: &str = "WATCHDOG=1\n";
@@ -46,8 +46,8 @@ const ENDS: &str = "STOPPING=1\nSTATUS=The run has ended.\n";
 
 /// A socket to a service manager.
 pub(crate) trait ManagerSocket: Drop {
-    /// Sends it lines of sd_notify(3). It must not wait.
-    fn send(&self, lines: &str);
+    /// Sends it lines of sd_notify(3), and returns true if it took them. It must not wait.
+    fn send(&self, lines: &str) -> bool;
 }
 
 /// The service manager that started a run, as an output of the run.
@@ -95,15 +95,33 @@ fn looks_in(interval: &str) -> Option<u64> {
     Some((microseconds / 2_000 / POLL_MS).max(1))
 }
 
-/// Returns the greatest number of looks in a row that find no datagram of the mix while a run of this studio goes on.
-// The mix stands still for a latency when a sender begins again, and before its first datagram up to its start.
-fn patience_of(studio: &StudioSpec) -> u64 {
-    let mut latency = 0;
-    for stream in studio.streams() {
-        latency = latency.max(stream.latency());
+/// The greatest number of looks in a row that find no datagram of the mix while a run goes on.
+#[derive(Clone, Copy)]
+struct Patience {
+    /// Before the first datagram.
+    first: u64,
+    /// Behind it.
+    later: u64,
+}
+
+impl Patience {
+    /// Returns the patience with a run of this studio.
+    // The mix stands still for a latency when a sender begins again, and before its first datagram up to its start.
+    fn of(studio: &StudioSpec) -> Patience {
+        let mut latency = 0;
+        for stream in studio.streams() {
+            latency = latency.max(stream.latency());
+        }
+        let ahead = studio.output().start().saturating_sub(studio.open_at());
+        Patience {
+            first: looks_for(u64::from(latency).saturating_add(ahead.max(0) as u64)),
+            later: looks_for(u64::from(latency)),
+        }
     }
-    let ahead = studio.output().start().saturating_sub(studio.open_at());
-    let instants = u64::from(latency).saturating_add(ahead.max(0) as u64);
+}
+
+/// Returns the number of looks for which a mix may stand still that is explained for so many sampling instants.
+fn looks_for(instants: u64) -> u64 {
     (instants / MILLISECOND).saturating_add(SLACK_MS) / POLL_MS
 }
 
@@ -129,37 +147,78 @@ impl MixOutput for MixSign {
     }
 }
 
-/// The task that tells the service manager of a run.
+/// The status of a run as its manager hears it.
+#[derive(Clone, Copy, PartialEq, Eq)]
+enum MixStatus {
+    /// The run is ready, and the mix has not begun.
+    Ready,
+    /// The mix goes on.
+    Going,
+    /// The mix stands still.
+    Still,
+}
+
+impl MixStatus {
+    /// Returns the lines that say it.
+    fn lines(self) -> &'static str {
+        match self {
+            MixStatus::Ready => READY,
+            MixStatus::Going => GOING,
+            MixStatus::Still => STILL,
+        }
+    }
+}
+
+/// The task that reports a run to its service manager.
 #[derive(Drop)]
 pub(crate) struct ServiceTask<S> {
     service: Service<S>,
     ring: Consumer<u8>,
-    /// The number of looks in a row without a datagram after which the mix stands still.
-    patience: u64,
+    patience: Patience,
+    /// True once a datagram was found.
+    has_begun: bool,
     /// The number of looks since a datagram was found.
     idle: u64,
     /// The number of looks since the manager heard that the mix goes on.
     unheard: u64,
+    /// The last status that the manager took. It is ready first, whatever the mix does.
+    reported: Option<MixStatus>,
 }
 
 impl<S: ManagerSocket> ServiceTask<S> {
-    /// Looks at the mix, and tells the manager what has changed, and that the mix goes on if that is due.
+    /// Looks at the mix, and reports to the manager what has changed, and that the mix goes on if that is due.
     fn look(&mut self) {
-        let was_sent = self.is_sent();
         self.idle = match self.ring.pop() {
-            Ok(_) => 0,
+            Ok(_) => {
+                self.has_begun = true;
+                0
+            }
             Err(_) => self.idle.saturating_add(1),
         };
-        let is_sent = self.is_sent();
-        if is_sent != was_sent {
-            self.service
-                .socket
-                .send(if is_sent { SENT } else { STOPPED });
-        }
+        let status = self.status();
+        self.report(status);
         self.unheard = self.unheard.saturating_add(1);
-        if is_sent && self.is_due() {
-            self.service.socket.send(ALIVE);
+        if self.is_going() && self.is_due() && self.service.socket.send(ALIVE) {
             self.unheard = 0;
+        }
+    }
+
+    /// Reports a status that is new to the manager. A status that it does not take is reported again at the next look.
+    fn report(&mut self, status: MixStatus) {
+        if self.reported != Some(status) && self.service.socket.send(status.lines()) {
+            self.reported = Some(status);
+        }
+    }
+
+    /// Returns the status that the manager is to know.
+    fn status(&self) -> MixStatus {
+        if self.reported.is_none() {
+            return MixStatus::Ready;
+        }
+        match (self.is_going(), self.has_begun) {
+            (true, true) => MixStatus::Going,
+            (true, false) => MixStatus::Ready,
+            (false, _) => MixStatus::Still,
         }
     }
 
@@ -172,8 +231,12 @@ impl<S: ManagerSocket> ServiceTask<S> {
     }
 
     /// Returns true if the mix does not stand still.
-    fn is_sent(&self) -> bool {
-        self.idle <= self.patience
+    fn is_going(&self) -> bool {
+        if self.has_begun {
+            self.idle <= self.patience.later
+        } else {
+            self.idle <= self.patience.first
+        }
     }
 }
 
@@ -182,11 +245,11 @@ impl<S: ManagerSocket> SideTask for ServiceTask<S> {
         let mut task = self;
         let parker = Parker::new();
         // The sockets are open, and all files were created.
-        task.service.socket.send(READY);
+        task.report(MixStatus::Ready);
         for _ in rt.forever() {
             parker.park_timeout(rt, Duration::from_millis(POLL_MS));
             if task.ring.is_abandoned() {
-                task.service.socket.send(ENDS);
+                let _ = task.service.socket.send(ENDS);
                 return;
             }
             task.look();
@@ -213,9 +276,11 @@ impl<S: ManagerSocket + Send> CreateOutput for Service<S> {
         let task = ServiceTask {
             service: self,
             ring: consumer,
-            patience: patience_of(studio),
+            patience: Patience::of(studio),
+            has_begun: false,
             idle: 0,
             unheard: 0,
+            reported: None,
         };
         Ok(CreatedOutput {
             events: NoOutput,
