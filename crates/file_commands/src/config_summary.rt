@@ -197,7 +197,7 @@ fn write_wait<W: Write>(stream: &StreamSpec, output: &mut W) -> io::Result<()> {
 }
 
 /// Writes a line for each path of a stream: its port, and its addresses if the configuration has them. Below it is a
-/// warning, if an earlier path is at the same place, and advice, if the path takes packets of any sender.
+/// warning, if it collides with an earlier path, and advice, if the path takes packets of any sender.
 fn write_paths<W: Write>(
     studio: &StudioSpec,
     number: usize,
@@ -231,7 +231,7 @@ fn write_path_of<W: Write>(
     write_path(path.letter(), ports.port(number, path), at, from, output)
 }
 
-/// Writes a warning if an earlier path is at the address and port of a path.
+/// Writes a warning if a path collides with an earlier one.
 fn write_shared_place<W: Write>(
     studio: &StudioSpec,
     number: usize,

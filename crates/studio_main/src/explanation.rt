@@ -14,11 +14,11 @@ use thiserror::Error;
 
 /// The explanation of clocks that could not be read together.
 const CLOCKS: &str =
-    "the time of day and the monotonic clock were not read within 100 microseconds of each other, in 100 tries";
+    "the time of day and the monotonic clock were not read within 100 microseconds of each other, in 100 tries, or one could not be read";
 
 /// The explanation of a clock, if the offset of International Atomic Time is to be the one that the system knows.
 const SYSTEM_OFFSET: &str =
-    "the system does not know how far International Atomic Time is ahead (adjtimex): start ptp4l with phc2sys, or chrony, or pass --tai-offset SECONDS, such as 37; or the clocks were not read within 100 microseconds of each other, in 100 tries";
+    "the system does not know how far International Atomic Time is ahead (adjtimex): start ptp4l with phc2sys, or chrony, or pass --tai-offset SECONDS, such as 37; or the clocks were not read within 100 microseconds of each other, in 100 tries, or one could not be read";
 
 /// The explanation of a thread that could not be started.
 const THREAD: &str = "the system has no room for another thread (ulimit -u, TasksMax)";
@@ -82,8 +82,9 @@ pub(crate) trait SystemErrors {
     fn last_error(&self) -> i32;
 }
 
-/// Returns the fault of a live run with its explanation, if it is one of a device and there is more to say. `begins` is
-/// the time of the first WAV file, if its name has it. Returns `AllocError` if an allocation fails.
+/// Returns the fault of a live run with its explanation, if it is one of a device and there is more to say, and memory
+/// to say it. `begins` is the time of the first WAV file, if its name has it.
+// The fault's own line and status are what a script reads: they are not lost for the lack of an explanation.
 pub(crate) fn explained<R: Net, H: SystemErrors>(
     rt: &R,
     alloc: Global,
@@ -91,21 +92,20 @@ pub(crate) fn explained<R: Net, H: SystemErrors>(
     args: LiveArgs<'_>,
     begins: Option<u64>,
     fault: ProgramFault,
-) -> Result<ProgramFault, AllocError> {
+) -> ProgramFault {
     match fault {
-        ProgramFault::Live(fault) => match explanation_of(rt, alloc, host, args, begins, fault)? {
-            Some(why) => Ok(ProgramFault::LiveExplained(fault, why)),
-            None => Ok(ProgramFault::Live(fault)),
+        ProgramFault::Live(fault) => match explanation_of(rt, alloc, host, args, begins, fault) {
+            Ok(Some(why)) => ProgramFault::LiveExplained(fault, why),
+            Ok(None) | Err(AllocError) => ProgramFault::Live(fault),
         },
-        ProgramFault::Control => match at_path(alloc, args.control, token_reason(host))? {
-            Some(why) => Ok(ProgramFault::ControlExplained(why)),
-            None => Ok(ProgramFault::Control),
+        ProgramFault::Control => match at_path(alloc, args.control, token_reason(host)) {
+            Ok(Some(why)) => ProgramFault::ControlExplained(why),
+            Ok(None) | Err(AllocError) => ProgramFault::Control,
         },
         ProgramFault::Clock => {
-            let why = Explanation::Text(clock_explanation(args.tai_offset));
-            Ok(ProgramFault::ClockExplained(why))
+            ProgramFault::ClockExplained(Explanation::Text(clock_explanation(args.tai_offset)))
         }
-        fault => Ok(fault),
+        fault => fault,
     }
 }
 

@@ -19,7 +19,7 @@ use live_run::{LiveFault, LiveInputs, LiveRun, SignalFile, run_studio_live};
 use rtp_stream::Path;
 use run_outputs::{OutputEnds, RunStart};
 use status_page::{StreamName, Token};
-use std::alloc::Global;
+use std::alloc::{AllocError, Global};
 use std::io::Write;
 use std::net::Net;
 use std::random::RandomSource;
@@ -57,7 +57,7 @@ pub(crate) fn run_live<
     };
     match ran {
         Ok(()) => Ok(()),
-        Err(fault) => Err(explained(rt, alloc, host, args, begins, fault)?),
+        Err(fault) => Err(explained(rt, alloc, host, args, begins, fault)),
     }
 }
 
@@ -189,8 +189,7 @@ fn socket_fault(alloc: Global, studio: &StudioSpec, sockets: SocketConfig<'_>) -
         Ok(Some(unopened)) => {
             ProgramFault::LiveExplained(LiveFault::Socket, Explanation::Socket(unopened))
         }
-        Ok(None) => ProgramFault::Live(LiveFault::Socket),
-        Err(refused) => ProgramFault::from(refused),
+        Ok(None) | Err(AllocError) => ProgramFault::Live(LiveFault::Socket),
     }
 }
 

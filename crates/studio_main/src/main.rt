@@ -11,7 +11,7 @@
 //! its run does not begin. `file_limit` keeps files below the limit of their size, and `std_streams`
 //! standard output and standard error. `output_end` writes the line of an output that ends before its run,
 //! `left_out_lines` those of the datagrams that a live run left out, and `live_lines` all others of a
-//! live run. `service` tells the service manager of a run, at its `notify_socket`.
+//! live run. `service` reports a run to its service manager, by its `notify_socket`.
 //! `std_fds` opens the standard descriptors that are closed, before anything else. `terminal_help` has
 //! the help for a start by hand: without words, and behind a fault.
 #![tactic(auto)]
@@ -197,7 +197,7 @@ impl<'a> LiveHost for SystemHost<'a> {
 impl TokenFiles for SystemHost<'_> {
     fn read_private(&self, alloc: Global, path: &str) -> Result<Vec<u8>, ReadFault> {
         match open_private(self.rt, path) {
-            Ok(Some(mut file)) => read_octets(alloc, &mut file),
+            Ok(Some(file)) => read_octets(alloc, &mut NotedFile::of(*self, file)),
             Ok(None) => Err(ReadFault::Device),
             Err(error) => {
                 self.note(&error);

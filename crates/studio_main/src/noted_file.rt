@@ -11,10 +11,15 @@ pub(crate) struct NotedFile<'a> {
 }
 
 impl<'a> NotedFile<'a> {
+    /// Returns a file that was opened, of which the host keeps the number of the error with which a read fails.
+    pub(crate) fn of(host: SystemHost<'a>, file: fs::File) -> NotedFile<'a> {
+        NotedFile { host, file }
+    }
+
     /// Opens the file at a path for reading. The host keeps the number of the error with which this fails.
     pub(crate) fn open(host: SystemHost<'a>, path: &str) -> io::Result<NotedFile<'a>> {
         match fs::open(host.runtime(), path) {
-            Ok(file) => Ok(NotedFile { host, file }),
+            Ok(file) => Ok(NotedFile::of(host, file)),
             Err(error) => {
                 host.note(&error);
                 Err(error)

@@ -89,8 +89,8 @@ fn capture_of<'a>(args: &ReplayArgs<'a>) -> Option<&'a str> {
     }
 }
 
-/// Returns the fault of a command with its explanation, if it is one of a file that could not be read. Returns that of
-/// memory if an allocation fails.
+/// Returns the fault of a command with its explanation, if it is one of a file that could not be read, and there is
+/// memory to say it.
 pub(crate) fn with_unread_file<H: SystemErrors>(
     alloc: Global,
     host: &H,
@@ -100,8 +100,7 @@ pub(crate) fn with_unread_file<H: SystemErrors>(
     match fault {
         ProgramFault::Command(fault) => match unread_file(alloc, host, paths, &fault) {
             Ok(Some(why)) => ProgramFault::Unread(fault, why),
-            Ok(None) => ProgramFault::Command(fault),
-            Err(refused) => ProgramFault::from(refused),
+            Ok(None) | Err(AllocError) => ProgramFault::Command(fault),
         },
         fault => fault,
     }
