@@ -1,5 +1,7 @@
 -- Gains in a list, row by row.
-use Rattle.std.specs.Prelude.{◌≡◌, ℕ, zero, suc, ◌*◌, ◌≤◌, ℤ, List, [], ◌∷◌, length, take, drop, All}
+use Rattle.std.specs.Prelude.{◌≡◌, ℕ, zero, suc, ◌*◌, ◌≤◌, Bool, not, ℤ, pos, List, [], ◌∷◌, length, take, drop, All}
+use Rattle.std.specs.Ordering.{int_eq}
+use Rattle.std.specs.List.{list_any}
 use Rattle.std.specs.Int.RustNames.{unsigned_abs}
 
 -- a gain in units of 1/65,536: it multiplies by at most 16 in size, and may be negative
@@ -29,3 +31,11 @@ pub record IsMatrix (outs ins : ℕ) (gains : List ℤ) : Type 0 where
   pub few_ins : ins ≤ 1024
   pub in_rows : length gains ≡ outs * ins
   pub in_range : All IsGain gains
+
+-- one of these gains is not 0
+abbrev pub has_gain : List ℤ → Bool
+has_gain gains = list_any (λ gain. not (int_eq gain (pos 0))) gains
+
+-- `count` inputs from `at` on are used: in one of the rows one of them has a gain that is not 0
+abbrev pub are_used : List (List ℤ) → ℕ → ℕ → Bool
+are_used rows at count = list_any (λ row. has_gain (take count (drop at row))) rows

@@ -1,7 +1,7 @@
 //! The matrix of gains: one row for each output, one gain in it for each input.
 ghost use Rattle.std.specs.Prelude.{◌≡◌, ◌+◌, ◌*◌, ◌<◌, ◌≤◌, length, All, IfOk, IfSome, IfNone, MatchResult, slice_get};
 ghost use Rattle.gain_mix.specs.Four.{AreRows, AreRowsAt};
-ghost use Rattle.gain_mix.specs.Gain.{IsGain, IsRow, ins_of, rows_of};
+ghost use Rattle.gain_mix.specs.Gain.{IsGain, IsRow, are_used, has_gain, ins_of, rows_of};
 ghost use Rattle.gain_mix.specs.Matrix.{matrix_fault_of, has_shape, has_range};
 
 use crate::four_rows::FourRows;
@@ -98,6 +98,20 @@ impl Matrix {
         self.gains.as_slice()
     }
 
+    /// Returns true if `count` inputs from `at` on are used: if one of them has a gain other than 0 in one of the
+    /// outputs.
+    pub fn uses(&self, at: usize, count: usize) -> bool
+        requires { at + count ≤ ins_of self.now }
+        ensures { result ≡ are_used self.now at count }
+    {
+        for output in 0..self.outs() {
+            if has_gain(&self.row(output)[at..at + count]) {
+                return true;
+            }
+        }
+        false
+    }
+
     /// Replaces the gains, row by row.
     pub(crate) fn set(&mut self, gains: &[i32])
         requires len { length gains.now ≡ length self.old * ins_of self.old }
@@ -134,6 +148,13 @@ impl Matrix {
             fourth: self.row(output + 3),
         }
     }
+}
+
+/// Returns true if one of these gains is not 0.
+fn has_gain(gains: &[i64]) -> bool
+    ensures { result ≡ has_gain gains.now }
+{
+    gains.iter().any(|gain| *gain != 0)
 }
 
 /// Returns the same gains in 64 bits, or an error if the allocation fails.
