@@ -1,5 +1,5 @@
 -- One more mark: the last marks, and the values.
-use Rattle.std.proofs.Common.{◌≡◌, ◌≤◌, ◌<◌, ◌+◌, ◌*◌, ◌/◌, ℕ, Bool, true, false, ◌&&◌, ◌||◌, List, [], ◌∷◌, ◌++◌, length, get_or, ℤ, pos, ◌+ℤ◌, ◌-ℤ◌, ◌≤ℤ◌, ◌<ℤ◌, Option, Some, None, unwrap_or, unsigned_abs, refl, sym, ap, ◌∙◌, arith}
+use Rattle.std.proofs.Common.{◌≡◌, ◌≤◌, ◌<◌, ◌+◌, ◌*◌, ◌/◌, ℕ, Bool, true, false, ◌&&◌, ◌||◌, List, [], ◌∷◌, ◌++◌, length, get_or, ℤ, pos, ◌+ℤ◌, ◌-ℤ◌, ◌≤ℤ◌, ◌<ℤ◌, Option, Some, None, unwrap_or, unsigned_abs, is_some, if◌then◌else◌, refl, sym, ap, ◌∙◌, arith}
 use Rattle.std.proofs.lemmas.Bool.{false≢true}
 use Rattle.std.proofs.lemmas.Bool.Decides.{nat_tests}
 use Rattle.std.proofs.lemmas.Int.{ints}
@@ -20,6 +20,7 @@ use Rattle.rtp_stream.specs.declared.mark.MarkKind.TheVariants.{Slot, Quiet, End
 use Rattle.lane_align.specs.declared.last_slot.LastSlot.{LastSlot}
 use Rattle.lane_align.specs.Cover.{slot_of, quiet_of, last_slot, last_quiet}
 use Rattle.lane_align.specs.Value.{is_within, sample_of, sample_in, sample_among}
+use Rattle.lane_align.specs.Presence.{is_got, brings, is_present}
 use Rattle.lane_align.specs.Lane.{IsAfter, frames_between, frames_left, body_samples}
 use Rattle.lane_align.proofs.MarkListLemmas.{or_none, both_left, both_right}
 use Rattle.lane_align.proofs.LaneLemmas.{past, none, distance}
@@ -174,3 +175,27 @@ place_of frames (Some s) m t after = elim (distance (m -ℤ t)) [
 
 pub sample_within : (format : PacketFormat) (e n : ℕ) (m : ℤ) (b : Body) (t : ℤ) (k : ℕ) → m ≤ℤ t → t <ℤ (m +ℤ pos format.frames) → sample_in format (Slot e n m b) t k ≡ sample_of format b (unsigned_abs (t -ℤ m)) k
 sample_within format e n m b t k h g = rw (in_slot format.frames m t h g) refl
+
+-- a packet that came has the frame of a time exactly if a mark has a sample of it
+some_or : {A : Type 0} (a b : Option A) → is_some (option_or a b) ≡ is_some a || is_some b
+some_or None b = refl
+some_or (Some x) b = refl
+
+brought : (format : PacketFormat) (m t : ℤ) (e n : ℕ) (b : Body) (k : ℕ) (within : Bool)
+    → (is_got b && within) ≡ is_some (if within then sample_of format b (unsigned_abs (t -ℤ m)) k else None)
+brought format m t e n (Got payload) k true = refl
+brought format m t e n (Got payload) k false = refl
+brought format m t e n Lost k true = refl
+brought format m t e n Lost k false = refl
+
+brings_is : (format : PacketFormat) (kind : MarkKind) (t : ℤ) (k : ℕ) → brings format.frames kind t ≡ is_some (sample_in format kind t k)
+brings_is format (Slot e n m b) t k = brought format m t e n b k (is_within format.frames m t)
+brings_is format (Quiet until) t k = refl
+brings_is format End t k = refl
+
+pub present_is : (format : PacketFormat) (marks : List MarkView) (t : ℤ) (k : ℕ) → is_present format marks t ≡ is_some (sample_among format marks t k)
+present_is format [] t k = refl
+present_is format (x ∷ marks) t k =
+    ap (λ b. b || is_present format marks t) (brings_is format x.kind t k)
+    ∙ ap (λ b. is_some (sample_in format x.kind t k) || b) (present_is format marks t k)
+    ∙ sym (some_or (sample_in format x.kind t k) (sample_among format marks t k))

@@ -15,9 +15,10 @@ use Rattle.lane_align.specs.declared.last_slot.LastSlot.{LastSlot}
 use Rattle.lane_align.specs.Cover.{last_slot}
 use Rattle.lane_align.specs.HeldValues.{Held, first_values}
 use Rattle.lane_align.specs.Value.{value_at, frames_from}
+use Rattle.lane_align.specs.Presence.{presence_at, presence_from}
 use Rattle.lane_align.specs.Lane.{LaneState, HasFeed, IsLane, is_next, last_kind, natural, frames_left}
 use Rattle.lane_align.proofs.MarkListLemmas.{next_is}
-use Rattle.lane_align.proofs.ValueLemmas.{frames_by_place}
+use Rattle.lane_align.proofs.ValueLemmas.{frames_by_place, presence_by_place}
 
 -- a mark may follow a lane's marks exactly if they stay a mark list with it
 pub fed_next : (stream : Stream) (from : ℤ) (size : ℕ) (lane : LaneState) (marks : List MarkView) (t : ℤ) (mark : MarkView)
@@ -29,12 +30,12 @@ fed_next stream from size lane marks t mark fed =
     ∙ ap (λ q. is_same_format mark.format (format_of stream) && can_follow stream.frames (last_kind (has_end marks) (last_slot marks) q) mark.kind) fed.quiet
     ∙ sym (next_is (format_of stream) marks mark fed.mark_list)
 
-abbrev pub lane_of : PacketFormat → ℤ → ℕ → ℤ → Option LastSlot → Option ℤ → Bool → ℕ → List ℤ → LaneState
-lane_of format start block position slot quiet ended capacity values = record { format = format; start = start; block = block; position = position; slot = slot; quiet = quiet; ended = ended; capacity = capacity; values = values }
+abbrev pub lane_of : PacketFormat → ℤ → ℕ → ℤ → Option LastSlot → Option ℤ → Bool → ℕ → List ℤ → List ℤ → List ℤ → LaneState
+lane_of format start block position slot quiet ended capacity values presence present = record { format = format; start = start; block = block; position = position; slot = slot; quiet = quiet; ended = ended; capacity = capacity; values = values; presence = presence; present = present }
 
 -- a lane after a block was read
-abbrev pub after_block : LaneState → List ℤ → LaneState
-after_block lane values = record { format = lane.format; start = lane.start; block = lane.block; position = lane.position +ℤ pos lane.block; slot = lane.slot; quiet = lane.quiet; ended = lane.ended; capacity = lane.capacity; values = values }
+abbrev pub after_block : LaneState → List ℤ → List ℤ → List ℤ → LaneState
+after_block lane values presence present = record { format = lane.format; start = lane.start; block = lane.block; position = lane.position +ℤ pos lane.block; slot = lane.slot; quiet = lane.quiet; ended = lane.ended; capacity = lane.capacity; values = values; presence = presence; present = present }
 
 -- the distance to a later time is its difference, and the distance to an earlier time is 0
 pub data Distance (z : ℤ) : Type 0 where
@@ -67,10 +68,17 @@ block_values stream from size lane marks t fed =
     ∙ ap (λ b. first_values (b * stream.channels) lane.values) fed.block
     ∙ frames_by_place (format_of stream) marks t size lane.values fed.values
 
-pub block_read : (stream : Stream) (from : ℤ) (size : ℕ) (lane : LaneState) (marks : List MarkView) (t : ℤ) (values : List ℤ) → HasFeed stream from size lane marks t
-    → values ≡ drop (lane.block * lane.format.channels) lane.values
-    → HasFeed stream from size (after_block lane values) marks (t +ℤ pos size)
-block_read stream from size lane marks t values fed e = record {
+pub block_presence : (stream : Stream) (from : ℤ) (size : ℕ) (lane : LaneState) (marks : List MarkView) (t : ℤ) → HasFeed stream from size lane marks t
+    → first_values (lane.block * 1) lane.presence ≡ presence_from (format_of stream) marks t size
+block_presence stream from size lane marks t fed =
+    ap (λ b. first_values (b * 1) lane.presence) fed.block
+    ∙ ap (λ n. first_values n lane.presence) (let one : size * 1 ≡ size = omega arith in one)
+    ∙ presence_by_place (format_of stream) marks t size lane.presence fed.presence
+
+pub block_read : (stream : Stream) (from : ℤ) (size : ℕ) (lane : LaneState) (marks : List MarkView) (t : ℤ) (values presence present : List ℤ) → HasFeed stream from size lane marks t
+    → values ≡ drop (lane.block * lane.format.channels) lane.values → presence ≡ drop (lane.block * 1) lane.presence
+    → HasFeed stream from size (after_block lane values presence present) marks (t +ℤ pos size)
+block_read stream from size lane marks t values presence present fed e e_came = record {
   format = fed.format;
   start = fed.start;
   block = fed.block;
@@ -87,12 +95,19 @@ block_read stream from size lane marks t values fed e = record {
       ∙ ap (λ i. get_or lane.values i (pos 0)) (let m : size * stream.channels + (f * stream.channels + k) ≡ (size + f) * stream.channels + k = omega arith in m)
       ∙ fed.values (size + f) k lt
       ∙ ap (λ u. value_at (format_of stream) marks u k) (let m : t +ℤ pos (size + f) ≡ (t +ℤ pos size) +ℤ pos f = omega (arith, ints) in m);
+  presence = λ f.
+      ap (λ vs. get_or vs f (pos 0)) (e_came ∙ ap (λ b. drop (b * 1) lane.presence) fed.block)
+      ∙ get_or-drop (size * 1) lane.presence f (pos 0)
+      ∙ ap (λ i. get_or lane.presence i (pos 0)) (let m : size * 1 + f ≡ size + f = omega arith in m)
+      ∙ fed.presence (size + f)
+      ∙ ap (presence_at (format_of stream) marks) (let m : t +ℤ pos (size + f) ≡ (t +ℤ pos size) +ℤ pos f = omega (arith, ints) in m);
 }
 
-pub block_sound : (lane : LaneState) (held next : Held) → IsLane lane held → lane.position <ℤ pos (2 ^ 62)
+pub block_sound : (lane : LaneState) (held came next arrived : Held) (present : List ℤ) → IsLane lane held came → lane.position <ℤ pos (2 ^ 62)
     → next ≡ record held { values = drop (lane.block * lane.format.channels) held.values }
-    → IsLane (after_block lane next.values) next
-block_sound lane held next sound early e = record {
+    → arrived ≡ record came { values = drop (lane.block * 1) came.values }
+    → IsLane (after_block lane next.values arrived.values present) next arrived
+block_sound lane held came next arrived present sound early e e_came = record {
   some_channels = sound.some_channels;
   few_channels = sound.few_channels;
   some_frames = sound.some_frames;
@@ -120,4 +135,15 @@ block_sound lane held next sound early e = record {
       ∙ ap (λ k. k - n) sound.left
       ∙ (let m : before * lane.format.channels - lane.block * lane.format.channels ≡ (before - lane.block) * lane.format.channels = times_less before lane.block lane.format.channels in m)
       ∙ ap (λ k. k * lane.format.channels) (sym (frames_left_less lane.format.frames lane.position lane.block lane.slot));
+  presence = refl;
+  one_channel = ap (λ (h : Held). h.channels) e_came ∙ sound.one_channel;
+  came_block = ap (λ (h : Held). h.block) e_came ∙ sound.came_block;
+  came_capacity = ap (λ (h : Held). h.capacity) e_came ∙ sound.came_capacity;
+  came_left =
+      let before = frames_left lane.format.frames lane.position lane.slot in
+      ap (λ (h : Held). length h.values) e_came
+      ∙ length-drop (lane.block * 1) came.values
+      ∙ ap (λ k. k - lane.block * 1) sound.came_left
+      ∙ times_less before lane.block 1
+      ∙ ap (λ k. k * 1) (sym (frames_left_less lane.format.frames lane.position lane.block lane.slot));
 }

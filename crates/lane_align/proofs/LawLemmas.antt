@@ -1,5 +1,5 @@
 -- More marks: the values of a list and its cover that do not change.
-use Rattle.std.proofs.Common.{◌≡◌, ℕ, Bool, true, ◌&&◌, List, [], ◌∷◌, ◌++◌, ℤ, pos, ◌+ℤ◌, ◌≤ℤ◌, ◌<ℤ◌, Option, Some, None, unwrap_or, refl, sym, ap, subst, ◌∙◌, arith, append_assoc, inl, inr, if◌then◌else◌}
+use Rattle.std.proofs.Common.{◌≡◌, ℕ, Bool, true, ◌&&◌, List, [], ◌∷◌, ◌++◌, ℤ, pos, ◌+ℤ◌, ◌≤ℤ◌, ◌<ℤ◌, Option, Some, None, unwrap_or, is_some, refl, sym, ap, subst, ◌∙◌, arith, append_assoc, inl, inr, if◌then◌else◌}
 use Rattle.std.proofs.lemmas.Bool.{cases_Bool, false≢true}
 use Rattle.std.proofs.lemmas.Int.{ints, clamps}
 use Rattle.std.proofs.lemmas.List.{append-nil}
@@ -13,9 +13,10 @@ use Rattle.rtp_stream.specs.declared.mark.MarkKind.TheVariants.{Slot, Quiet, End
 use Rattle.lane_align.specs.declared.last_slot.LastSlot.{LastSlot}
 use Rattle.lane_align.specs.Cover.{last_slot, last_quiet, time_reached, cover_to, cover_of, covers}
 use Rattle.lane_align.specs.Value.{sample_in, sample_among, value_at}
+use Rattle.lane_align.specs.Presence.{is_present}
 use Rattle.lane_align.specs.AcceptedMarks.{accepted_with, accepted_after, accepted_marks}
 use Rattle.lane_align.proofs.MarkListLemmas.{kind_after, both_left, both_right, or_none, list_before, list_after, Agrees, fresh, quiet, slot, ended, agrees_of}
-use Rattle.lane_align.proofs.FeedLemmas.{sample_among_more, sample_before, slot_later, after_end}
+use Rattle.lane_align.proofs.FeedLemmas.{present_is, sample_among_more, sample_before, slot_later, after_end}
 
 -- the last mark reaches a time
 Reaches : ℕ → Option MarkKind → ℤ → Type 0
@@ -91,17 +92,25 @@ kind_after_more : (last : Option MarkKind) (marks more : List MarkView) → kind
 kind_after_more last [] more = refl
 kind_after_more last (x ∷ marks) more = kind_after_more (Some x.kind) marks more
 
--- values before the cover stay the same after more marks
-pub values_stay : (format : PacketFormat) (marks more : List MarkView) (t : ℤ) (k : ℕ) → is_mark_list format (marks ++ more) ≡ true → covers (cover_of format marks) (t +ℤ pos 1) ≡ true
-    → value_at format (marks ++ more) t k ≡ value_at format marks t k
-values_stay format marks more t k listed covered =
+-- samples before the cover stay the same after more marks, and so do values and presence
+samples_stay : (format : PacketFormat) (marks more : List MarkView) (t : ℤ) (k : ℕ) → is_mark_list format (marks ++ more) ≡ true → covers (cover_of format marks) (t +ℤ pos 1) ≡ true
+    → sample_among format (marks ++ more) t k ≡ sample_among format marks t k
+samples_stay format marks more t k listed covered =
     let before = list_before format None marks more listed in
     let after = list_after format None marks more listed in
     let reached = reaches_of format.frames (kind_after None marks) (has_end marks) (last_slot marks) (last_quiet marks) (t +ℤ pos 1) (agrees_of format marks before) covered in
-    ap (λ o. unwrap_or o (pos 0)) (
     sample_among_more format marks more t k
     ∙ ap (λ o. option_or (sample_among format marks t k) o) (silent_more format (kind_after None marks) more t k reached after)
-    ∙ or_none (sample_among format marks t k))
+    ∙ or_none (sample_among format marks t k)
+
+pub values_stay : (format : PacketFormat) (marks more : List MarkView) (t : ℤ) (k : ℕ) → is_mark_list format (marks ++ more) ≡ true → covers (cover_of format marks) (t +ℤ pos 1) ≡ true
+    → value_at format (marks ++ more) t k ≡ value_at format marks t k
+values_stay format marks more t k listed covered = ap (λ o. unwrap_or o (pos 0)) (samples_stay format marks more t k listed covered)
+
+pub presence_stays : (format : PacketFormat) (marks more : List MarkView) (t : ℤ) → is_mark_list format (marks ++ more) ≡ true → covers (cover_of format marks) (t +ℤ pos 1) ≡ true
+    → is_present format (marks ++ more) t ≡ is_present format marks t
+presence_stays format marks more t listed covered =
+    present_is format (marks ++ more) t 0 ∙ ap is_some (samples_stay format marks more t 0 listed covered) ∙ sym (present_is format marks t 0)
 
 -- a time that is covered stays covered after more marks
 pub cover_stays : (format : PacketFormat) (marks more : List MarkView) (t : ℤ) → is_mark_list format (marks ++ more) ≡ true → covers (cover_of format marks) t ≡ true

@@ -8,6 +8,7 @@ use Rattle.rtp_stream.specs.MarkFacts.{MarkView}
 use Rattle.rtp_stream.specs.declared.mark.PacketFormat.{PacketFormat}
 use Rattle.lane_align.specs.HeldValues.{first_values}
 use Rattle.lane_align.specs.Value.{value_at, frames_from}
+use Rattle.lane_align.specs.Presence.{presence_at, presence_from}
 
 -- every value of silence is 0, also past its end
 get_or-silence : (n i : ℕ) → get_or (replicate n (pos 0)) i (pos 0) ≡ pos 0
@@ -64,3 +65,10 @@ frames_by_place format marks t count xs same =
     first_is_map (count * format.channels) xs
     ∙ ap (λ a. map (λ i. get_or xs i (pos 0)) (range_with_len a (count * format.channels))) (sym (zero-mul format.channels))
     ∙ rows (λ i. get_or xs i (pos 0)) (λ f k. value_at format marks (t +ℤ pos f) k) format.channels 0 count same
+
+-- a list with the right presence at each place is the presence of the frames
+pub presence_by_place : (format : PacketFormat) (marks : List MarkView) (t : ℤ) (count : ℕ) (xs : List ℤ)
+    → ((f : ℕ) → get_or xs f (pos 0) ≡ presence_at format marks (t +ℤ pos f))
+    → first_values count xs ≡ presence_from format marks t count
+presence_by_place format marks t count xs same =
+    first_is_map count xs ∙ map_shift (λ i. get_or xs i (pos 0)) (λ f. presence_at format marks (t +ℤ pos f)) 0 0 count (λ k h. same (0 + k))

@@ -12,13 +12,14 @@ use Rattle.rtp_stream.specs.declared.mark.MarkKind.TheVariants.{Slot, Quiet, End
 use Rattle.lane_align.specs.declared.cover.Cover.{Cover}
 use Rattle.lane_align.specs.declared.last_slot.LastSlot.{LastSlot}
 use Rattle.lane_align.specs.Value.{value_at}
+use Rattle.lane_align.specs.Presence.{presence_at, body_presence}
 use Rattle.lane_align.specs.Cover.{last_slot, last_quiet, time_reached, cover_to, covers}
 use Rattle.lane_align.specs.HeldValues.{Held, silence}
 use Rattle.std.specs.List.{All}
 use Rattle.rtp_wire.specs.Sample.{Is24Bits, samples_of}
 
--- a lane as contracts see it: its format and start, its block size and capacity, its last marks, and the values from its
--- position to the end of its last slot
+-- a lane as contracts see it: its format and start, its block size and capacity, its last marks, the values and the
+-- presence from its position to the end of its last slot, and the presence in the block that was read last
 pub record LaneState : Type 0 where
   pub format : PacketFormat
   pub start : ℤ
@@ -29,6 +30,8 @@ pub record LaneState : Type 0 where
   pub ended : Bool
   pub capacity : ℕ
   pub values : List ℤ
+  pub presence : List ℤ
+  pub present : List ℤ
 
 abbrev pub cover_at : LaneState → Cover
 cover_at lane = cover_to lane.ended (time_reached lane.format.frames lane.slot lane.quiet)
@@ -91,6 +94,9 @@ with_slot lane slot body = record lane {
   values = lane.values
       ++ (silence lane.format.channels (frames_between lane.position slot.media - frames_left lane.format.frames lane.position lane.slot)
       ++ drop (frames_between slot.media lane.position * lane.format.channels) (body_samples lane.format body));
+  presence = lane.presence
+      ++ (silence 1 (frames_between lane.position slot.media - frames_left lane.format.frames lane.position lane.slot)
+      ++ drop (frames_between slot.media lane.position * 1) (body_presence lane.format.frames body));
 }
 
 -- the lane, of this start and block size, was fed this list and has come to this time
@@ -105,6 +111,7 @@ pub record HasFeed (stream : Stream) (from : ℤ) (size : ℕ) (lane : LaneState
   pub ended : lane.ended ≡ has_end marks
   pub values : (frame channel : ℕ) → channel < stream.channels
       → slice_index_or lane.values (frame * stream.channels + channel) (pos 0) ≡ value_at (format_of stream) marks (t +ℤ pos frame) channel
+  pub presence : (frame : ℕ) → slice_index_or lane.presence frame (pos 0) ≡ presence_at (format_of stream) marks (t +ℤ pos frame)
 
 -- the format, the start, the block size and the capacity are unchanged
 pub record HasSameFacts (old new : LaneState) : Type 0 where
@@ -122,7 +129,7 @@ IsQuiet None = Unit {0}
 IsQuiet (Some until) = IsTime until
 
 -- what holds for every lane
-pub record IsLane (lane : LaneState) (held : Held) : Type 0 where
+pub record IsLane (lane : LaneState) (held came : Held) : Type 0 where
   pub some_channels : 0 < lane.format.channels
   pub few_channels : lane.format.channels ≤ 64
   pub some_frames : 0 < lane.format.frames
@@ -143,3 +150,8 @@ pub record IsLane (lane : LaneState) (held : Held) : Type 0 where
   pub enough_capacity : lane.block + lane.format.frames ≤ lane.capacity
   pub small_capacity : lane.capacity ≤ 2 ^ 24
   pub left : length held.values ≡ frames_left lane.format.frames lane.position lane.slot * lane.format.channels
+  pub presence : lane.presence ≡ came.values
+  pub one_channel : came.channels ≡ 1
+  pub came_block : came.block ≡ lane.block
+  pub came_capacity : came.capacity ≡ lane.capacity * 1
+  pub came_left : length came.values ≡ frames_left lane.format.frames lane.position lane.slot * 1

@@ -1,4 +1,5 @@
 pub mod Value
+pub mod Presence
 pub mod Cover
 pub mod AcceptedMarks
 pub mod HeldValues

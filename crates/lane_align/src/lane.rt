@@ -34,6 +34,7 @@ ghost use Rattle.rtp_stream.specs.MarkRef.{body_from, kind_of};
 ghost use Rattle.rtp_stream.specs.declared.mark.Body.{Body};
 ghost use Rattle.rtp_stream.specs.declared.mark.MarkKind.TheVariants.{Slot};
 ghost use Rattle.lane_align.specs.Value.{frames_from};
+ghost use Rattle.lane_align.specs.Presence.{presence_from};
 ghost use Rattle.lane_align.specs.Cover.{cover_of, end_of, covers, time_reached, IsSmallCover};
 ghost use Rattle.std.specs.List.{All};
 ghost use Rattle.rtp_wire.specs.Sample.{Is24Bits};
@@ -45,6 +46,7 @@ use crate::frame_queue::FrameQueue;
 use crate::last_slot::{
     LastSlot, frames_before, frames_between, frames_left, may_follow_slot, time_reached_by,
 };
+use crate::presence::{BlockPresence, NO_BLOCK, add_presence, append_presence, read_presence};
 use crate::slot_samples::{EMPTY_SLOT, SlotBuffer, add_slot, append_slot};
 use rtp_stream::{Mark, MarkKindRef, MarkRef, PacketFormat, StreamSpec};
 use rtp_wire::Enc;
@@ -68,19 +70,24 @@ pub struct Lane {
     /// The number of frames from the position on that may be stored.
     capacity: u32,
     values: FrameQueue,
+    /// The presence of the same frames, as one channel: 1 where a packet came.
+    presence: FrameQueue,
+    /// The presence of the frames of the block that was read last.
+    present: BlockPresence,
     /// The buffer into which a slot's samples are read, on their way to the values.
     // Kept, so that it isn't blanked for each slot.
     samples: SlotBuffer,
 }
 
 impl Model for Lane {
+    ghost use Rattle.std.specs.Prelude.{take};
     ghost use Rattle.lane_align.specs.Lane.{LaneState, IsLane};
 
     ghost Value = { LaneState };
 
-    ghost view = { λ l. record { format = l.format; start = l.start; block = l.block; position = l.position; slot = l.slot; quiet = l.quiet; ended = l.ended; capacity = l.capacity; values = l.values.values } };
+    ghost view = { λ l. record { format = l.format; start = l.start; block = l.block; position = l.position; slot = l.slot; quiet = l.quiet; ended = l.ended; capacity = l.capacity; values = l.values.values; presence = l.presence.values; present = take l.block l.present } };
 
-    ghost invariant = { λ l. IsLane (view l) l.values };
+    ghost invariant = { λ l. IsLane (view l) l.values l.presence };
 }
 
 /// Returns true if the samples of two streams have the same layout.
@@ -144,6 +151,7 @@ impl Lane {
         let channels = usize::from(spec.channels());
         let more = capacity - u32::from(block);
         let values = FrameQueue::new(alloc, channels, usize::from(block), more as usize)?;
+        let presence = FrameQueue::new(alloc, 1, usize::from(block), more as usize)?;
         Ok(Lane {
             format,
             start,
@@ -154,6 +162,8 @@ impl Lane {
             ended: false,
             capacity,
             values,
+            presence,
+            present: NO_BLOCK,
             samples: EMPTY_SLOT,
         })
     }
@@ -374,6 +384,8 @@ impl Lane {
         ensures taken { self.new ≡ with_slot self.old slot (body_from (option_copied payload.entry)) }
         ensures left { length self.old.values
             ≡ state.frames_left self.old.format.frames self.old.position self.old.slot * self.old.format.channels }
+        ensures came { length self.old.presence
+            ≡ state.frames_left self.old.format.frames self.old.position self.old.slot * 1 }
     {
         let held = frames_left(self.format.frames, self.position, self.slot);
         let before = frames_between(self.position, slot.media) - held;
@@ -383,6 +395,13 @@ impl Lane {
             &mut self.samples,
             before as usize,
             self.format,
+            payload,
+            skipped,
+        );
+        append_presence(
+            &mut self.presence,
+            before as usize,
+            self.format.frames,
             payload,
             skipped,
         );
@@ -398,6 +417,8 @@ impl Lane {
         ensures taken { self.new ≡ with_slot self.old slot (body_from (option_copied payload.entry)) }
         ensures left { length self.old.values
             ≡ state.frames_left self.old.format.frames self.old.position self.old.slot * self.old.format.channels }
+        ensures came { length self.old.presence
+            ≡ state.frames_left self.old.format.frames self.old.position self.old.slot * 1 }
     {
         let held = frames_left(self.format.frames, self.position, self.slot);
         let before = frames_between(self.position, slot.media) - held;
@@ -412,10 +433,27 @@ impl Lane {
             payload,
             skipped,
         );
+        add_presence(
+            &mut self.presence,
+            stored as usize,
+            before - stored,
+            self.format.frames,
+            payload,
+            skipped,
+        );
         self.slot = Some(slot);
     }
 
+    /// Returns for each frame of the block that was read last 1 if a packet that came has it, and 0 if not.
+    pub fn present(&self) -> &[i32]
+        ensures value { result.now ≡ self.now.present }
+        ensures short { length result.now ≤ 192 }
+    {
+        &self.present[..usize::from(self.block)]
+    }
+
     /// Reads the values of the block at the position to `out`, frame by frame, and moves on to the next block.
+    /// `present` then returns in which of its frames the stream is present.
     pub fn read_block(&mut self, out: &mut [i32])
         requires covered { covers (cover_at self.old) (self.old.position +ℤ pos self.old.block) ≡ true }
         requires len { length out.old ≡ self.old.block * self.old.format.channels }
@@ -429,8 +467,13 @@ impl Lane {
         ensures cover { cover_at self.new ≡ cover_at self.old }
         ensures end { end_at self.new ≡ end_at self.old }
         ensures in_24_bits { All Is24Bits out.new }
+        ensures present { (stream : Stream) (from : ℤ) (size : ℕ) (marks : List MarkView) (t : ℤ)
+            → HasFeed stream from size self.old marks t
+            → self.new.present ≡ presence_from (format_of stream) marks t size }
     {
         self.values.read(out);
+        let frames = usize::from(self.block);
+        read_presence(&mut self.presence, frames, &mut self.present);
         self.position += i64::from(self.block);
     }
 }

@@ -4,11 +4,12 @@ ghost use Rattle.rtp_stream.specs.MarkFacts.{MarkView};
 ghost use Rattle.rtp_stream.specs.MarkList.{is_mark_list, has_end};
 ghost use Rattle.rtp_stream.specs.declared.mark.PacketFormat.{PacketFormat};
 ghost use Rattle.lane_align.specs.Value.{value_at};
+ghost use Rattle.lane_align.specs.Presence.{is_present};
 ghost use Rattle.lane_align.specs.Cover.{cover_of, covers};
 ghost use Rattle.lane_align.specs.AcceptedMarks.{accepted_marks, accepted_with};
 
-/// States that no value before the cover changes when accepted marks are added. A time that is covered stays covered,
-/// and no mark is added after an end.
+/// States that neither a value nor the presence before the cover changes when accepted marks are added. A time that is
+/// covered stays covered, and no mark is added after an end.
 pub fn values_before_the_cover_stay()
     ensures values { (format : PacketFormat) (came more : List MarkView) (t : ℤ) (k : ℕ)
         → covers (cover_of format (accepted_marks format came)) (t +ℤ pos 1) ≡ true
@@ -17,6 +18,9 @@ pub fn values_before_the_cover_stay()
     ensures list_values { (format : PacketFormat) (marks more : List MarkView) (t : ℤ) (k : ℕ)
         → is_mark_list format (marks ++ more) ≡ true → covers (cover_of format marks) (t +ℤ pos 1) ≡ true
         → value_at format (marks ++ more) t k ≡ value_at format marks t k }
+    ensures presence { (format : PacketFormat) (marks more : List MarkView) (t : ℤ)
+        → is_mark_list format (marks ++ more) ≡ true → covers (cover_of format marks) (t +ℤ pos 1) ≡ true
+        → is_present format (marks ++ more) t ≡ is_present format marks t }
     ensures cover { (format : PacketFormat) (marks more : List MarkView) (t : ℤ)
         → is_mark_list format (marks ++ more) ≡ true → covers (cover_of format marks) t ≡ true
         → covers (cover_of format (marks ++ more)) t ≡ true }

@@ -20,6 +20,7 @@ mod frame_queue;
 mod lane;
 mod last_slot;
 mod laws;
+mod presence;
 mod slot_samples;
 
 pub use cover::Cover;

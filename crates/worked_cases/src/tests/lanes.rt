@@ -92,6 +92,8 @@ enum Step {
     EndIs(i64),
     /// The next block has these samples.
     Play([i32; 12]),
+    /// The block before has this presence: 1 in the frames of packets that came, and 0 in the others.
+    Present([i32; 12]),
 }
 
 /// A lane of one channel, and blocks of twelve.
@@ -148,6 +150,7 @@ impl Player {
             Step::CoverIs(cover) => self.lane.cover() == cover,
             Step::EndIs(end) => self.lane.end() == end,
             Step::Play(samples) => self.plays(&samples),
+            Step::Present(presence) => self.lane.present() == presence.as_slice(),
         }
     }
 
@@ -195,7 +198,8 @@ impl Player {
 }
 
 /// A lane from 3 on, whose blocks end at 15 and 27.
-const FROM_SILENCE: [Step; 18] = [
+const FROM_SILENCE: [Step; 21] = [
+    Step::Present([0; 12]),
     Step::CoverIs(Cover::Nothing),
     Step::EndIs(3),
     Step::Feed(Plain::Quiet(-7)),
@@ -207,23 +211,26 @@ const FROM_SILENCE: [Step; 18] = [
     Step::Feed(Plain::Got(0, 65_539, 12, [7, 8, 9, 10, 11, 12])),
     Step::Covered,
     Step::Play([4, 5, 6, 0, 0, 0, 0, 0, 0, 7, 8, 9]),
+    Step::Present([1, 1, 1, 0, 0, 0, 0, 0, 0, 1, 1, 1]),
     Step::Feed(Plain::End),
     Step::CoverIs(Cover::All),
     Step::EndIs(18),
     Step::Play([10, 11, 12, 0, 0, 0, 0, 0, 0, 0, 0, 0]),
+    Step::Present([1, 1, 1, 0, 0, 0, 0, 0, 0, 0, 0, 0]),
     Step::Refuse(Plain::Lost(0, 65_540, 18)),
     Step::Refuse(Plain::Quiet(18)),
     Step::Refuse(Plain::End),
 ];
 
 /// A lane from 3 on takes silence, a slot of 1 to 6 at 0, a lost slot and a slot of 7 to 12, and refuses a number that
-/// does not follow. Its blocks begin amid the first slot, and after the end they are zeros.
+/// does not follow. Its blocks begin amid the first slot, and after the end they are zeros. The stream is present where
+/// a slot came.
 #[test]
 fn slots_are_read_from_the_middle_of_one_to_the_end(rt: HostRuntime) {
     Player::new(&rt, rt.alloc(), 3).take(&rt, &FROM_SILENCE);
 }
 
-const A_FULL_LANE: [Step; 14] = [
+const A_FULL_LANE: [Step; 16] = [
     Step::Feed(Plain::Quiet(14)),
     Step::Covered,
     Step::Keep(Plain::Got(0, 70_000, 15, [1, 2, 3, 4, 5, 6])),
@@ -235,7 +242,9 @@ const A_FULL_LANE: [Step; 14] = [
     Step::Keep(Plain::Lost(1, 11, 36)),
     Step::Keep(Plain::End),
     Step::Play([0, 0, 0, 1, 2, 3, 4, 5, 6, 0, 0, 0]),
+    Step::Present([0, 0, 0, 1, 1, 1, 1, 1, 1, 0, 0, 0]),
     Step::Play([7, 8, 9, 10, 11, 12, 13, 14, 15, 16, 17, 18]),
+    Step::Present([1; 12]),
     Step::CoverIs(Cover::All),
     Step::EndIs(42),
 ];
