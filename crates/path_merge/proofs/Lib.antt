@@ -51,5 +51,7 @@ pub mod HeardOnceCases
 pub mod SentOnceLemmas
 pub mod HeardLemmas
 pub mod InStepLemmas
+pub mod MediaTimeLemmas
+pub mod CarriedLemmas
 pub mod GainLemmas
 pub mod LentLemmas

@@ -36,4 +36,5 @@ pub mod PassLost
 pub mod ClockLag
 pub mod FollowLaws
 pub mod HeardOnce
+pub mod MediaTime
 pub mod Run

@@ -40,6 +40,7 @@ mod clock;
 mod event_list;
 mod goal;
 mod laws;
+mod media_laws;
 mod merge;
 mod payload_eq;
 mod slot_window;
@@ -56,6 +57,9 @@ pub use laws::{
     marks_keep_up_with_the_clock, merges_stand_at_their_histories, near_numbers_open_one_epoch,
     next_number_is_the_least_due, nothing_follows_a_close, sent_numbers_are_recovered,
     ticks_may_be_split,
+};
+pub use media_laws::{
+    media_time_is_absolute, one_packet_has_one_time, slots_hold_the_sound_of_their_packets,
 };
 pub use merge::Merge;
 pub use rtp_stream::{
