@@ -13,12 +13,13 @@ use Rattle.rtp_stream.specs.StreamSpecFacts.{format_of}
 use Rattle.rtp_stream.specs.MarkFacts.{MarkView}
 use Rattle.rtp_stream.specs.declared.mark.PacketFormat.{PacketFormat}
 use Rattle.lane_align.specs.Value.{frame_at, frames_from, value_at}
+use Rattle.lane_align.specs.Presence.{presence_from}
 use Rattle.lane_align.specs.Lane.{LaneState, HasFeed, HasSameFacts}
 use Rattle.gain_mix.specs.Mix.{Is24Bits}
 use Rattle.studio_mix.specs.Feed.{Feed, studio_values}
 use Rattle.studio_mix.specs.Lanes.{AreFed, AreRead, IsLaneAt, lane_channels}
 use Rattle.studio_mix.specs.LaneCapacity.{capacities_of}
-use Rattle.studio_mix.proofs.MixerLemmas.{AreFedTo, fed_set, fed_at}
+use Rattle.studio_mix.proofs.MixerLemmas.{AreFedTo, fed_set, fed_at, set_same_at, set_other_at}
 use Rattle.studio_mix.proofs.RowLemmas.{row_at}
 
 -- the time of lane `k`, once the first `i` lanes were read
@@ -37,6 +38,11 @@ others_same t size i j ne = elim (cases_lt j i) [
   | inr h ↦ not_moved t size (i + 1) j (omega arith) ∙ sym (not_moved t size i j h)
 ]
 
+-- the first `i` lanes have the presence of their streams in the block from a time on
+abbrev pub ArePresentTo : ℕ → List LaneState → List Feed → ℤ → ℕ → Type 0
+ArePresentTo frames lanes feeds t i = (k : ℕ) (lane : LaneState) (feed : Feed) → k < i → slice_get lanes k ≡ Some lane → slice_get feeds k ≡ Some feed
+    → lane.present ≡ presence_from (format_of feed.stream) feed.marks t frames
+
 -- the first `i` lanes were read, and their values placed in the frames
 pub record IsRead (first lanes : List LaneState) (ins : List ℤ) (frames width at i : ℕ) : Type 0 where
   pub at_is : at ≡ lane_channels (take i first)
@@ -49,6 +55,7 @@ pub record IsRead (first lanes : List LaneState) (ins : List ℤ) (frames width 
   pub laid : (from : ℤ) (feeds : List Feed) (t : ℤ) → AreFed from frames first feeds t → (f : ℕ) → f < frames
       → take at (drop (f * width) ins) ≡ studio_values (take i feeds) (t +ℤ pos f)
   pub in_24_bits : All Is24Bits ins
+  pub present : (from : ℤ) (feeds : List Feed) (t : ℤ) → AreFed from frames first feeds t → ArePresentTo frames lanes feeds t i
 
 -- one lane was read
 pub record ReadsLane (frames c : ℕ) (lane next : LaneState) (block : List ℤ) : Type 0 where
@@ -57,6 +64,7 @@ pub record ReadsLane (frames c : ℕ) (lane next : LaneState) (block : List ℤ)
   pub position : next.position ≡ lane.position +ℤ pos lane.block
   pub values : (stream : Stream) (from : ℤ) (marks : List MarkView) (t : ℤ) → HasFeed stream from frames lane marks t → block ≡ frames_from (format_of stream) marks t frames
   pub stands : (stream : Stream) (from : ℤ) (marks : List MarkView) (t : ℤ) → HasFeed stream from frames lane marks t → HasFeed stream from frames next marks (t +ℤ pos frames)
+  pub present : (stream : Stream) (from : ℤ) (marks : List MarkView) (t : ℤ) → HasFeed stream from frames lane marks t → next.present ≡ presence_from (format_of stream) marks t frames
 
 pub feed_at : (feeds : List Feed) (i : ℕ) → i < length feeds → (feed : Feed) × (slice_get feeds i ≡ Some feed)
 feed_at [] i h = absurd (omega arith)
@@ -94,6 +102,7 @@ read_start lanes ins frames width in_24_bits = record {
   fed = λ from feeds t fed. record { count = fed.count; each = λ i lane feed l f. subst (HasFeed feed.stream from frames lane feed.marks) (sym (not_moved t frames 0 i (omega arith))) (fed.each i lane feed l f) };
   laid = λ from feeds t fed f h. refl;
   in_24_bits = in_24_bits;
+  present = λ from feeds t fed k lane feed h. absurd (omega arith);
 }
 
 pub read_more : (first lanes : List LaneState) (ins laid : List ℤ) (frames width at i c : ℕ) (lane next : LaneState) (values : List ℤ)
@@ -150,6 +159,18 @@ read_more first lanes ins laid frames width at i c lane next values before h is 
           ∙ ap (λ l. studio_values (take i feeds) (t +ℤ pos f) ++ l) (frame_of feed.stream feed.marks t frames c f values (reads.wide ∙ ap (λ (f : PacketFormat). f.channels) is_fed.format) g (reads.values feed.stream from feed.marks t is_fed))
           ∙ sym (values_more feeds i feed (t +ℤ pos f) found.1);
       in_24_bits = in_24_bits;
+      present = λ from feeds t fed k l f g l_is f_is.
+          let so_far = before.fed from feeds t fed in
+          let many = so_far.count in
+          elim (cases_lt k i) [
+            | inl below ↦ before.present from feeds t fed k l f below (set_other_at lanes i k next l (omega arith) l_is) f_is
+            | inr past ↦
+                let here : k ≡ i = omega arith in
+                let f_here : slice_get feeds i ≡ Some f = subst (λ j. slice_get feeds j ≡ Some f) here f_is in
+                let l_here : l ≡ next = set_same_at lanes i next l within (subst (λ j. slice_get (set lanes i next) j ≡ Some l) here l_is) in
+                let is_fed : HasFeed f.stream from frames lane f.marks t = subst (HasFeed f.stream from frames lane f.marks) (not_moved t frames i i (omega arith)) (fed_at from frames lanes feeds (moved_to t frames i) i lane f so_far is f_here) in
+                ap (λ (x : LaneState). x.present) l_here ∙ reads.present f.stream from f.marks t is_fed
+          ];
     }
 
 -- all lanes were read
@@ -178,6 +199,10 @@ were_read first lanes ins frames width at i read all wide =
       channels = read.channels;
       capacities = read.capacities;
       in_24_bits = read.in_24_bits;
+      present = λ from feeds t fed. record {
+        count = count ∙ fed.count;
+        each = λ k lane feed l f. read.present from feeds t fed k lane feed (let w : k < length lanes = slice_get_within lanes k lane l in omega (arith, count, w, all)) l f;
+      };
     }
 
 channels_alone : (lanes : List LaneState) (d : LaneState) → length lanes ≡ 1 → lane_channels lanes ≡ (get_or lanes 0 d).format.channels

@@ -17,6 +17,7 @@ use Rattle.studio_mix.specs.Mixer.{HasFeeds, MixerState}
 use Rattle.studio_mix.specs.Saturated.{AreSaturated, saturated_from}
 use Rattle.studio_mix.specs.Changed.{rows_in, with_changes, with_each, with_gains, with_rows}
 use Rattle.studio_mix.proofs.LawLemmas.{same_rows}
+use Rattle.studio_mix.proofs.LastLemmas.{last_unchanged}
 use Rattle.studio_mix.proofs.MixerLemmas.{next_start}
 
 pub samples_unchanged : (studio : Studio) (feeds : List Feed) (n : ℕ) (at : ℤ) (rows : List (List ℤ)) → block_start studio.output (n + 1) ≤ℤ at
@@ -64,7 +65,7 @@ fed_matrix studio mixer feeds n t fed h =
 pub changed_fed : (studio : Studio) (mixer : MixerState) (feeds : List Feed) (n : ℕ) (schedule : Changes) (at : ℤ) (rows : List (List ℤ))
     → HasFeeds studio mixer feeds n → block_start studio.output n ≤ℤ at
     → schedule ≡ rest_at (with_change mixer.schedule at rows) (block_start studio.output n) → ins_of schedule.first ≡ ins_of mixer.schedule.first
-    → HasFeeds (with_rows studio at rows) (record { lanes = mixer.lanes; schedule = schedule; packer = mixer.packer; saturated = mixer.saturated }) feeds n
+    → HasFeeds (with_rows studio at rows) (record { lanes = mixer.lanes; schedule = schedule; packer = mixer.packer; saturated = mixer.saturated; inputs = mixer.inputs; missing = mixer.missing }) feeds n
 changed_fed studio mixer feeds n schedule at rows fed early is wide = record {
   output = fed.output;
   schedule =
@@ -76,6 +77,7 @@ changed_fed studio mixer feeds n schedule at rows fed early is wide = record {
   streams = fed.streams;
   lanes = fed.lanes;
   saturated = saturated_unchanged studio feeds n mixer.saturated at rows early fed.saturated;
+  last = last_unchanged studio feeds n mixer.inputs mixer.missing at rows early fed.last;
 }
 
 pub both_ok : {X E : Type 0} (r : Result X E) (P Q R : Type 0) → (P → Q → R) → OnOk r P → OnOk r Q → OnOk r R

@@ -32,19 +32,19 @@ use Rattle.studio_mix.specs.Ready.{are_covered, have_ended, greatest_end, block_
 use Rattle.studio_mix.proofs.MixerLemmas.{next_start}
 use Rattle.studio_mix.proofs.ReadyLemmas.{before_count, lt_max, lt_yes}
 
-covers_before : (cover : Cover) (t u : ℤ) → u ≤ℤ t → covers cover t ≡ true → covers cover u ≡ true
+pub covers_before : (cover : Cover) (t u : ℤ) → u ≤ℤ t → covers cover t ≡ true → covers cover u ≡ true
 covers_before Nothing t u h e = absurd (false≢true e)
 covers_before (Until v) t u h e = grind (arith, ints, h, e)
 covers_before All t u h e = refl
 
 -- if the feeds are longer, so is the first one; `rest_longer` says so of the others
-first_longer : (feed long : Feed) (feeds longer : List Feed) → AreLonger (feed ∷ feeds) (long ∷ longer) → IsLonger feed long
+pub first_longer : (feed long : Feed) (feeds longer : List Feed) → AreLonger (feed ∷ feeds) (long ∷ longer) → IsLonger feed long
 first_longer feed long feeds longer l = l.each 0 feed long refl refl
 
-rest_longer : (feed long : Feed) (feeds longer : List Feed) → AreLonger (feed ∷ feeds) (long ∷ longer) → AreLonger feeds longer
+pub rest_longer : (feed long : Feed) (feeds longer : List Feed) → AreLonger (feed ∷ feeds) (long ∷ longer) → AreLonger feeds longer
 rest_longer feed long feeds longer l = record { count = let e = l.count in omega (arith, e); each = λ i f g at there. l.each (suc i) f g at there }
 
-listed_on : (feed long : Feed) (l : IsLonger feed long) → is_mark_list (format_of feed.stream) (feed.marks ++ l.more) ≡ true
+pub listed_on : (feed long : Feed) (l : IsLonger feed long) → is_mark_list (format_of feed.stream) (feed.marks ++ l.more) ≡ true
 listed_on feed long l =
     sym (ap (λ (s : Stream). is_mark_list (format_of s) long.marks) l.stream ∙ ap (is_mark_list (format_of feed.stream)) l.marks) ∙ l.listed
 

@@ -3,6 +3,8 @@ pub mod MixerLemmas
 pub mod ReadyLemmas
 pub mod RowLemmas
 pub mod BlockLemmas
+pub mod MissingLemmas
+pub mod LastLemmas
 pub mod NextLemmas
 pub mod NewLemmas
 pub mod CapacityLemmas
@@ -11,4 +13,6 @@ pub mod SaturatedLemmas
 pub mod FirstBlockLemmas
 pub mod ChangedLemmas
 pub mod TakenLemmas
+pub mod WholeLemmas
+mod MissingCases
 mod WorkedCases

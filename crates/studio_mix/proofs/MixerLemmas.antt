@@ -14,6 +14,7 @@ use Rattle.studio_mix.specs.Feed.{Feed}
 use Rattle.studio_mix.specs.Lanes.{AreFed}
 use Rattle.studio_mix.specs.Mixer.{MixerState, HasFeeds, IsMixer}
 use Rattle.studio_mix.specs.Saturated.{AreSaturated}
+use Rattle.studio_mix.specs.Last.{AreLast}
 
 -- a block ends where the next one begins
 pub next_start : (out : Output) (n : ℕ) → block_start out n +ℤ pos out.frames ≡ block_start out (n + 1)
@@ -87,8 +88,9 @@ pub fed_more : (studio : Studio) (mixer : MixerState) (feeds : List Feed) (n i :
     → HasFeeds studio mixer feeds n → slice_get feeds i ≡ Some feed
     → HasFeed feed.stream studio.output.start studio.output.frames lane (feed.marks ++ mark ∷ []) (block_start studio.output n)
     → AreSaturated studio (set feeds i (record { stream = feed.stream; marks = feed.marks ++ mark ∷ [] })) n mixer.saturated
+    → AreLast studio (set feeds i (record { stream = feed.stream; marks = feed.marks ++ mark ∷ [] })) n mixer.inputs mixer.missing
     → HasFeeds studio (record mixer { lanes = set mixer.lanes i lane }) (set feeds i (record { stream = feed.stream; marks = feed.marks ++ mark ∷ [] })) n
-fed_more studio mixer feeds n i lane feed mark fed at new counted =
+fed_more studio mixer feeds n i lane feed mark fed at new counted last =
     let next : Feed = record { stream = feed.stream; marks = feed.marks ++ mark ∷ [] } in
     let t = block_start studio.output n in
     let lanes = fed_set studio.output.start studio.output.frames mixer.lanes feeds (λ i. t) (λ i. t) i lane feed next (all_at _ _ _ _ _ fed.lanes) at new (λ j ne. refl) in
@@ -100,4 +102,5 @@ fed_more studio mixer feeds n i lane feed mark fed at new counted =
       streams = map-set_same (λ (f : Feed). f.stream) feeds i next feed (ap (λ (f : Feed). f.stream) (sym (get_or_from_slice_get feeds i feed feed at))) ∙ fed.streams;
       lanes = record { count = lanes.count; each = lanes.each };
       saturated = counted;
+      last = last;
     }

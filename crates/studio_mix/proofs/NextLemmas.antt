@@ -21,6 +21,8 @@ use Rattle.studio_mix.specs.Feed.{Feed}
 use Rattle.studio_mix.specs.Output.{block_samples, datagram_of}
 use Rattle.studio_mix.specs.Lanes.{AreFed, IsLaneAt, lane_channels}
 use Rattle.studio_mix.specs.Mixer.{MixerState, HasFeeds, IsMixer}
+use Rattle.studio_mix.specs.declared.missing.Missing.{Missing}
+use Rattle.studio_mix.specs.Last.{AreLast}
 use Rattle.studio_mix.specs.Saturated.{AreSaturated}
 use Rattle.studio_mix.proofs.RowLemmas.{rows_whole}
 use Rattle.studio_mix.proofs.MixerLemmas.{next_start}
@@ -68,13 +70,13 @@ mixed_fits enc schedule t ins outs frames s width height shift mixed high wide l
     (rows_fit enc (λ f. mixed_frame (matrix_at schedule (t +ℤ pos f)) (take width (drop (f * width) ins)) (shift_of enc)) 0 frames (λ k. frame_fits enc (matrix_at schedule (t +ℤ pos k)) (take width (drop (k * width) ins))))
 
 -- the mixer has come to the next block
-pub next_fed : (studio : Studio) (mixer : MixerState) (feeds : List Feed) (n : ℕ) (lanes : List LaneState) (packer : PackerState) (counts : List ℕ) (schedule : Changes)
+pub next_fed : (studio : Studio) (mixer : MixerState) (feeds : List Feed) (n : ℕ) (lanes : List LaneState) (packer : PackerState) (counts : List ℕ) (inputs : List ℤ) (missing : Missing) (schedule : Changes)
     → HasFeeds studio mixer feeds n → packer ≡ record { spec = mixer.packer.spec; number = mixer.packer.number + 1 }
     → AreFed studio.output.start studio.output.frames lanes feeds (block_start studio.output n +ℤ pos studio.output.frames)
-    → AreSaturated studio feeds (n + 1) counts
+    → AreSaturated studio feeds (n + 1) counts → AreLast studio feeds (n + 1) inputs missing
     → schedule ≡ rest_at mixer.schedule (block_start studio.output (n + 1)) → ins_of schedule.first ≡ ins_of mixer.schedule.first
-    → HasFeeds studio (record { lanes = lanes; schedule = schedule; packer = packer; saturated = counts }) feeds (n + 1)
-next_fed studio mixer feeds n lanes packer counts schedule fed e moved counted passed wide = record {
+    → HasFeeds studio (record { lanes = lanes; schedule = schedule; packer = packer; saturated = counts; inputs = inputs; missing = missing }) feeds (n + 1)
+next_fed studio mixer feeds n lanes packer counts inputs missing schedule fed e moved counted last passed wide = record {
   output = ap (λ (p : PackerState). p.spec) e ∙ fed.output;
   schedule =
       passed
@@ -85,17 +87,18 @@ next_fed studio mixer feeds n lanes packer counts schedule fed e moved counted p
   streams = fed.streams;
   lanes = subst (AreFed studio.output.start studio.output.frames lanes feeds) (next_start studio.output n) moved;
   saturated = counted;
+  last = last;
 }
 
 -- the mixer at the next block is sound
-pub next_sound : (mixer : MixerState) (out : Output) (time : ℤ) (one ins outs : List ℤ) (lanes : List LaneState) (packer : PackerState) (one' ins' outs' : List ℤ) (later : ℤ) (counts : List ℕ) (schedule : Changes)
+pub next_sound : (mixer : MixerState) (out : Output) (time : ℤ) (one ins outs : List ℤ) (lanes : List LaneState) (packer : PackerState) (one' ins' outs' : List ℤ) (later : ℤ) (counts : List ℕ) (missing : Missing) (schedule : Changes)
     → IsMixer mixer out time one ins outs → time ≤ℤ pos (2 ^ 61 + 192)
     → packer ≡ record { spec = mixer.packer.spec; number = mixer.packer.number + 1 } → later ≡ time +ℤ pos out.frames
     → All (IsLaneAt out.frames (time +ℤ pos out.frames)) lanes → length lanes ≡ length mixer.lanes → lane_channels lanes ≡ lane_channels mixer.lanes
     → length one' ≡ length one → length ins' ≡ length ins → length outs' ≡ length outs → All Is24Bits ins' → length counts ≡ length mixer.saturated
     → length schedule.first ≡ length mixer.schedule.first → ins_of schedule.first ≡ ins_of mixer.schedule.first
-    → IsMixer (record { lanes = lanes; schedule = schedule; packer = packer; saturated = counts }) out later one' ins' outs'
-next_sound mixer out time one ins outs lanes packer one' ins' outs' later counts schedule sound early e later_is each count channels len_one len_ins len_outs in_24_bits len_counts high wide = record {
+    → IsMixer (record { lanes = lanes; schedule = schedule; packer = packer; saturated = counts; inputs = ins'; missing = missing }) out later one' ins' outs'
+next_sound mixer out time one ins outs lanes packer one' ins' outs' later counts missing schedule sound early e later_is each count channels len_one len_ins len_outs in_24_bits len_counts high wide = record {
   out_is = sound.out_is ∙ sym (ap (λ (p : PackerState). p.spec) e);
   out_ok = sound.out_ok;
   time_is = later_is ∙ ap (λ t. t +ℤ pos out.frames) sound.time_is ∙ next_start out mixer.packer.number ∙ ap (block_start out) (sym (ap (λ (p : PackerState). p.number) e));

@@ -1,6 +1,8 @@
 -- The lanes of a studio's streams, side by side.
 use Rattle.std.specs.Prelude.{◌≡◌, ℕ, ◌*◌, ◌^◌, ◌<◌, ◌≤◌, Bool, true, not, ◌||◌, int_lt, ◌<ℤ◌, ℤ, pos, ◌+ℤ◌, List, length, take, drop, sum_by, slice_get, Some, All}
+use Rattle.rtp_stream.specs.StreamSpecFacts.{format_of}
 use Rattle.lane_align.specs.Cover.{covers}
+use Rattle.lane_align.specs.Presence.{presence_from}
 use Rattle.lane_align.specs.Lane.{LaneState, HasFeed, cover_at, end_at}
 use Rattle.gain_mix.specs.Mix.{Is24Bits}
 use Rattle.studio_mix.specs.Feed.{Feed, studio_values}
@@ -35,6 +37,12 @@ reaches_past time lane = not lane.ended || int_lt time (end_at lane)
 abbrev pub lane_channels : List LaneState → ℕ
 lane_channels lanes = sum_by (λ (lane : LaneState). lane.format.channels) lanes
 
+-- each lane has the presence of its stream in the block from this time on
+pub record ArePresent (frames : ℕ) (lanes : List LaneState) (feeds : List Feed) (t : ℤ) : Type 0 where
+  pub count : length lanes ≡ length feeds
+  pub each : (i : ℕ) (lane : LaneState) (feed : Feed) → slice_get lanes i ≡ Some lane → slice_get feeds i ≡ Some feed
+      → lane.present ≡ presence_from (format_of feed.stream) feed.marks t frames
+
 -- a block was read from every lane; in each frame the values of all lanes are next to one another, lane after lane
 pub record AreRead (old new : List LaneState) (ins : List ℤ) (frames width : ℕ) : Type 0 where
   pub values : (from : ℤ) (feeds : List Feed) (t : ℤ) → AreFed from frames old feeds t
@@ -44,3 +52,4 @@ pub record AreRead (old new : List LaneState) (ins : List ℤ) (frames width : �
   pub channels : lane_channels new ≡ lane_channels old
   pub capacities : capacities_of new ≡ capacities_of old
   pub in_24_bits : All Is24Bits ins
+  pub present : (from : ℤ) (feeds : List Feed) (t : ℤ) → AreFed from frames old feeds t → ArePresent frames new feeds t

@@ -6,6 +6,10 @@ pub mod Blocks
 pub mod Lanes
 pub mod LaneCapacity
 pub mod Saturated
+pub mod Missing
+pub mod MissingLanes
+pub mod Last
+pub mod Sound
 pub mod Mixer
 pub mod Changed
 pub use Rattle.rtp_wire.specs.Sample
@@ -13,6 +17,7 @@ pub use Rattle.rtp_stream.specs.StreamSpecFacts
 pub use Rattle.rtp_stream.specs.MarkFacts
 pub use Rattle.rtp_stream.specs.MarkList
 pub use Rattle.lane_align.specs.Value
+pub use Rattle.lane_align.specs.Presence
 pub use Rattle.lane_align.specs.Cover
 pub use Rattle.lane_align.specs.Lane
 pub use Rattle.gain_mix.specs.Changes

@@ -13,20 +13,25 @@ use Rattle.studio_config.specs.Studio.{Studio, channel_total}
 use Rattle.studio_mix.specs.Feed.{Feed}
 use Rattle.studio_mix.specs.Lanes.{AreFed, IsLaneAt, lane_channels}
 use Rattle.studio_mix.specs.Saturated.{AreSaturated}
+use Rattle.studio_mix.specs.Last.{AreLast}
+use Rattle.studio_mix.specs.declared.missing.Missing.{Missing}
 
--- a mixer as contracts see it; `saturated` has the number of saturated samples of each channel
+-- a mixer as contracts see it; `saturated` has the number of saturated samples of each channel, `inputs` the values of
+-- all streams in the last block, and `missing` what was missing in it
 pub record MixerState : Type 0 where
   pub lanes : List LaneState
   pub schedule : Changes
   pub packer : PackerState
   pub saturated : List ℕ
+  pub inputs : List ℤ
+  pub missing : Missing
 
 -- the time at which the mixer's next block begins
 abbrev pub next_start_of : MixerState → ℤ
 next_start_of mixer = block_start mixer.packer.spec mixer.packer.number
 
--- the mixer of this studio was fed these marks, returned the blocks before `next`, and counted their saturated samples;
--- it keeps the schedule from this block on
+-- the mixer of this studio was fed these marks, returned the blocks before `next`, counted their saturated samples, and
+-- keeps what the last one was made of; it keeps the schedule from this block on
 pub record HasFeeds (studio : Studio) (mixer : MixerState) (feeds : List Feed) (next : ℕ) : Type 0 where
   pub output : mixer.packer.spec ≡ studio.output
   pub schedule : mixer.schedule ≡ rest_at studio.schedule (block_start studio.output next)
@@ -35,6 +40,7 @@ pub record HasFeeds (studio : Studio) (mixer : MixerState) (feeds : List Feed) (
   pub streams : map (λ (feed : Feed). feed.stream) feeds ≡ studio.streams
   pub lanes : AreFed studio.output.start studio.output.frames mixer.lanes feeds (block_start studio.output next)
   pub saturated : AreSaturated studio feeds next mixer.saturated
+  pub last : AreLast studio feeds next mixer.inputs mixer.missing
 
 -- whether the test holds for the lane; false if there is no lane
 abbrev pub holds_of : (LaneState → Bool) → Option LaneState → Bool

@@ -22,7 +22,14 @@ mod interleave;
 mod lane_capacity;
 mod lanes;
 mod laws;
+mod missing;
 mod mixer;
+mod whole_laws;
 
 pub use laws::{changes_follow_one_another, later_changes_change_no_block, ready_blocks_stay};
+pub use missing::Missing;
 pub use mixer::Mixer;
+pub use whole_laws::{
+    empty_blocks_are_silent, later_changes_keep_what_is_missing, longer_marks_keep_what_is_missing,
+    twins_are_copies, unions_keep_whole_blocks, whole_blocks_are_the_senders_mix,
+};

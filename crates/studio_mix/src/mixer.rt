@@ -43,12 +43,14 @@ ghost use Rattle.studio_mix.specs.LaneCapacity.{capacity_for, capacity_of, capac
 ghost use Rattle.studio_config.specs.Studio.{Studio};
 ghost use Rattle.studio_mix.specs.Feed.{Feed, unfed};
 ghost use Rattle.studio_mix.specs.Ready.{is_ready};
-ghost use Rattle.studio_mix.specs.Output.{datagram_of};
+ghost use Rattle.studio_mix.specs.Output.{block_inputs, datagram_of};
+ghost use Rattle.studio_mix.specs.Missing.{missing_in};
 ghost use Rattle.studio_mix.specs.Saturated.{AreSaturated};
 ghost use Rattle.studio_mix.specs.Changed.{gains_fault_of, with_gains};
 
 use crate::lane_capacity::greatest_lag;
 use crate::lanes::{are_covered, new_lanes, reach_past, read_lanes};
+use crate::missing::{Missing, missing_among};
 use gain_mix::{ChangeFault, LiveSchedule, Matrix, mix_counted};
 use lane_align::Lane;
 use mix_packets::{OutSpec, Packer};
@@ -61,7 +63,8 @@ use studio_config::StudioSpec;
 ///
 /// While the mixer `wants` a mark of a stream, `feed` takes one that it `accepts`. `feed_ref` and `accepts_ref` do so
 /// with a borrowed mark. `keep_ref` takes a mark before it is wanted, if the mixer `has_space` for it. `next_block`
-/// writes the next datagram. `change_gains` changes the gains from a time on that is not before the next block. Only
+/// writes the next datagram; `inputs` and `missing` then return of which samples it was mixed, and which streams are
+/// missing in it. `change_gains` changes the gains from a time on that is not before the next block. Only
 /// `new` and `for_early_marks` allocate.
 #[derive(Drop)]
 pub struct Mixer {
@@ -77,6 +80,8 @@ pub struct Mixer {
     outs: Vec<i32>,
     /// The saturated samples so far, channel by channel.
     saturated: Vec<u64>,
+    /// The streams that were missing in the last block.
+    missing: Missing,
 }
 
 impl Model for Mixer {
@@ -85,7 +90,7 @@ impl Model for Mixer {
     ghost Value = { MixerState };
 
     ghost view = { λ m.
-        record { lanes = m.lanes.items; schedule = m.schedule; packer = m.packer; saturated = m.saturated.items } };
+        record { lanes = m.lanes.items; schedule = m.schedule; packer = m.packer; saturated = m.saturated.items; inputs = m.ins.items; missing = m.missing } };
 
     ghost invariant = { λ m. IsMixer (view m) m.output m.time m.one.items m.ins.items m.outs.items };
 }
@@ -140,6 +145,7 @@ impl Mixer {
             ins,
             outs,
             saturated,
+            missing: Missing::NOTHING,
         })
     }
 
@@ -171,6 +177,25 @@ impl Mixer {
             → HasFeeds studio self.now feeds number → AreSaturated studio feeds number result.now }
     {
         self.saturated.as_slice()
+    }
+
+    /// Returns the samples of all channels of all streams in the last block, before any gain: frame by frame, in each
+    /// frame stream after stream. Before the first block they are 0.
+    pub fn inputs(&self) -> &[i32]
+        ensures value { result.now ≡ self.now.inputs }
+        ensures stands { (studio : Studio) (feeds : List Feed) (number : ℕ)
+            → HasFeeds studio self.now feeds (number + 1) → result.now ≡ block_inputs studio feeds number }
+    {
+        self.ins.as_slice()
+    }
+
+    /// Returns what was missing in the last block. Before the first block nothing is.
+    pub fn missing(&self) -> Missing
+        ensures value { result ≡ self.now.missing }
+        ensures stands { (studio : Studio) (feeds : List Feed) (number : ℕ)
+            → HasFeeds studio self.now feeds (number + 1) → result ≡ missing_in studio feeds number }
+    {
+        self.missing
     }
 
     /// Returns the media time at which the next block ends, in sampling instants.
@@ -214,6 +239,8 @@ impl Mixer {
         ensures packer { self.new.packer ≡ self.old.packer }
         ensures lanes { self.new.lanes ≡ self.old.lanes }
         ensures saturated { self.new.saturated ≡ self.old.saturated }
+        ensures inputs { self.new.inputs ≡ self.old.inputs }
+        ensures missing { self.new.missing ≡ self.old.missing }
     {
         self.schedule.change(self.time, at, gains)
     }
@@ -266,6 +293,8 @@ impl Mixer {
         ensures packer { self.new.packer ≡ self.old.packer }
         ensures streams { length self.new.lanes ≡ length self.old.lanes }
         ensures capacities { capacities_of self.new.lanes ≡ capacities_of self.old.lanes }
+        ensures inputs { self.new.inputs ≡ self.old.inputs }
+        ensures missing { self.new.missing ≡ self.old.missing }
     {
         self.feed_ref(stream, &mark.as_ref());
     }
@@ -281,6 +310,8 @@ impl Mixer {
         ensures packer { self.new.packer ≡ self.old.packer }
         ensures streams { length self.new.lanes ≡ length self.old.lanes }
         ensures capacities { capacities_of self.new.lanes ≡ capacities_of self.old.lanes }
+        ensures inputs { self.new.inputs ≡ self.old.inputs }
+        ensures missing { self.new.missing ≡ self.old.missing }
     {
         let lane = &mut self.lanes[stream];
         lane.feed_ref(mark);
@@ -306,6 +337,8 @@ impl Mixer {
         ensures packer { self.new.packer ≡ self.old.packer }
         ensures streams { length self.new.lanes ≡ length self.old.lanes }
         ensures capacities { capacities_of self.new.lanes ≡ capacities_of self.old.lanes }
+        ensures inputs { self.new.inputs ≡ self.old.inputs }
+        ensures missing { self.new.missing ≡ self.old.missing }
     {
         let lane = &mut self.lanes[stream];
         lane.keep_ref(mark);
@@ -365,6 +398,7 @@ impl Mixer {
             self.saturated.as_mut_slice(),
         );
         let len = self.packer.next(self.outs.as_slice(), out);
+        self.missing = missing_among(self.lanes.as_slice(), &self.schedule, self.time);
         self.time += i64::from(self.output.frames());
         self.schedule.pass(self.time);
         Some(len)

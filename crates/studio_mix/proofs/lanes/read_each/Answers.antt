@@ -43,6 +43,7 @@ loop-lane-preserved c =
       position = read.position;
       values = λ stream from marks t. read.values stream from c.args.frames marks t;
       stands = λ stream from marks t. read.stands stream from c.args.frames marks t;
+      present = λ stream from marks t. read.present stream from c.args.frames marks t;
     })
     c.lay_stream.ensures.laid c.lay_stream.ensures.in_24_bits
 

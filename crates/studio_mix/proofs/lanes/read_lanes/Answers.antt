@@ -18,6 +18,7 @@ returns-then-lanes-eq1 c =
       position = read.position;
       values = λ stream from marks t. read.values stream from c.args.frames marks t;
       stands = λ stream from marks t. read.stands stream from c.args.frames marks t;
+      present = λ stream from marks t. read.present stream from c.args.frames marks t;
     })
     c.requires.in_24_bits read.in_24_bits
 

@@ -9,7 +9,7 @@ pub returns : goal.returns
 returns c = λ studio feeds number fed.
     let i = c.self.inside in
     let sound = c.self.invariant in
-    let mixer : MixerState = record { lanes = i.lanes.items; schedule = i.schedule; packer = i.packer; saturated = i.saturated.items } in
+    let mixer : MixerState = record { lanes = i.lanes.items; schedule = i.schedule; packer = i.packer; saturated = i.saturated.items; inputs = i.ins.items; missing = i.missing } in
     let fed' : HasFeeds studio mixer feeds number = subst (λ m. HasFeeds studio m feeds number) (sym c.self.view_is) fed in
     let end = block_end studio mixer feeds number i.output i.time i.one.items i.ins.items i.outs.items sound fed' in
     let late = sound.not_late in

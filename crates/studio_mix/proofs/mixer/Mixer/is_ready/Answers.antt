@@ -14,7 +14,7 @@ pub returns-then-are_covered-clause-stands : goal.returns-then-are_covered-claus
 returns-then-are_covered-clause-stands c = λ studio feeds number fed.
     let i = c.self.inside in
     let sound = c.self.invariant in
-    let mixer : MixerState = record { lanes = i.lanes.items; schedule = i.schedule; packer = i.packer; saturated = i.saturated.items } in
+    let mixer : MixerState = record { lanes = i.lanes.items; schedule = i.schedule; packer = i.packer; saturated = i.saturated.items; inputs = i.ins.items; missing = i.missing } in
     let fed' : HasFeeds studio mixer feeds number = subst (λ m. HasFeeds studio m feeds number) (sym c.self.view_is) fed in
     let late = sound.not_late in
     let few = sound.out_ok.few_frames in
@@ -40,7 +40,7 @@ pub returns-else-are_covered-clause-stands : goal.returns-else-are_covered-claus
 returns-else-are_covered-clause-stands c = λ studio feeds number fed.
     let i = c.self.inside in
     let sound = c.self.invariant in
-    let mixer : MixerState = record { lanes = i.lanes.items; schedule = i.schedule; packer = i.packer; saturated = i.saturated.items } in
+    let mixer : MixerState = record { lanes = i.lanes.items; schedule = i.schedule; packer = i.packer; saturated = i.saturated.items; inputs = i.ins.items; missing = i.missing } in
     let fed' : HasFeeds studio mixer feeds number = subst (λ m. HasFeeds studio m feeds number) (sym c.self.view_is) fed in
     let late = sound.not_late in
     let few = sound.out_ok.few_frames in

@@ -13,7 +13,9 @@ use Rattle.mix_packets.specs.Block.{block_start, block_datagram}
 use Rattle.studio_mix.specs.Feed.{studio_values}
 use Rattle.studio_mix.specs.Mixed.{mixed_samples}
 use Rattle.studio_mix.specs.Output.{block_samples, datagram_of}
-use Rattle.studio_mix.specs.Lanes.{AreFed, IsLaneAt, IsReadyLane, lane_channels}
+use Rattle.studio_mix.specs.Missing.{missing_from, missing_in}
+use Rattle.studio_mix.specs.MissingLanes.{heard_lanes, missing_among}
+use Rattle.studio_mix.specs.Lanes.{AreFed, ArePresent, IsLaneAt, IsReadyLane, lane_channels}
 use Rattle.studio_mix.specs.Mixer.{MixerState, HasFeeds}
 use Rattle.studio_mix.specs.Ready.{are_covered}
 use Rattle.studio_mix.specs.LaneCapacity.{capacities_of}
@@ -21,6 +23,9 @@ use Rattle.studio_mix.proofs.MixerLemmas.{block_begin, next_start}
 use Rattle.studio_mix.proofs.LawLemmas.{ready_covered, same_rows}
 use Rattle.studio_mix.proofs.ChangedLemmas.{fed_matrix}
 use Rattle.studio_mix.proofs.SaturatedLemmas.{saturated_next}
+use Rattle.studio_mix.proofs.RowLemmas.{rows_whole}
+use Rattle.studio_mix.proofs.LastLemmas.{last_next}
+use Rattle.studio_mix.proofs.MissingLemmas.{heard_is, missing_by, missing_is}
 use Rattle.studio_mix.proofs.NextLemmas.{lent, mixed_fits, mixed_rows, next_fed, next_sound, next_datagram}
 use Rattle.studio_mix.proofs.mixer.Mixer.next_block.Goals as goal
 
@@ -74,7 +79,7 @@ invariant_of-self c =
     let moved : All (IsLaneAt c.from-frames.result (i.time +ℤ pos c.from-frames.result)) c.read_lanes.new.lanes =
     c.read_lanes.ensures.moved i.time (subst (λ n. All (IsLaneAt n i.time) c.as_mut_slice.result.now) (sym frames) (subst (All (IsLaneAt i.output.frames i.time)) (sym c.as_mut_slice.ensures.value) sound.each_lane)) in
     let channels : lane_channels c.read_lanes.new.lanes ≡ lane_channels c.as_mut_slice.result.now = c.read_lanes.ensures.channels in
-    next_sound (record { lanes = i.lanes.items; schedule = i.schedule; packer = i.packer; saturated = i.saturated.items }) i.output i.time i.one.items i.ins.items i.outs.items _ c.next-len.new.self _ _ _ _ _ c.pass.new.self
+    next_sound (record { lanes = i.lanes.items; schedule = i.schedule; packer = i.packer; saturated = i.saturated.items; inputs = i.ins.items; missing = i.missing }) i.output i.time i.one.items i.ins.items i.outs.items _ c.next-len.new.self _ _ _ _ _ _ c.pass.new.self
     sound early c.next-len.ensures.number later
     (subst (All (IsLaneAt i.output.frames (i.time +ℤ pos i.output.frames))) (sym lanes) (subst (λ n. All (IsLaneAt n (i.time +ℤ pos n)) c.read_lanes.new.lanes) frames moved))
     (ap length lanes ∙ c.read_lanes.auto.lanes ∙ ap length c.as_mut_slice.ensures.value)
@@ -90,7 +95,7 @@ pub returns-clause-some : goal.returns-clause-some
 returns-clause-some c = λ studio feeds number fed.
     let i = c.self.inside in
     let sound = c.self.invariant in
-    let mixer : MixerState = record { lanes = i.lanes.items; schedule = i.schedule; packer = i.packer; saturated = i.saturated.items } in
+    let mixer : MixerState = record { lanes = i.lanes.items; schedule = i.schedule; packer = i.packer; saturated = i.saturated.items; inputs = i.ins.items; missing = i.missing } in
     let fed' : HasFeeds studio mixer feeds number = subst (λ m. HasFeeds studio m feeds number) (sym c.self.view_is) fed in
     let late = sound.not_late in
     let now : to_z w64 (of_z w64 i.time) ≡ i.time = omega (arith, ints) in
@@ -135,6 +140,25 @@ returns-clause-some c = λ studio feeds number fed.
     let end = next_start studio.output number in
     let size : i.output.frames ≡ studio.output.frames = ap (λ (o : Output). o.frames) out in
     let next : to_z w64 (of_z w64 (to_z w64 (of_z w64 (to_z w64 (of_z w64 i.time) +ℤ to_z w64 (of_z w64 c.from.result))))) ≡ block_start studio.output (number + 1) = omega (arith, ints, c.from.ensures, c.frames-2.ensures.value, begin, end, size) in
+    let inputs_len : length c.read_lanes.new.ins ≡ c.from-frames.result * c.ins-width.result =
+    c.read_lanes.auto.ins ∙ ap length c.as_mut_slice-3.ensures.value ∙ sound.ins_length ∙ ap (λ k. i.output.frames * k) (sym width) ∙ ap (λ k. k * c.ins-width.result) (sym (c.from-frames.ensures ∙ c.frames.ensures.value)) in
+    let inputs = ins
+    ∙ rows_whole c.ins-width.result (λ f. studio_values feeds (block_start studio.output number +ℤ pos f)) 0 c.from-frames.result c.read_lanes.new.ins inputs_len
+    (λ f h. c.read_lanes.ensures.values studio.output.start feeds (block_start studio.output number) was_fed f h
+    ∙ ap (λ k. studio_values feeds (block_start studio.output number +ℤ pos k)) (let e : f ≡ 0 + f = omega arith in e))
+    ∙ ap (λ n. flat_map (λ f. studio_values feeds (block_start studio.output number +ℤ pos f)) (range_with_len 0 n)) frames in
+    let here = block_start studio.output number in
+    let later : AreFed studio.output.start studio.output.frames c.read_lanes.new.lanes feeds (here +ℤ pos studio.output.frames) =
+    subst (λ n. AreFed studio.output.start n c.read_lanes.new.lanes feeds (here +ℤ pos n)) frames moved in
+    let present : ArePresent studio.output.frames c.read_lanes.new.lanes feeds here =
+    subst (λ n. ArePresent n c.read_lanes.new.lanes feeds here) frames (c.read_lanes.ensures.present studio.output.start feeds here was_fed) in
+    let gains : (u : ℤ) → here ≤ℤ u → matrix_at i.schedule u ≡ matrix_at studio.schedule u = λ u h. fed_matrix studio mixer feeds number u fed' h in
+    let missing : c.missing_among-self-inside.result ≡ missing_in studio feeds number =
+    c.missing_among-self-inside.ensures
+    ∙ ap (λ ls. missing_among ls i.schedule t) (c.as_slice-3.ensures.value ∙ lanes)
+    ∙ ap (missing_among c.read_lanes.new.lanes i.schedule) begin
+    ∙ ap (λ n. missing_by n (heard_lanes i.schedule here 0 c.read_lanes.new.lanes)) (missing_is studio i.schedule studio.output.start 0 c.read_lanes.new.lanes feeds here (here +ℤ pos studio.output.frames) later present gains)
+    ∙ ap (missing_by (missing_from studio 0 feeds here)) (heard_is studio i.schedule studio.output.start 0 c.read_lanes.new.lanes feeds here (here +ℤ pos studio.output.frames) later present gains) in
     let length_is : c.next-len.result ≡ datagram_length studio.output = c.next-len.ensures.len ∙ ap datagram_length fed'.output in
     let written : c.next-len.new.out ≡ block_datagram i.packer.spec i.packer.number c.as_slice-2.result.now ++ drop (datagram_length i.packer.spec) c.args.out.now = c.next-len.ensures.written in (
       length_is,
@@ -142,10 +166,11 @@ returns-clause-some c = λ studio feeds number fed.
           ∙ ap (λ l. block_datagram i.packer.spec i.packer.number l ++ drop (datagram_length i.packer.spec) c.args.out.now) (c.as_slice-2.ensures.value ∙ back)
           ∙ ap (λ l. l ++ drop (datagram_length i.packer.spec) c.args.out.now) (next_datagram studio mixer feeds number c.mix_counted.new.outs fed' samples)
           ∙ ap (λ k. datagram_of studio feeds number ++ drop k c.args.out.now) (sym c.next-len.ensures.len),
-      next_fed studio mixer feeds number _ c.next-len.new.self _ c.pass.new.self fed' c.next-len.ensures.number
+      next_fed studio mixer feeds number _ c.next-len.new.self _ _ _ c.pass.new.self fed' c.next-len.ensures.number
           (subst (λ ls. AreFed studio.output.start studio.output.frames ls feeds (block_start studio.output number +ℤ pos studio.output.frames)) (sym lanes)
           (subst (λ n. AreFed studio.output.start n c.read_lanes.new.lanes feeds (block_start studio.output number +ℤ pos n)) frames moved))
           (saturated_next studio feeds number i.saturated.items _ i.schedule t c.as_slice.result.now c.from-frames.result c.shift.result fed'.saturated covered (λ f. fed_matrix studio mixer feeds number (t +ℤ pos f) fed' (omega (arith, ints, begin))) (c.shift.ensures ∙ ap (λ (o : Output). shift_of o.enc) out) frames begin values counted)
+          (last_next studio feeds number _ _ inputs missing)
           (subst (λ u. c.pass.new.self ≡ rest_at i.schedule u) next c.pass.ensures.rest) c.pass.ensures.ins,
     )
 

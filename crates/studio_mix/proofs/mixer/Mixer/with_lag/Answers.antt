@@ -1,5 +1,5 @@
 use Rattle.std.proofs.lemmas.Grind.{elements}
-use Rattle.std.proofs.Common.{lit<, ◌≡◌, ◌*◌, pos, length, map, All, sym, ap, subst, ◌∙◌, arith, to_z, of_z, w64}
+use Rattle.std.proofs.Common.{lit<, ◌≡◌, ◌*◌, pos, length, replicate, refl, map, All, sym, ap, subst, ◌∙◌, arith, to_z, of_z, w64}
 use Rattle.std.proofs.lemmas.Int.{ints}
 use Rattle.std.proofs.lemmas.List.{length-replicate}
 use Rattle.std.proofs.lemmas.List.Elements.{All-replicate}
@@ -14,6 +14,7 @@ use Rattle.studio_mix.specs.Feed.{unfed}
 use Rattle.studio_mix.specs.Lanes.{AreFed, IsLaneAt}
 use Rattle.studio_mix.specs.LaneCapacity.{capacity_for}
 use Rattle.studio_mix.proofs.NewLemmas.{first_start, unfed_streams}
+use Rattle.studio_mix.proofs.LastLemmas.{last_none}
 use Rattle.studio_mix.proofs.SaturatedLemmas.{none_saturated}
 use Rattle.studio_mix.proofs.mixer.Mixer.with_lag.Goals as goal
 
@@ -70,6 +71,11 @@ returns-clause-stands c =
           (subst (λ n. AreFed out.start n c.in_ok-lanes.lanes.items (unfed c.streams.result.now) out.start) c.frames-2.ensures.value
           (subst (λ t. AreFed t c.frames-2.result c.in_ok-lanes.lanes.items (unfed c.streams.result.now) t) start fed))));
       saturated = none_saturated c.args.spec.now _ _ _ (c.in_ok-saturated.ensures.items_if_clones_equal (λ y e. e)) (c.from-2.ensures ∙ c.channels-2.ensures.value ∙ ap (λ (o : Output). o.channels) c.output.ensures);
+      last = last_none c.args.spec.now _ c.in_ok-ins.ins.items _
+          (c.in_ok-ins.ensures
+          ∙ ap (λ n. replicate (n * c.ins.result) (pos 0)) (c.from-frames.ensures ∙ c.frames.ensures.value ∙ ap (λ (o : Output). o.frames) c.output.ensures)
+          ∙ ap (λ n. replicate (c.args.spec.now.output.frames * n) (pos 0)) (c.ins.ensures.first ∙ c.in_ok-schedule.ensures.ins ∙ ap (λ (h : Changes). ins_of h.first) c.schedule.ensures ∙ c.streams.ensures.sound.ins))
+          refl;
     }
 
 pub returns-clause-capacities : goal.returns-clause-capacities
