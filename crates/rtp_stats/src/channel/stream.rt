@@ -88,6 +88,7 @@ impl StreamStatsSender {
             → Tells stream offers counts self.old.next now self.old.ring self.new.ring }
         ensures early { now <ℤ self.old.next → self.new.next ≡ self.old.next }
         ensures next { self.old.next ≤ℤ now → self.new.next ≤ℤ (now +ℤ TENTH) }
+        ensures waits { self.old.next ≤ℤ now → now ≤ℤ pos (2 ^ 62) → self.new.next ≡ now +ℤ TENTH }
         ensures ring { SameProducer self.old.ring self.new.ring }
         ensures tracker { self.new.tracker ≡ self.old.tracker }
     {
