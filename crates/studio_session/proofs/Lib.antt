@@ -14,3 +14,4 @@ pub mod HandedLemmas
 pub mod SilenceLemmas
 pub mod NearLemmas
 pub mod PrunedLemmas
+pub mod SoundOfEventsLemmas

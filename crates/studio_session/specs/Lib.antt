@@ -11,6 +11,7 @@ pub mod Play
 pub mod Run
 pub mod Report
 pub mod Pruned
+pub mod StreamSounds
 pub use Rattle.rtp_wire.specs.Datagram
 pub use Rattle.rtp_stream.specs.StreamSpecFacts
 pub use Rattle.rtp_stream.specs.StreamSpec

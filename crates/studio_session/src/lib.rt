@@ -34,6 +34,7 @@ mod laws;
 mod report;
 mod run_list;
 mod session;
+mod sound_laws;
 mod source;
 mod stream_counts;
 
@@ -48,4 +49,8 @@ pub use laws::ticks_may_be_left_out;
 pub use report::Report;
 pub use run_list::run_studio;
 pub use session::{Session, studio_cursors};
+pub use sound_laws::{
+    a_whole_datagram_is_the_senders_mix, events_have_the_sound_of_their_packets,
+    receivers_of_one_sound_return_copies,
+};
 pub use source::{DatagramBuffer, EventSource};
