@@ -1,5 +1,5 @@
 -- The statistics that the ends of paths, of streams and of the mixer send.
-use Rattle.std.specs.Prelude.{◌≡◌, ℕ, ◌<◌, ◌++◌, ℤ, List, [], ◌∷◌, Option, Some, None, if◌then◌else◌}
+use Rattle.std.specs.Prelude.{◌≡◌, ℕ, ◌<◌, ◌^◌, ◌++◌, ℤ, pos, ◌+ℤ◌, ◌<ℤ◌, ◌≤ℤ◌, List, [], ◌∷◌, Option, Some, None, if◌then◌else◌}
 use Rattle.std.specs.Option.{option_map}
 use Rattle.mix_packets.specs.declared.out_spec.Output.{Output}
 use Rattle.path_merge.specs.Merge.{HasHistory}
@@ -77,11 +77,13 @@ abbrev pub NotesAll : MergeState → (Stream → List Event) → Option StreamSt
 NotesAll before more old new = (stream : Stream) (open_at : ℤ) (events : List Event) (k : ℕ) → 0 < stream.frames
     → HasHistory stream open_at before events k → NotesArrivals stream open_at events (more stream) old new
 
--- if there is a sender of a stream's statistics, it sent those of the packets that it noted, with the merge's counts; it
--- goes on with what it noted
+-- if there is a sender of a stream's statistics, it sent those of the packets that it noted, with the merge's counts, if
+-- a tenth of a second went by since the last ones; it goes on with what it noted
 abbrev pub TellsStream : MergeState → Option StreamStatsSender → Option StreamStatsSender → Type 0
 TellsStream merge None new = new ≡ None
 TellsStream merge (Some old) None = ⊥
 TellsStream merge (Some old) (Some new) = (counts : Counts) × (tally_of counts ≡ merge.counts)
     × ((stream : Stream) (offers : List Offer) → HasTally stream offers old.tracker.tally → Tells stream offers counts old.next merge.time old.ring new.ring)
     × (new.tracker ≡ old.tracker)
+    × (merge.time <ℤ old.next → new.next ≡ old.next)
+    × (old.next ≤ℤ merge.time → merge.time ≤ℤ pos (2 ^ 62) → new.next ≡ merge.time +ℤ pos 4800)

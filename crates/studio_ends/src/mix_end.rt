@@ -10,7 +10,7 @@ use crate::stream_end::turns::StreamDone;
 use gain_mix::{ChangeFault, Matrix};
 use rtp_stats::MixStatsSender;
 use studio_io::{GainAnswer, GainRequest};
-use studio_mix::Mixer;
+use studio_mix::{Missing, Mixer};
 
 pub(crate) mod marks_in;
 
@@ -87,6 +87,8 @@ impl MixEnd {
     ghost use Rattle.studio_io.specs.Gains.{AreShown, answer_of, changes_in};
     ghost use Rattle.studio_mix.specs.Changed.{gains_fault_of, with_changes, with_gains};
     ghost use Rattle.studio_mix.specs.Mixer.{next_start_of};
+    ghost use Rattle.studio_mix.specs.Missing.{missing_in};
+    ghost use Rattle.studio_mix.specs.Output.{block_inputs};
     ghost use Rattle.studio_mix.specs.Saturated.{AreSaturated};
     ghost use Rattle.studio_ends.specs.declared.rings.TokenConsumer.{TokenConsumer};
     ghost use Rattle.studio_ends.specs.AcceptedFeeds.{accepted_feeds, received_total};
@@ -103,6 +105,26 @@ impl MixEnd {
             → AreSaturated studio (accepted_feeds studio.streams self.now.sides.items) number result.now }
     {
         self.mixer.saturated()
+    }
+
+    /// Returns the samples of all channels of all streams in the last datagram's block, before any gain: frame by
+    /// frame, in each frame stream after stream. Before the first datagram they are 0.
+    pub fn inputs(&self) -> &[i32]
+        ensures value { result.now ≡ self.now.mixer.inputs }
+        ensures stands { (studio : Studio) (number : ℕ) → MixHasFeeds studio self.now (number + 1)
+            → result.now ≡ block_inputs studio (accepted_feeds studio.streams self.now.sides.items) number }
+    {
+        self.mixer.inputs()
+    }
+
+    /// Returns what is missing in the last datagram's block: how many of the streams that are used in it have no packet
+    /// for some time of it. Before the first datagram nothing is.
+    pub fn missing(&self) -> Missing
+        ensures value { result ≡ self.now.mixer.missing }
+        ensures stands { (studio : Studio) (number : ℕ) → MixHasFeeds studio self.now (number + 1)
+            → result ≡ missing_in studio (accepted_feeds studio.streams self.now.sides.items) number }
+    {
+        self.mixer.missing()
     }
 
     /// Returns the length of a datagram, in octets, with its RTP header of 12.

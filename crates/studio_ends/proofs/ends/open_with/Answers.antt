@@ -1,5 +1,6 @@
 use Rattle.std.proofs.lemmas.Grind.{elements}
 use Rattle.std.proofs.Common.{◌≡◌, [], arith, false, true}
+use Rattle.studio_ends.specs.FreshEnds.{AreOpened}
 use Rattle.studio_ends.specs.OpenedChannels.{HaveChannels}
 use Rattle.studio_ends.specs.Receivers.{HaveNoSender, HaveReceivers}
 use Rattle.studio_ends.proofs.ReceiverLemmas.{ok-kept}
@@ -9,7 +10,7 @@ pub returns-clause-fault : goal.returns-clause-fault
 returns-clause-fault c = grind (arith, elements)
 
 pub returns-clause-opened : goal.returns-clause-opened
-returns-clause-opened c = grind (arith, elements)
+returns-clause-opened c = ok-kept (AreOpened c.args.studio.now c.args.ring_len) _ c.open_ends.result c.map_err.result c.map_err.ensures.cases c.open_ends.ensures.opened
 
 pub returns-clause-places : goal.returns-clause-places
 returns-clause-places c = grind (arith, elements)

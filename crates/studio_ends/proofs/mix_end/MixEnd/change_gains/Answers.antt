@@ -1,6 +1,8 @@
 use Rattle.std.proofs.lemmas.Grind.{elements}
-use Rattle.std.proofs.Common.{refl, to_z, of_z, w64, arith}
+use Rattle.std.proofs.Common.{refl, subst, to_z, of_z, w64, arith}
 use Rattle.std.proofs.lemmas.Int.{to_z-of_z}
+use Rattle.studio_mix.specs.Changed.{with_gains}
+use Rattle.studio_mix.specs.Mixer.{HasFeeds}
 use Rattle.studio_mix.proofs.ChangedLemmas.{both_ok}
 use Rattle.studio_ends.specs.AcceptedFeeds.{accepted_feeds}
 use Rattle.studio_ends.proofs.ChangedLemmas.{given_changed_at}
@@ -19,4 +21,8 @@ pub returns-clause-fine : goal.returns-clause-fine
 returns-clause-fine c = grind (arith, elements)
 
 pub returns-clause-stands : goal.returns-clause-stands
-returns-clause-stands c = grind (arith, elements)
+returns-clause-stands c =
+    both_ok c.change_gains.result _ _ _ (λ later stands studio number fed.
+    subst (λ t. HasFeeds (with_gains studio t c.args.gains.now) c.change_gains.new.self (accepted_feeds studio.streams c.args.self.now.sides.items) number) (to_z-of_z w64 c.args.at c.ranges.at)
+    (stands studio (accepted_feeds studio.streams c.args.self.now.sides.items) number fed))
+    c.change_gains.ensures.later c.change_gains.ensures.stands
