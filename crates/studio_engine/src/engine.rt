@@ -34,6 +34,8 @@ ghost use Rattle.path_merge.specs.Clock.{clock_fault_of};
 ghost use Rattle.studio_config.specs.Studio.{Studio};
 ghost use Rattle.studio_session.specs.Event.{TraceEvent, Arrival, Tick, Closing};
 ghost use Rattle.studio_mix.specs.Changed.{gains_fault_of, with_gains};
+ghost use Rattle.studio_mix.specs.Missing.{missing_in};
+ghost use Rattle.studio_mix.specs.Output.{block_inputs};
 ghost use Rattle.studio_mix.specs.Saturated.{AreSaturated};
 ghost use Rattle.studio_session.specs.Play.{feeds_of};
 ghost use Rattle.studio_session.specs.ArriveOutcome.{outcome_of};
@@ -61,7 +63,7 @@ use rtp_stream::{Counts, Path, PathCounts, StreamSpec};
 use std::alloc::{AllocError, Global};
 use std::marker::Model;
 use studio_config::StudioSpec;
-use studio_mix::Mixer;
+use studio_mix::{Missing, Mixer};
 use studio_session::{ArriveOutcome, is_runnable};
 
 mod gain_requests;
@@ -74,8 +76,8 @@ const MAX_EVENTS: usize = 4_611_686_018_427_387_904;
 ///
 /// `arrive`, `turn` and `close` take input, and `change_gains` moves the gains at any time between; `answer_request`
 /// does so for a request of a `GainSource`. `turn`, and `drain` after a close, return datagrams. `time`, `stream`,
-/// `next_deadline`, `stream_deadline`, `next_block_start`, `gains`, `counts`, `path_counts`, `saturated` and `settled`
-/// read. Only `new` allocates.
+/// `next_deadline`, `stream_deadline`, `next_block_start`, `gains`, `counts`, `path_counts`, `saturated`, `inputs`,
+/// `missing` and `settled` read. Only `new` allocates.
 #[derive(Drop)]
 pub struct Engine {
     mixer: Mixer,
@@ -434,6 +436,28 @@ impl Engine {
             → AreSaturated studio (feeds_of studio events) (length datagrams) result.now }
     {
         self.mixer.saturated()
+    }
+
+    /// Returns the samples of all channels of all streams in the last datagram's block, before any gain: frame by
+    /// frame, in each frame stream after stream. Before the first datagram they are 0.
+    pub fn inputs(&self) -> &[i32]
+        ensures value { result.now ≡ self.now.mixer.inputs }
+        ensures stands { (studio : Studio) (events : List TraceEvent) (datagrams : List (List ℕ)) (number : ℕ)
+            → HasSession studio self.now events datagrams → length datagrams ≡ number + 1
+            → result.now ≡ block_inputs studio (feeds_of studio events) number }
+    {
+        self.mixer.inputs()
+    }
+
+    /// Returns what is missing in the last datagram's block: how many of the streams that are used in it have no packet
+    /// for some time of it. Before the first datagram nothing is.
+    pub fn missing(&self) -> Missing
+        ensures value { result ≡ self.now.mixer.missing }
+        ensures stands { (studio : Studio) (events : List TraceEvent) (datagrams : List (List ℕ)) (number : ℕ)
+            → HasSession studio self.now events datagrams → length datagrams ≡ number + 1
+            → result ≡ missing_in studio (feeds_of studio events) number }
+    {
+        self.mixer.missing()
     }
 
     /// Returns the deadline of a stream's next slot, in sampling instants, or `None` before its first packet, after a

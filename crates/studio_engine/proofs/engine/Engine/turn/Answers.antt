@@ -1,14 +1,15 @@
 use Rattle.std.proofs.lemmas.Grind.{elements}
-use Rattle.std.proofs.Common.{◌≡◌, ◌<◌, ◌<ℤ◌, ◌∷◌, [], ◌++◌, ℕ, IfSome, sym, ap, subst, ◌∙◌, arith, to_z, of_z, w64}
+use Rattle.std.proofs.Common.{◌≡◌, ◌<◌, ◌<ℤ◌, ◌∷◌, [], ◌++◌, ℕ, List, IfSome, sym, ap, subst, ◌∙◌, arith, to_z, of_z, w64}
 use Rattle.std.proofs.lemmas.Bool.{false≢true}
 use Rattle.std.proofs.lemmas.Int.{ints, to_z-of_z}
 use Rattle.path_merge.specs.Clock.{clock_fault_of}
 use Rattle.path_merge.proofs.RunLemmas.{no_fault}
 use Rattle.mix_packets.specs.Packer.{PackerState}
-use Rattle.studio_session.specs.Event.{Tick}
+use Rattle.studio_config.specs.Studio.{Studio}
+use Rattle.studio_session.specs.Event.{Tick, TraceEvent}
 use Rattle.studio_session.specs.Run.{blocks_left}
 use Rattle.studio_engine.specs.Engine.{EngineState}
-use Rattle.studio_engine.specs.Session.{HasGivenReady}
+use Rattle.studio_engine.specs.Session.{Gives, HasGivenReady, HasSession}
 use Rattle.studio_engine.proofs.EngineLemmas.{gives_after, ready_after, turned_same}
 use Rattle.studio_engine.proofs.engine.Engine.turn.Goals as goal
 
@@ -84,7 +85,13 @@ pub continue_turn-requires-2-clause-space : goal.continue_turn-requires-2-clause
 continue_turn-requires-2-clause-space c = grind (arith, elements)
 
 pub returns-in-Some-continue_turn-clause-some : goal.returns-in-Some-continue_turn-clause-some
-returns-in-Some-continue_turn-clause-some c = grind (arith, elements)
+returns-in-Some-continue_turn-clause-some c = λ studio events datagrams s.
+    let engine = c.continue_turn.new.self in
+    let P : ℕ → Type 0 = λ len. (studio : Studio) (events : List TraceEvent) (datagrams : List (List ℕ)) → HasSession studio c.args.self.now events datagrams
+    → Gives studio engine events datagrams c.args.out.now c.continue_turn.new.out len in
+    let given : P c.in-Some-continue_turn.len = subst (λ o. IfSome o P) c.in-Some-continue_turn.is c.continue_turn.ensures.some in
+    subst (λ l. Gives studio engine l datagrams c.args.out.now c.continue_turn.new.out c.in-Some-continue_turn.len) (turned_same c.args.self.now.time engine.time events c.continue_turn.ensures.time)
+    (given studio events datagrams s)
 
 pub returns-clause-closed : goal.returns-clause-closed
 returns-clause-closed c = grind (arith, elements)
