@@ -7,7 +7,7 @@ use Rattle.rtp_stream.specs.declared.event.Event.{Event}
 use Rattle.rtp_stream.specs.declared.event.Event.TheVariants.{Close}
 use Rattle.studio_ends.specs.Fitting.{fitting}
 use Rattle.studio_ends.specs.StreamTurns.{AllTakePackets}
-use Rattle.studio_ends.specs.Streams.{StreamHasHistory, packets_by}
+use Rattle.studio_ends.specs.Streams.{StreamHasHistory, TellsTurn, packets_by}
 use Rattle.studio_ends.specs.declared.rings.TokenConsumer.{TokenConsumer}
 use Rattle.studio_ends.specs.declared.stream_end.StreamEnd.{StreamEnd}
 use Rattle.studio_io.specs.Clocks.{TellsTime, time_with}
@@ -37,6 +37,12 @@ module _ {T : Type 0} where
 abbrev pub HaveArrived : Stream → ℕ → List (List Packet) → List Event → Type 0
 HaveArrived stream path [] events = (other : ℕ) → path ≤ other → packets_by other events ≡ []
 HaveArrived stream path (packets ∷ more) events = (packets_by path events ≡ fitting stream packets) × HaveArrived stream (suc path) more events
+
+-- after a clock reading that left its statistics as they were, a stream's end noted the packets of a turn, and sent them
+pub record TellsAfterReading (s t : StreamEnd) : Type 0 where
+  pub read : StreamEnd
+  pub sender : read.sender ≡ s.sender
+  pub tells : TellsTurn read t
 
 -- a stream's end was closed, once everything that the tokens report had arrived
 pub record Closes (s t : StreamEnd) : Type 0 where

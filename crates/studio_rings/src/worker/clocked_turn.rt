@@ -1,6 +1,6 @@
 //! The turns of a stream at its clock's readings, and its close.
 ghost use Rattle.std.specs.Prelude.{◌≡◌, ◌↔◌, ◌^◌, ◌≤ℤ◌, pos, false, IfOk, IfErr, IsTrue};
-ghost use Rattle.studio_ends.specs.Streams.{ReadsClock, TakesTurn};
+ghost use Rattle.studio_ends.specs.Streams.{ReadsClock, TakesTurn, TellsTurn};
 ghost use Rattle.studio_rings.specs.Turns.{
   CatchesUp,
   Closes,
@@ -10,6 +10,7 @@ ghost use Rattle.studio_rings.specs.Turns.{
   ReadsClockOnce,
   ReadsFirst,
   TakesOfEach,
+  TellsAfterReading,
   WaitsAfter,
 };
 
@@ -34,7 +35,8 @@ fn turn_at(end: &mut StreamEnd, now: i64) -> TurnNote
     requires open_yet { end.old.merge.closed ≡ false }
     requires low { end.old.merge.time ≤ℤ now }
     requires high { now ≤ℤ pos (2 ^ 60) }
-    ensures { TakesTurn end.old now result end.new }
+    ensures takes { TakesTurn end.old now result end.new }
+    ensures told { TellsTurn end.old end.new }
 {
     match end.turn(now) {
         Ok(note) => note,
@@ -47,7 +49,8 @@ fn read_at(end: &mut StreamEnd, now: i64) -> StopReason
     requires open_yet { end.old.merge.closed ≡ false }
     requires low { end.old.merge.time ≤ℤ now }
     requires high { now ≤ℤ pos (2 ^ 60) }
-    ensures { ReadsClock end.old now result end.new }
+    ensures reads { ReadsClock end.old now result end.new }
+    ensures sender { end.new.sender ≡ end.old.sender }
 {
     match end.read_clock(now) {
         Ok(why) => why,
@@ -62,7 +65,8 @@ fn read_first(end: &mut StreamEnd, now: i64)
     requires open_yet { end.old.merge.closed ≡ false }
     requires low { end.old.merge.time ≤ℤ now }
     requires high { now ≤ℤ pos (2 ^ 60) }
-    ensures { ReadsFirst end.old now end.new }
+    ensures reads { ReadsFirst end.old now end.new }
+    ensures sender { end.new.sender ≡ end.old.sender }
 {
     if matches!(end.spec().clock(), StreamClock::Media { .. }) || end.next_deadline().is_some() {
         return;
@@ -130,6 +134,10 @@ impl<C: Clock> ClockedStream<C> {
             → self.new.end.sides ≡ self.old.end.sides }
         ensures takes { (IsWaiting self.old.end.merge.time self.old.now self.new.now self.new.waits_until → ⊥)
             → TakesOfEach self.old.end self.new.end }
+        ensures told { (IsWaiting self.old.end.merge.time self.old.now self.new.now self.new.waits_until → ⊥)
+            → TellsAfterReading self.old.end self.new.end }
+        ensures silent { IsWaiting self.old.end.merge.time self.old.now self.new.now self.new.waits_until
+            → self.new.end.sender ≡ self.old.end.sender }
         ensures tokens { KeepsTokens self.old.end.sides.items self.new.end.sides.items }
     {
         let last = self.now;
