@@ -1,5 +1,5 @@
 -- The descriptors of inherited sockets, path by path.
-use Rattle.std.specs.Prelude.{ℕ, zero, suc, ℤ, List, [], ◌∷◌, ◌++◌, Option, None, slice_get, unwrap_or}
+use Rattle.std.specs.Prelude.{ℕ, zero, suc, ℤ, List, [], ◌∷◌, ◌++◌, Option, None, Some, slice_get, slice_set, unwrap_or}
 use Rattle.rtp_stream.specs.declared.stream_spec.Stream.{Stream}
 use Rattle.live_io.specs.declared.sockets.inherited.InheritedSockets.{InheritedSockets}
 use Rattle.live_io.specs.declared.sockets.names.SocketRole.{SocketRole}
@@ -14,6 +14,16 @@ abbrev pub descriptor_of : InheritedSockets → SocketRole → Option ℤ
 descriptor_of inherited (role.Path stream path) = descriptor_at inherited.paths stream path
 descriptor_of inherited role.ToA = inherited.to_a
 descriptor_of inherited role.ToB = inherited.to_b
+
+-- the rows with another descriptor for a stream's path
+abbrev pub with_path : List (List (Option ℤ)) → ℕ → ℕ → Option ℤ → List (List (Option ℤ))
+with_path rows stream path descriptor = slice_set rows stream (slice_set (unwrap_or (slice_get rows stream) []) path descriptor)
+
+-- the same descriptors, but for the socket of this role
+abbrev pub with_descriptor : InheritedSockets → SocketRole → ℤ → InheritedSockets
+with_descriptor inherited (role.Path stream path) descriptor = record inherited { paths = with_path inherited.paths stream path (Some descriptor) }
+with_descriptor inherited role.ToA descriptor = record inherited { to_a = Some descriptor }
+with_descriptor inherited role.ToB descriptor = record inherited { to_b = Some descriptor }
 
 -- the descriptors of a stream's first `count` paths
 abbrev pub row_descriptors : List (List (Option ℤ)) → ℕ → ℕ → List (Option ℤ)

@@ -16,13 +16,13 @@ const GROUP_DIGITS: u32 = 8;
 
 /// A scan of the table, octet by octet.
 ///
-/// The line of a group begins with tabs, behind which its address stands as a hexadecimal number, the last octet of the
-/// address first on this processor. All other lines begin with other octets.
+/// The line of a group begins with tabs. Its address follows them as a hexadecimal number, the last octet first on this
+/// processor. All other lines begin with other octets.
 #[derive(Clone, Copy)]
 pub struct GroupScan {
     /// True if all octets of the line so far may be those of a group's line.
     is_group: bool,
-    /// The number of octets of the line so far, without its first digit and those behind it.
+    /// The number of tabs at the start of the line so far.
     tabs: u32,
     /// The number of digits of the address so far.
     digits: u32,
@@ -115,8 +115,8 @@ impl TableReader for JoinedPaths<'_> {
     }
 }
 
-/// Sets for each path at a group whether this machine has joined the group, from the kernel's table. It is not known
-/// afterwards of a socket whose drops are not known: the kernel's table of sockets does not list it, so it may be of
+/// Sets for each path at a group whether this machine has joined the group, from the kernel's table. Of a socket whose
+/// drops are not known it sets that nothing is known: the kernel's table of sockets does not list it, so it may be of
 /// another network.
 ///
 /// It reads the whole table. So a thread that receives must not call it.

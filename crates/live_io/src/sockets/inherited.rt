@@ -1,10 +1,12 @@
 //! Sockets that are inherited from the program that started this one, by the convention of sd_listen_fds(3).
-ghost use Rattle.std.specs.Prelude.{◌≡◌, ◌<◌, ◌++◌, Some, None, slice_index_or, IfOk, OnOk};
+ghost use Rattle.std.specs.Prelude.{◌≡◌, ◌<◌, ◌++◌, Some, None, slice_index_or, slice_set, IfOk, OnOk};
 ghost use Rattle.live_io.specs.Inherited.{
   descriptor_at,
   descriptor_of,
   path_descriptors,
   row_descriptors,
+  with_descriptor,
+  with_path,
 };
 ghost use Rattle.live_io.specs.Names.{IsRole};
 
@@ -134,7 +136,8 @@ impl InheritedSockets {
     /// Sets the descriptor of a role.
     fn set(&mut self, role: SocketRole, descriptor: i32)
         requires known { IsRole role }
-        ensures { descriptor_of self.new role ≡ Some descriptor }
+        ensures own { descriptor_of self.new role ≡ Some descriptor }
+        ensures exact { self.new ≡ with_descriptor self.old role descriptor }
     {
         match role {
             SocketRole::ToA => self.to_a = Some(descriptor),
@@ -146,7 +149,8 @@ impl InheritedSockets {
     /// Sets the descriptor of a stream's path.
     fn set_path(&mut self, stream: u8, path: u8, descriptor: Option<i32>)
         requires known { (stream < 16) × (path < 4) }
-        ensures { descriptor_at self.new.paths stream path ≡ descriptor }
+        ensures own { descriptor_at self.new.paths stream path ≡ descriptor }
+        ensures exact { self.new ≡ record self.old { paths = with_path self.old.paths stream path descriptor } }
     {
         set_in_row(&mut self.paths[usize::from(stream)], path, descriptor);
     }
@@ -200,7 +204,8 @@ fn descriptor_in(rows: &[[Option<i32>; 4]; 16], stream: usize, path: u8) -> Opti
 /// Sets the descriptor of a path in its stream's row.
 fn set_in_row(row: &mut [Option<i32>; 4], path: u8, descriptor: Option<i32>)
     requires few { path < 4 }
-    ensures { slice_index_or row.new path None ≡ descriptor }
+    ensures own { slice_index_or row.new path None ≡ descriptor }
+    ensures exact { row.new ≡ slice_set row.old path descriptor }
 {
     row[usize::from(path)] = descriptor;
 }

@@ -10,16 +10,20 @@ pub(crate) trait TableReader {
     fn take(&mut self, octet: u8);
 }
 
-/// Passes the octets of a table to a reader. Returns false, and passes none, if the table cannot be opened.
+/// Passes the octets of a table to a reader. Returns true if it came to the table's end: not if the table cannot be
+/// opened, if a read of it fails, or if it is too long.
 pub(crate) fn read_table<T: TableReader>(table: &[u8], reader: &mut T) -> bool {
     let file = os::open_read(table);
     if file < 0 {
         return false;
     }
     let mut octets = [0u8; 4096];
+    let mut is_read = false;
     for _ in 0..MAX_READS {
         let count = libc::read(file, &mut octets);
         if count <= 0 {
+            // Only a read of no octets is the end: after an error more may follow.
+            is_read = count == 0;
             break;
         }
         for octet in &octets[..count as usize] {
@@ -27,5 +31,5 @@ pub(crate) fn read_table<T: TableReader>(table: &[u8], reader: &mut T) -> bool {
         }
     }
     let _ = libc::close(file);
-    true
+    is_read
 }
