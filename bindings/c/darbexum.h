@@ -27,7 +27,8 @@
  * and `darbexum_free`. Calls in another order return a code, and are never undefined.
  *
  * Units. Times and clock readings are in sampling instants of 48 kHz, from 0 to 2^60, on the clock of the
- * configuration's `open_at`. Lengths and sizes are in octets. Streams, paths and channels are counted from 0.
+ * configuration's `open_at`. Lengths and sizes are in octets; the length of gains or of samples is their number.
+ * Streams, paths and channels are counted from 0.
  *
  * Codes. A call that returns a negative code has changed nothing: neither the engine nor what a pointer points to, but
  * for the text of `darbexum_open`. If several codes apply, the call returns the first of those that it lists.
@@ -77,7 +78,7 @@ enum darbexum_code {
     DARBEXUM_WENT_BACK = -6,  /* the clock reading is before the last one, or before the opening */
     DARBEXUM_TOO_FAR = -7,    /* the clock reading is past 2^60 */
     DARBEXUM_CLOSED = -8,     /* the clock reading comes after the close */
-    DARBEXUM_SHORT_ROOM = -9, /* the room is shorter than a datagram, or `size` is less than this version's struct has */
+    DARBEXUM_SHORT_ROOM = -9, /* the room is too short, or `size` is less than this version's struct has */
     DARBEXUM_NO_TOML = -10,   /* the configuration is not TOML in UTF-8, or has more than 1,048,576 octets */
     DARBEXUM_NO_STUDIO = -11, /* the configuration has a fault; the text says where */
     DARBEXUM_NO_MEMORY = -12, /* an allocation failed */
@@ -228,6 +229,20 @@ int32_t darbexum_path_counts(darbexum *handle, size_t stream, uint8_t path, darb
 /* Writes how many samples of an output channel were saturated so far. Returns 0, NO_ENGINE, or NONE for a channel that
  * the output lacks. */
 int32_t darbexum_saturated(darbexum *handle, size_t channel, uint64_t *count);
+
+/* Writes the samples of all channels of all streams in the block of the last datagram to the front of `out`, before
+ * any gain: frame by frame, in each frame stream after stream. A sample has 24 bits: one of L16 is multiplied by 256.
+ * It is 0 if no packet brought it. Before the first datagram all samples are 0. Call it once darbexum_turn or
+ * darbexum_drain has returned a datagram, and before the call for the next one. Returns the number of samples: the
+ * frames of the output times the channels of all streams. Returns NO_ENGINE or SHORT_ROOM if it fails. */
+ptrdiff_t darbexum_inputs(darbexum *handle, int32_t *out, size_t len);
+
+/* Writes how many streams are missing in the block of the last datagram. A stream is missing if, at some time of the
+ * block, one of its gains is not 0 and no packet for that time was taken. So a stream that is silent or has ended is
+ * missing until its gains are 0. Before the first datagram no stream is missing. Returns 1 if the block is empty:
+ * streams are missing, and for no time of the block was a packet taken of a stream with a gain other than 0. All
+ * samples of the datagram are 0 then. Returns 0 if the block is not empty, or NO_ENGINE. */
+int32_t darbexum_missing(darbexum *handle, size_t *streams);
 
 /* Returns the version of the library, in the form of DARBEXUM_VERSION. */
 uint32_t darbexum_version(void);

@@ -18,6 +18,8 @@ static void expect_empty(darbexum *engine) {
     static uint8_t room[DARBEXUM_MAX_OCTETS];
     int64_t time = 7;
     uint64_t count = 7;
+    int32_t sample = 7;
+    size_t missing = 7;
     darbexum_output_t output = {.size = sizeof output};
     darbexum_stream_t stream = {.size = sizeof stream};
     darbexum_counts_t counts = {.size = sizeof counts};
@@ -37,7 +39,10 @@ static void expect_empty(darbexum *engine) {
     EXPECT(darbexum_counts(engine, 0, &counts), DARBEXUM_NO_ENGINE);
     EXPECT(darbexum_path_counts(engine, 0, 0, &paths), DARBEXUM_NO_ENGINE);
     EXPECT(darbexum_saturated(engine, 0, &count), DARBEXUM_NO_ENGINE);
-    EXPECT(time == 7 && count == 7, 1);
+    EXPECT(darbexum_inputs(engine, &sample, 0), DARBEXUM_NO_ENGINE);
+    EXPECT(darbexum_inputs(engine, &sample, 1), DARBEXUM_NO_ENGINE);
+    EXPECT(darbexum_missing(engine, &missing), DARBEXUM_NO_ENGINE);
+    EXPECT(time == 7 && count == 7 && sample == 7 && missing == 7, 1);
     darbexum_free(engine);
 }
 
@@ -88,6 +93,20 @@ static void expect_structs(darbexum *engine) {
     EXPECT(count, 0);
 }
 
+/* Expects a last block of six samples: this one, and then 0. No stream is missing in it. */
+static void expect_block(darbexum *engine, int32_t first) {
+    int32_t samples[7] = {7, 7, 7, 7, 7, 7, 7};
+    size_t missing = 7;
+    EXPECT(darbexum_inputs(engine, samples, 0), DARBEXUM_SHORT_ROOM);
+    EXPECT(darbexum_inputs(engine, samples, 5), DARBEXUM_SHORT_ROOM);
+    for (int i = 0; i < 7; i++) EXPECT(samples[i], 7);
+    EXPECT(darbexum_inputs(engine, samples, 7), 6);
+    for (int i = 0; i < 7; i++) EXPECT(samples[i], i == 0 ? first : i == 6 ? 7 : 0);
+    EXPECT(darbexum_inputs(engine, samples, 6), 6);
+    EXPECT(darbexum_missing(engine, &missing), 0);
+    EXPECT(missing, 0);
+}
+
 /* Changes of the one gain of an engine that has given no block. The last leaves it at 1. */
 static void expect_gains(darbexum *engine) {
     const int64_t last = (int64_t)1 << 60;
@@ -112,7 +131,7 @@ static void expect_gains(darbexum *engine) {
 }
 
 static void expect_run(darbexum *engine) {
-    uint8_t packet[30] = {0x80, 96, 0, 1, [11] = 1}, out[DARBEXUM_MAX_OCTETS] = {0};
+    uint8_t packet[30] = {0x80, 96, 0, 1, [11] = 1, [14] = 5}, out[DARBEXUM_MAX_OCTETS] = {0};
     int64_t time = -1;
     EXPECT(darbexum_arrive(engine, 0, 0, packet, 0), DARBEXUM_BAD);
     EXPECT(darbexum_arrive(engine, 0, 0, packet, 29), DARBEXUM_WRONG_LENGTH);
@@ -137,7 +156,9 @@ static void expect_run(darbexum *engine) {
     EXPECT(darbexum_turn(engine, INT64_MAX, out, 30), DARBEXUM_TOO_FAR);
     EXPECT(darbexum_next_deadline(engine, &time), 0);
     EXPECT(time, 12);
+    expect_block(engine, 0);
     EXPECT(darbexum_turn(engine, 12, out, 30), 30);
+    expect_block(engine, 5);
     EXPECT(darbexum_arrive(engine, 0, 0, packet, 30), DARBEXUM_UNFINISHED);
     EXPECT(darbexum_close(engine), DARBEXUM_UNFINISHED);
     EXPECT(darbexum_next_deadline(engine, &time), DARBEXUM_NONE);
@@ -155,6 +176,24 @@ static void expect_run(darbexum *engine) {
     EXPECT(darbexum_drain(engine, out, 30), 0);
     EXPECT(darbexum_drain(engine, out, 30), 0);
     EXPECT(darbexum_settled(engine), 1);
+    /* The last datagram is still the first one. */
+    expect_block(engine, 5);
+}
+
+/* A packet comes, and the next one does not: the second block is empty. */
+static void expect_lost(darbexum *engine) {
+    uint8_t packet[30] = {0x80, 96, 0, 1, [11] = 1, [14] = 5}, out[DARBEXUM_MAX_OCTETS];
+    int32_t samples[6] = {7, 7, 7, 7, 7, 7};
+    size_t missing = 7;
+    EXPECT(darbexum_arrive(engine, 0, 0, packet, 30), DARBEXUM_TAKEN);
+    EXPECT(darbexum_turn(engine, 18, out, 30), 30);
+    expect_block(engine, 5);
+    EXPECT(darbexum_turn(engine, 18, out, 30), 30);
+    EXPECT(darbexum_missing(engine, &missing), 1);
+    EXPECT(missing, 1);
+    EXPECT(darbexum_inputs(engine, samples, 6), 6);
+    for (int i = 0; i < 6; i++) EXPECT(samples[i], 0);
+    EXPECT(darbexum_turn(engine, 18, out, 30), 0);
 }
 
 int main(int count, char **words) {
@@ -184,6 +223,7 @@ int main(int count, char **words) {
     /* Opened again: the engine before is freed. */
     expect_open(&engine, config, len, 0, "");
     EXPECT(darbexum_settled(&engine), 0);
+    expect_lost(&engine);
     darbexum_free(&engine);
     darbexum_free(&engine);
     expect_empty(&engine);

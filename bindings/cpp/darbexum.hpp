@@ -24,11 +24,20 @@
 namespace Darbexum {
 
 using Octets = std::span<const std::uint8_t>;
+using Samples = std::span<const std::int32_t>;
 using Outcome = ::darbexum_outcome;
 using Counts = ::darbexum_counts_t;
 using PathCounts = ::darbexum_path_counts_t;
 using Output = ::darbexum_output_t;
 using Stream = ::darbexum_stream_t;
+
+// The streams that are missing in a block.
+struct Missing {
+    std::size_t streams; // those of which, at some time of the block, a gain is not 0 and no packet came
+    bool is_empty;       // streams are missing, and no stream with a gain other than 0 has a packet in the block
+
+    bool operator==(const Missing &) const = default;
+};
 
 // A failed call. Nothing has changed.
 class Error : public std::runtime_error {
@@ -57,9 +66,11 @@ public:
             throw Error(code, reinterpret_cast<const char *>(text.data()));
     }
     ~Engine() { darbexum_free(&handle_); }
-    Engine(Engine &&other) noexcept : handle_(std::exchange(other.handle_, ::darbexum{nullptr})) {}
+    Engine(Engine &&other) noexcept
+        : handle_(std::exchange(other.handle_, ::darbexum{nullptr})), inputs_(std::move(other.inputs_)) {}
     Engine &operator=(Engine &&other) noexcept {
         std::swap(handle_, other.handle_);
+        std::swap(inputs_, other.inputs_);
         return *this;
     }
     Engine(const Engine &) = delete;
@@ -128,6 +139,26 @@ public:
         return count;
     }
 
+    // Returns the samples of all channels of all streams in the block of the last datagram, before any gain: frame by
+    // frame, in each frame stream after stream. Call it in `give`, for each datagram. The samples are valid until the
+    // next call of `inputs`. Only the first call allocates.
+    Samples inputs() {
+        if (inputs_.empty()) {
+            std::size_t channels = 0;
+            for (std::size_t at = 0; at < streams(); at++) channels += stream(at).channels;
+            inputs_.resize(output().frames * channels);
+        }
+        auto len = checked(darbexum_inputs(&handle_, inputs_.data(), inputs_.size()));
+        return Samples(inputs_.data(), std::size_t(len));
+    }
+
+    // Returns the streams that are missing in the block of the last datagram. Call it in `give` too.
+    Missing missing() {
+        std::size_t count = 0;
+        bool is_empty = checked(darbexum_missing(&handle_, &count)) == 1;
+        return Missing{count, is_empty};
+    }
+
 private:
     template <class Code> static Code checked(Code code) {
         if (code < 0) throw Error(std::int32_t(code));
@@ -142,6 +173,7 @@ private:
 
     ::darbexum handle_ = DARBEXUM_EMPTY;
     std::array<std::uint8_t, DARBEXUM_MAX_OCTETS> out_;
+    std::vector<std::int32_t> inputs_;
 };
 
 // Returns the version of the library: an octet each for the three numbers.

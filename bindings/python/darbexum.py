@@ -9,7 +9,7 @@
         send(datagram)
 
 darbexum.h says what the units are and in which order calls are made. One thread at a time may call an engine: ctypes
-lets other threads run during a call. `samples` uses numpy if it is there.
+lets other threads run during a call. `samples` and `inputs` use numpy if it is there.
 
 The library is looked for at $DARBEXUM_LIBRARY, next to this file, and where the system looks.
 """
@@ -17,6 +17,7 @@ import ctypes as c
 import ctypes.util
 import enum
 import os
+import typing
 
 MAX_OCTETS = 1452
 
@@ -45,6 +46,14 @@ class Clock(enum.IntEnum):
     MEDIA = 0
     ARRIVAL = 1
     FOLLOW = 2
+
+
+class Missing(typing.NamedTuple):
+    """The streams that are missing in a block: how many, and whether it is empty, because no stream with a gain other
+    than 0 has a packet in it."""
+
+    streams: int
+    is_empty: bool
 
 
 class _Struct(c.Structure):
@@ -131,6 +140,8 @@ _CALLS = {
     "counts": (c.c_int32, _HANDLE, c.c_size_t, c.POINTER(Counts)),
     "path_counts": (c.c_int32, _HANDLE, c.c_size_t, c.c_uint8, c.POINTER(PathCounts)),
     "saturated": (c.c_int32, _HANDLE, c.c_size_t, c.POINTER(c.c_uint64)),
+    "inputs": (c.c_ssize_t, _HANDLE, c.c_void_p, _LENGTH),
+    "missing": (c.c_int32, _HANDLE, c.POINTER(c.c_size_t)),
     "version": (c.c_uint32,),
     "fault_text": (c.c_size_t, c.c_int32, _OCTETS, _LENGTH),
 }
@@ -185,6 +196,7 @@ class Engine:
         if code := _call("open")(self._at, octets, len(octets), text, len(text)):
             raise Error(code, text.value.decode())
         self._out = c.create_string_buffer(MAX_OCTETS)
+        self._inputs = None
 
     def __del__(self):
         if _library is not None and hasattr(self, "_at"):
@@ -197,21 +209,24 @@ class Engine:
         octets = bytes(octets)
         return _OUTCOMES[_checked(_call("arrive")(self._at, stream, path, octets, len(octets)))]
 
-    def turn(self, now):
-        """Moves all streams on to a clock reading, and returns the datagrams that are ready."""
+    def turn(self, now, give=None):
+        """Moves all streams on to a clock reading, and returns the datagrams that are ready. `give` is called with each
+        of them before the next one is made: `inputs` and `missing` then return those of its block."""
         if not -(1 << 63) <= now < 1 << 63:
             raise ValueError("the clock reading is out of range")
-        return self._all(lambda: _call("turn")(self._at, now, self._out, MAX_OCTETS))
+        return self._all(lambda: _call("turn")(self._at, now, self._out, MAX_OCTETS), give)
 
-    def close(self):
-        """Closes all streams, and returns the datagrams that are left."""
+    def close(self, give=None):
+        """Closes all streams, and returns the datagrams that are left. `give` is called as by `turn`."""
         _checked(_call("close")(self._at))
-        return self._all(lambda: _call("drain")(self._at, self._out, MAX_OCTETS))
+        return self._all(lambda: _call("drain")(self._at, self._out, MAX_OCTETS), give)
 
-    def _all(self, call):
+    def _all(self, call, give):
         datagrams = []
         while (length := _checked(call())) > 0:
             datagrams.append(self._out[:length])
+            if give is not None:
+                give(datagrams[-1])
         return datagrams
 
     def next_deadline(self):
@@ -272,6 +287,24 @@ class Engine:
         count = c.c_uint64()
         _checked(_call("saturated")(self._at, channel, c.byref(count)))
         return count.value
+
+    def inputs(self):
+        """The samples of all streams in the block of the last datagram, before any gain, a row for each sampling
+        instant with the channels of stream after stream: a numpy array, or a list of lists."""
+        if self._inputs is None:
+            self._inputs = (c.c_int32 * sum(stream.channels for stream in self.streams) * self.output.frames)()
+        _checked(_call("inputs")(self._at, self._inputs, c.sizeof(self._inputs) // c.sizeof(c.c_int32)))
+        try:
+            import numpy
+        except ImportError:
+            return [list(row) for row in self._inputs]
+        return numpy.array(self._inputs)
+
+    def missing(self):
+        """The streams that are missing in the block of the last datagram."""
+        streams = c.c_size_t()
+        is_empty = _checked(_call("missing")(self._at, c.byref(streams)))
+        return Missing(streams.value, is_empty == 1)
 
     def _filled(self, kind, name, *words):
         found = kind()

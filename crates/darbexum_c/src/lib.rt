@@ -12,6 +12,7 @@
 //! declarations, and states what the caller has to ensure.
 #![tactic(auto)]
 
+mod block_calls;
 mod calls;
 mod codes;
 mod handle;

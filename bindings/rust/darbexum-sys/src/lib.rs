@@ -84,6 +84,8 @@ extern "C" {
     pub fn darbexum_counts(handle: *mut Handle, stream: usize, counts: *mut Counts) -> i32;
     pub fn darbexum_path_counts(handle: *mut Handle, stream: usize, path: u8, counts: *mut PathCounts) -> i32;
     pub fn darbexum_saturated(handle: *mut Handle, channel: usize, count: *mut u64) -> i32;
+    pub fn darbexum_inputs(handle: *mut Handle, out: *mut i32, len: usize) -> isize;
+    pub fn darbexum_missing(handle: *mut Handle, streams: *mut usize) -> i32;
     pub fn darbexum_version() -> u32;
     pub fn darbexum_fault_text(code: i32, out: *mut u8, len: usize) -> usize;
 }

@@ -80,10 +80,20 @@ use Outcome::*;
 const OUTCOMES: [Outcome; 13] =
     [AfterClose, CountersFull, WrongSource, OffGrid, Late, Ahead, Taken, Double, Unlike, Restarted, Bad, WrongType, WrongLength];
 
+/// The streams that are missing in a block.
+#[derive(Clone, Copy, Debug, PartialEq, Eq)]
+pub struct Missing {
+    /// The number of streams of which, at some time of the block, a gain is not 0 and no packet came.
+    pub streams: usize,
+    /// Streams are missing, and no stream with a gain other than 0 has a packet in the block.
+    pub is_empty: bool,
+}
+
 /// An engine of a configuration.
 pub struct Engine {
     handle: sys::Handle,
     out: [u8; MAX_OCTETS],
+    inputs: Vec<i32>,
 }
 
 // The handle is proved to go from thread to thread. Each call takes the engine mutably, so two calls never overlap.
@@ -94,7 +104,8 @@ impl Engine {
     /// Makes the engine of a configuration (TOML).
     pub fn new(config: impl AsRef<[u8]>) -> Result<Engine, Error> {
         let config = config.as_ref();
-        let mut engine = Engine { handle: sys::Handle { engine: null_mut() }, out: [0; MAX_OCTETS] };
+        let handle = sys::Handle { engine: null_mut() };
+        let mut engine = Engine { handle, out: [0; MAX_OCTETS], inputs: Vec::new() };
         let mut text = [0; 256];
         match unsafe { sys::darbexum_open(&mut engine.handle, config.as_ptr(), config.len(), text.as_mut_ptr(), text.len()) } {
             0 => Ok(engine),
@@ -190,6 +201,28 @@ impl Engine {
         checked(unsafe { sys::darbexum_saturated(&mut self.handle, channel, &mut count) })?;
         Ok(count)
     }
+
+    /// Returns the samples of all channels of all streams in the block of the last datagram, before any gain: frame by
+    /// frame, in each frame stream after stream. Only the first call allocates.
+    pub fn inputs(&mut self) -> &[i32] {
+        if self.inputs.is_empty() {
+            let mut channels = 0;
+            for stream in 0..self.streams() {
+                channels += self.stream(stream).map_or(0, |found| found.channels as usize);
+            }
+            let frames = self.output().frames as usize;
+            self.inputs.resize(frames * channels, 0);
+        }
+        unsafe { sys::darbexum_inputs(&mut self.handle, self.inputs.as_mut_ptr(), self.inputs.len()) };
+        &self.inputs
+    }
+
+    /// Returns the streams that are missing in the block of the last datagram.
+    pub fn missing(&mut self) -> Missing {
+        let mut streams = 0;
+        let code = unsafe { sys::darbexum_missing(&mut self.handle, &mut streams) };
+        Missing { streams, is_empty: code == 1 }
+    }
 }
 
 impl Drop for Engine {
@@ -209,7 +242,7 @@ impl Datagrams<'_> {
     /// Returns the next datagram, or `None` after the last.
     #[allow(clippy::should_implement_trait)]
     pub fn next(&mut self) -> Result<Option<&[u8]>, Error> {
-        let Engine { handle, out } = &mut *self.engine;
+        let Engine { handle, out, .. } = &mut *self.engine;
         let len = match self.now {
             Some(now) => unsafe { sys::darbexum_turn(handle, now, out.as_mut_ptr(), out.len()) },
             None => unsafe { sys::darbexum_drain(handle, out.as_mut_ptr(), out.len()) },
@@ -219,6 +252,11 @@ impl Datagrams<'_> {
             len if len > 0 => Ok(Some(&out[..len as usize])),
             code => Err(Error::of(code as i32)),
         }
+    }
+
+    /// Returns the engine, whose `inputs` and `missing` are those of the last datagram.
+    pub fn engine(&mut self) -> &mut Engine {
+        self.engine
     }
 }
 

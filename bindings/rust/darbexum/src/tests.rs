@@ -1,9 +1,33 @@
-//! Tests of an engine on the stream of examples/first.
-use crate::{Engine, Outcome};
+//! Tests of an engine on the stream of examples/first, and on two streams.
+use crate::{Engine, Missing, Outcome};
 
 const CONFIG: &str = "open_at = 0\n[[stream]]\nencoding = \"L24\"\nchannels = 1\nframes = 6\npt = 96\nclock = \"media\"\nlatency = 12\nwindow = 8\n\
     [output]\nencoding = \"L24\"\nchannels = 1\nframes = 6\npt = 97\nssrc = 2\nseq = 0\nstart = 0\ngains = [[65536]]\n";
 const PACKET: [u8; 30] = [0x80, 96, 0, 1, 0, 0, 0, 0, 0, 0, 0, 1, 0, 0, 1, 0, 0, 2, 0, 0, 3, 0, 0, 4, 0, 0, 5, 0, 0, 6];
+
+/// A stream of one channel of L24 and one of two channels of L16, in blocks of 6 frames.
+const TWO_STREAMS: &str = "open_at = 0\n\
+    [[stream]]\nencoding = \"L24\"\nchannels = 1\nframes = 6\npt = 96\nclock = \"media\"\nlatency = 12\nwindow = 8\n\
+    [[stream]]\nencoding = \"L16\"\nchannels = 2\nframes = 6\npt = 96\nclock = \"media\"\nlatency = 12\nwindow = 8\n\
+    [output]\nencoding = \"L24\"\nchannels = 1\nframes = 6\npt = 97\nssrc = 2\nseq = 0\nstart = 0\n\
+    gains = [[65536, 65536, 65536]]\n";
+
+/// Returns the packet of a block, with these samples of so many octets.
+fn packet(number: u8, samples: &[i32], octets: usize) -> Vec<u8> {
+    let head = [0x80, 96, 0, number, 0, 0, 0, 6 * number, 0, 0, 0, 1];
+    let payload = samples.iter().flat_map(|sample| sample.to_be_bytes()[4 - octets..].to_vec());
+    head.into_iter().chain(payload).collect()
+}
+
+/// The samples of the two streams in a block, each another one.
+const FIRST: [i32; 6] = [-1, -2, -3, -4, -5, -6];
+const SECOND: [i32; 12] = [11, -21, 12, -22, 13, -23, 14, -24, 15, -25, 16, -26];
+
+/// Returns the inputs of a block, frame by frame. The samples of the second stream are multiplied by this factor: 256,
+/// since they are L16, or 0 without its packet.
+fn inputs(factor: i32) -> Vec<i32> {
+    (0..6).flat_map(|at| [FIRST[at], factor * SECOND[2 * at], factor * SECOND[2 * at + 1]]).collect()
+}
 
 #[test]
 fn a_packet_goes_through_an_engine() {
@@ -51,6 +75,38 @@ fn gains_move_from_their_time_on() {
         assert_eq!(engine.change_gains(at + 1, &[0]), Ok(()));
     }
     assert_eq!(engine.change_gains(71, &[0]).unwrap_err().code, -17);
+}
+
+#[test]
+fn inputs_and_missing_streams_are_those_of_the_last_datagram() {
+    let mut engine = Engine::new(TWO_STREAMS).unwrap();
+    let whole = Missing { streams: 0, is_empty: false };
+    let part = Missing { streams: 1, is_empty: false };
+    assert_eq!(engine.inputs(), [0; 18]);
+    assert_eq!(engine.missing(), whole);
+    // The packets of the second stream in the blocks 1 and 2 do not come.
+    for number in 0..3 {
+        assert_eq!(engine.arrive(0, 0, &packet(number, &FIRST, 3)), Ok(Outcome::Taken));
+    }
+    assert_eq!(engine.arrive(1, 0, &packet(0, &SECOND, 2)), Ok(Outcome::Taken));
+    let mut turn = engine.turn(18);
+    for (factor, missing) in [(256, whole), (0, part)] {
+        assert!(turn.next().unwrap().is_some());
+        assert_eq!(turn.engine().inputs(), inputs(factor));
+        assert_eq!(turn.engine().missing(), missing);
+    }
+    assert_eq!(turn.next(), Ok(None));
+    // Then it is the only one with a gain other than 0, and then it is muted.
+    assert_eq!(engine.change_gains(12, &[0, 0, 1]), Ok(()));
+    assert!(engine.turn(24).next().unwrap().is_some());
+    assert_eq!(engine.inputs(), inputs(0));
+    assert_eq!(engine.missing(), Missing { streams: 1, is_empty: true });
+    assert_eq!(engine.turn(24).next(), Ok(None));
+    assert_eq!(engine.change_gains(18, &[1, 0, 0]), Ok(()));
+    assert_eq!(engine.arrive(0, 0, &packet(3, &FIRST, 3)), Ok(Outcome::Taken));
+    let mut rest = engine.close().unwrap();
+    assert!(rest.next().unwrap().is_some());
+    assert_eq!(rest.engine().missing(), whole);
 }
 
 #[test]

@@ -1,0 +1,24 @@
+-- The handle's engine is the one that was read.
+use Rattle.std.proofs.Common.{◌≡◌, ◌+◌, ℕ, List, length, sym, ◌∙◌}
+use Rattle.studio_config.specs.Studio.{Studio}
+use Rattle.studio_mix.specs.Missing.{missing_in}
+use Rattle.studio_session.specs.Event.{TraceEvent}
+use Rattle.studio_session.specs.Play.{feeds_of}
+use Rattle.studio_engine.specs.Engine.{EngineState}
+use Rattle.studio_engine.specs.Session.{HasSession}
+use Rattle.darbexum_c.proofs.Moved.{of_handle}
+use Rattle.darbexum_c.proofs.block_calls.darbexum_missing.Goals as goal
+
+abbrev Stands : EngineState → Type 0
+Stands e = (studio : Studio) (events : List TraceEvent) (datagrams : List (List ℕ)) (number : ℕ) → HasSession studio e events datagrams → length datagrams ≡ number + 1
+    → e.mixer.missing ≡ missing_in studio (feeds_of studio events) number
+
+pub returns-clause-stands : goal.returns-clause-stands
+returns-clause-stands c engine is =
+    of_handle Stands c.args.handle.now.engine c.in-Some.engine.value c.deref.result.now engine c.in-Some.ensures.value c.deref.ensures is
+    (λ studio events datagrams number s one. sym c.missing-missing.ensures.value ∙ c.missing-missing.ensures.stands studio events datagrams number s one)
+
+pub returns-then-missing-clause-stands : goal.returns-then-missing-clause-stands
+returns-then-missing-clause-stands c engine is =
+    of_handle Stands c.args.handle.now.engine c.in-Some.engine.value c.deref.result.now engine c.in-Some.ensures.value c.deref.ensures is
+    (λ studio events datagrams number s one. sym c.missing-missing.ensures.value ∙ c.missing-missing.ensures.stands studio events datagrams number s one)
