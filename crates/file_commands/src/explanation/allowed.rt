@@ -1,4 +1,12 @@
 //! The keys of each table of a configuration, with what each may be, as a person reads it.
+ghost use Rattle.std.specs.Prelude.{◌≡◌, ◌&&◌, is_some};
+ghost use Rattle.std.specs.List.{list_any};
+ghost use Rattle.std.specs.Str.{bytes_eq};
+ghost use Rattle.studio_config.specs.Keys.{name_of};
+ghost use Rattle.studio_config.specs.Rows.{is_known as is_among};
+ghost use Rattle.studio_config.specs.declared.config.fault.ConfigTable.TheVariants as place;
+ghost use Rattle.file_commands.specs.SimilarKey.{is_allowed, keys_at, packet_keys};
+
 use studio_config::{ConfigTable, Key};
 
 /// All keys of configurations.
@@ -58,18 +66,24 @@ const GAINS: &str =
     "a row for each output channel, with a whole number from -1048576 to 1048576 for each channel of the streams";
 
 /// Returns true if a table at this place has a key of this name.
-pub(crate) fn is_known(place: ConfigTable, name: &str) -> bool {
-    for key in KEYS.iter() {
-        if key.name() == name && allowed_at(place, *key).is_some() {
-            return true;
-        }
-    }
-    false
+pub(crate) fn is_known(place: ConfigTable, name: &str) -> bool
+    ensures { result ≡ is_among (keys_at place) name.now }
+{
+    is_any(&KEYS, place, name)
+}
+
+/// Returns true if a table at this place may have one of these keys by this name.
+fn is_any(keys: &[Key], place: ConfigTable, name: &str) -> bool
+    ensures { result ≡ list_any (λ key. bytes_eq (name_of key) name.now && is_allowed place key) keys.now }
+{
+    keys.iter().any(|key| key.name() == name && allowed_at(place, *key).is_some())
 }
 
 /// Returns what a key of a table at this place may be, or `None` if the table has no such key. The text follows the
 /// words "allowed are".
-pub(crate) fn allowed_at(place: ConfigTable, key: Key) -> Option<&'static str> {
+pub(crate) fn allowed_at(place: ConfigTable, key: Key) -> Option<&'static str>
+    ensures { is_some result ≡ is_allowed place key }
+{
     match place {
         ConfigTable::Top => allowed_at_top(key),
         ConfigTable::Stream(_) => allowed_in_stream(key),
@@ -92,7 +106,9 @@ pub(crate) fn whole_words(key: Key) -> &'static str {
 }
 
 /// Returns what a key of the document may be.
-fn allowed_at_top(key: Key) -> Option<&'static str> {
+fn allowed_at_top(key: Key) -> Option<&'static str>
+    ensures { is_some result ≡ is_allowed place.Top key }
+{
     match key {
         Key::OpenAt => Some(TIME),
         Key::Stream => Some("1 to 16 tables [[stream]]"),
@@ -102,7 +118,9 @@ fn allowed_at_top(key: Key) -> Option<&'static str> {
 }
 
 /// Returns what a key of a stream's table may be.
-fn allowed_in_stream(key: Key) -> Option<&'static str> {
+fn allowed_in_stream(key: Key) -> Option<&'static str>
+    ensures { is_some result ≡ is_allowed (place.Stream 0) key }
+{
     match key {
         Key::Channels => Some("1 to 64"),
         Key::Clock => Some("\"media\", \"arrival\" and \"follow\""),
@@ -120,7 +138,9 @@ fn allowed_in_stream(key: Key) -> Option<&'static str> {
 }
 
 /// Returns what a key of the output's table may be.
-fn allowed_in_output(key: Key) -> Option<&'static str> {
+fn allowed_in_output(key: Key) -> Option<&'static str>
+    ensures { is_some result ≡ is_allowed place.Output key }
+{
     match key {
         Key::Channels => Some("1 to 8"),
         Key::Seq => Some("0 to 65535"),
@@ -138,7 +158,9 @@ fn allowed_in_output(key: Key) -> Option<&'static str> {
 }
 
 /// Returns what a key that streams and the output share may be.
-fn allowed_in_packets(key: Key) -> Option<&'static str> {
+fn allowed_in_packets(key: Key) -> Option<&'static str>
+    ensures { is_some result ≡ is_among packet_keys (name_of key) }
+{
     match key {
         Key::Encoding => Some("\"L16\" and \"L24\""),
         Key::Frames => Some(FRAMES),
@@ -149,7 +171,9 @@ fn allowed_in_packets(key: Key) -> Option<&'static str> {
 }
 
 /// Returns what a key of a change of gains may be.
-fn allowed_in_change(key: Key) -> Option<&'static str> {
+fn allowed_in_change(key: Key) -> Option<&'static str>
+    ensures { is_some result ≡ is_allowed (place.Change 0) key }
+{
     match key {
         Key::At => Some(TIME),
         Key::Gains => Some(GAINS),
