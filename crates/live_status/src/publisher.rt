@@ -2,8 +2,10 @@
 ghost use Rattle.std.specs.Prelude.{
   ◌≡◌,
   ◌≤◌,
+  ◌^◌,
   [],
   min,
+  pos,
   replicate,
   length,
   IfOk,
@@ -142,6 +144,7 @@ impl<E: Write + Drop> StatusPublisher<E> {
             (E.contents self.old.writer) (snapshot_lines now shown) (E.contents self.new.writer) }
         ensures streams { AreEach (Updates snapshot.streams.items now) self.old.streams.items self.new.streams.items }
         ensures next { self.new.next ≤ℤ (now +ℤ SNAPSHOT_INTERVAL) }
+        ensures waits { now ≤ℤ pos (2 ^ 62) → self.new.next ≡ now +ℤ SNAPSHOT_INTERVAL }
     {
         self.next = now.saturating_add(SNAPSHOT_INTERVAL);
         self.set_shown(now, &mut snapshot, have_ended);
