@@ -8,7 +8,7 @@ from sources import ROOT
 
 SOURCES = ROOT / "crates"
 FIELDS = SOURCES / "status_page/src/fields"
-METRICS = [SOURCES / f"status_page/src/page/{name}.rt" for name in ("metrics", "path_states")]
+METRICS = [SOURCES / f"status_page/src/page/{name}.rt" for name in ("metrics", "path_states", "facts")]
 COUNTS = SOURCES / "rtp_stream/src/count_field.rt"
 KINDS = SOURCES / "studio_io/src/output_kind.rt"
 # The files that write the lines of the report, and of --stats.
@@ -53,12 +53,15 @@ IN_STATS = {
     "sends_failed": "run failed_a",
     "sends_stale": "run stale",
 }
-# The numbers that no list of fields has, with their names in /state and the constant that describes them.
+# The numbers that no list of fields has: the name in /state, if there is one, the constant that describes the number,
+# and whether it is a gauge.
 FURTHER = {
     "stream_state": ("state", "STATE_HELP", True),
     "path_state": ("state", "PATH_STATE_HELP", True),
     "sends_failed": ("failed_sends", "FAILED_HELP", False),
     "sends_stale": ("stale", "STALE_HELP", False),
+    "build_info": (None, "VERSION_HELP", True),
+    "start_time_seconds": (None, "START_HELP", True),
 }
 # Words of the report that are in nothing else.
 REPORT_ALONE = {

@@ -16,6 +16,8 @@ STATES = {
     "darbexum_wav_state": ("none", "writing", "ended"),
     "darbexum_pcm_state": ("none", "waiting", "writing", "ended"),
 }
+# A row of a metric that /state does not have.
+FURTHER = re.compile(r"\| [^|]* \| [^|]* \| – \| `(?P<metric>[^|]*)` \| [^|]* \|")
 LABEL = re.compile(r'(\w+)="((?:[^"\\]|\\.)*)"')
 METRIC = re.compile(r"(\w+)(?:\{(.*)\})? (-?\d+)")
 # A metric's name and its labels; a line of a report or of count lines, and a word of it.
@@ -32,11 +34,20 @@ class Number(NamedTuple):
     report: Place | None
 
 
-def table() -> list[dict[str, str]]:
-    """Returns the rows of the table of names that have a metric."""
+def lines_of_table() -> list[str]:
+    """Returns the lines of the table of names, and those around it."""
     text = (TOP / "docs" / "METRICS.md").read_text()
-    part = text.partition("\n## Names of the numbers\n")[2].partition("\n## ")[0]
-    return [row.groupdict() for line in part.splitlines() if (row := ROW.fullmatch(line))]
+    return text.partition("\n## Names of the numbers\n")[2].partition("\n## ")[0].splitlines()
+
+
+def table() -> list[dict[str, str]]:
+    """Returns the rows of the table of names that have a metric and a name in /state."""
+    return [row.groupdict() for line in lines_of_table() if (row := ROW.fullmatch(line))]
+
+
+def further_metrics() -> list[str]:
+    """Returns the metrics that /state does not have."""
+    return [row["metric"] for line in lines_of_table() if (row := FURTHER.fullmatch(line))]
 
 
 def words_of(cell: str, letter: str = "") -> tuple[str, str] | None:

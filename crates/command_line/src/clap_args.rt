@@ -1,6 +1,7 @@
 //! The table of commands as clap's types: the arguments of a command as constants, clap's arguments made of them, and
 //! clap's parser of the whole command line.
 use crate::commands::{COMMANDS, CommandSpec};
+use crate::version::VERSION;
 use clap::builder::ValueParser;
 use clap::{Arg, ArgAction, Command};
 use std::alloc::{AllocError, Global};
@@ -90,7 +91,7 @@ fn program_of<'a>(alloc: Global, commands: Vec<Command<'a>>) -> Result<Command<'
              configuration. docs/FORMATS.md defines all texts";
     let command = Command::new(alloc, "darbexum")
         .about(about)
-        .version("0.3.0")
+        .version(VERSION)
         // The caller leaves the program's name out of the words.
         .no_binary_name(true);
     command.subcommands(commands)?.bin_name("darbexum")

@@ -3,7 +3,7 @@
 use crate::supervisor::signal_file::SignalFile;
 use live_io::SocketConfig;
 use run_outputs::RunStart;
-use status_page::StreamName;
+use status_page::{RunFacts, StreamName, Token};
 use std::time::Duration;
 use studio_config::StudioSpec;
 use studio_io::{LiveOptions, RunProgress};
@@ -36,4 +36,15 @@ pub struct LiveInputs<'a> {
     pub began: Option<Duration>,
     /// Whether the studio opens by International Atomic Time.
     pub is_by_tai: bool,
+}
+
+/// The inputs of a live run's page, in addition to what the run tells it.
+// Not among `LiveInputs`: the borrow checker doesn't cover calls whose parameters hold what is `'static` next to
+// outputs of several lifetimes.
+#[derive(Drop)]
+pub struct PageInputs {
+    /// The facts of the run that its page shows.
+    pub facts: RunFacts,
+    /// The token of the requests that may change the run's gains, if any may.
+    pub control: Option<Token>,
 }

@@ -5,7 +5,7 @@ ghost use Rattle.live_run.specs.RunResult.{IsEarly, IsRunOf};
 
 use crate::context::RunContext;
 use crate::fault::LiveFault;
-use crate::inputs::LiveRun;
+use crate::inputs::{LiveRun, PageInputs};
 use crate::page_task::{RunPage, open_run_page};
 use crate::run_end::RunEnd;
 use crate::shown_health::ShownHealth;
@@ -18,7 +18,6 @@ use live_gains::{GainControl, GainLink, RunGains, open_control};
 use live_io::{RunPeriod, Sockets, open_sockets};
 use live_status::{Meter, StatusOutputs};
 use run_outputs::{CreateOutput, CreatedOutput, NotedOutput, SideTask, TaskOutput};
-use status_page::Token;
 use std::alloc::Global;
 use std::io::Write;
 use std::net::Net;
@@ -45,11 +44,11 @@ pub(crate) fn launch_run<
     alloc: Global,
     run: LiveRun<'_>,
     outputs: O,
-    control: Option<Token>,
+    page: PageInputs,
     faults: E,
 ) -> Result<RunEnd, LiveFault>
     ensures run { IfOk result
-        (λ end. IsRunOf run.entry.options.now.one_thread (is_some control) run.entry.studio.now end.report) }
+        (λ end. IsRunOf run.entry.options.now.one_thread (is_some page.control) run.entry.studio.now end.report) }
     ensures ends { IfOk result
         (λ end. AreEndsIn run.entry.options.now.one_thread O.Events.ended O.Mix.ended end.outputs) }
     ensures early { IfErr result IsEarly }
@@ -61,7 +60,7 @@ pub(crate) fn launch_run<
         meter: Meter::new(output.enc(), output.channels()),
         link: GainLink::new(),
     };
-    bind_and_run(rt, alloc, run, &state, outputs, control, faults)
+    bind_and_run(rt, alloc, run, &state, outputs, page, faults)
 }
 
 /// The sockets of a run, the source of its changes of gains, and what its status needs of its page.
@@ -84,18 +83,19 @@ fn bind_and_run<
     run: LiveRun<'a>,
     state: &'a SharedState,
     outputs: O,
-    control: Option<Token>,
+    page: PageInputs,
     faults: E,
 ) -> Result<RunEnd, LiveFault>
     ensures run { IfOk result
-        (λ end. IsRunOf run.entry.options.now.one_thread (is_some control) run.entry.studio.now end.report) }
+        (λ end. IsRunOf run.entry.options.now.one_thread (is_some page.control) run.entry.studio.now end.report) }
     ensures ends { IfOk result
         (λ end. AreEndsIn run.entry.options.now.one_thread O.Events.ended O.Mix.ended end.outputs) }
     ensures early { IfErr result IsEarly }
 {
     let sockets = open_sockets(rt, alloc, run.studio, run.inputs.sockets)?;
+    let PageInputs { facts, control } = page;
     let GainControl { gains, control } = open_control(rt, alloc, run.studio, &state.link, control)?;
-    let page = open_run_page(rt, alloc, run.options.page, control)?;
+    let page = open_run_page(rt, alloc, run.options.page, facts, control)?;
     let RunPage { link, task } = page;
     let bound = BoundRun {
         sockets,

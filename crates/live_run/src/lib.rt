@@ -46,6 +46,6 @@ mod supervisor;
 mod workers;
 
 pub use fault::LiveFault;
-pub use inputs::{LiveInputs, LiveRun};
+pub use inputs::{LiveInputs, LiveRun, PageInputs};
 pub use run::run_studio_live;
 pub use supervisor::signal_file::SignalFile;

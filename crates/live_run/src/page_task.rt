@@ -3,7 +3,7 @@
 use crate::status::PageLink;
 use live_status::{OpenPage, PageFault, PageThread, open_page};
 use run_outputs::{RunStart, SideTask};
-use status_page::{Control, GainRequester};
+use status_page::{Control, GainRequester, RunFacts};
 use std::alloc::Global;
 use std::net::Net;
 use std::random::RandomSource;
@@ -30,15 +30,17 @@ pub(crate) struct RunPage<D: GainRequester> {
     pub(crate) task: Option<PageTask<D>>,
 }
 
-/// Binds the page's port, if a page is wanted, and returns the page. Returns errors as `open_page` does.
+/// Binds the page's port, if a page is wanted, and returns the page, which shows these facts of the run. Returns errors
+/// as `open_page` does.
 // In a function of its own: what holds an HTTP server by name is proved along all of its fields.
 pub(crate) fn open_run_page<R: Net + RandomSource, D: GainRequester>(
     rt: &R,
     alloc: Global,
     port: Option<u16>,
+    facts: RunFacts,
     control: Option<Control<D>>,
 ) -> Result<RunPage<D>, PageFault> {
-    let OpenPage { thread, snapshots } = open_page(rt, alloc, port, control)?;
+    let OpenPage { thread, snapshots } = open_page(rt, alloc, port, facts, control)?;
     let Some(server) = thread else {
         return Ok(RunPage {
             link: PageLink {

@@ -4,11 +4,10 @@ ghost use Rattle.run_outputs.specs.Ends.{AreEndsIn};
 ghost use Rattle.live_run.specs.RunText.{FailsRun, WritesRun};
 
 use crate::fault::LiveFault;
-use crate::inputs::LiveRun;
+use crate::inputs::{LiveRun, PageInputs};
 use crate::launch::launch_run;
 use crate::report::write_report;
 use run_outputs::{CreateOutput, OutputEnds};
-use status_page::Token;
 use std::alloc::Global;
 use std::io::Write;
 use std::net::Net;
@@ -33,8 +32,8 @@ use studio_run::TextBuffer;
 /// `outputs` are created once all sockets are bound, and each is written by a thread of its own. If the start fails
 /// behind that, the files that they created are removed. A run in either form passes its mix to them, and a run in one
 /// thread also its events. The run does not wait for them: what an output that is too slow, fails or goes away does
-/// then is its own rule. With a token, `control`, requests to the page that have it change the gains while the run goes
-/// on.
+/// then is its own rule. `page` has what its page shows all along. With a token, requests to the page that have it
+/// change the gains while the run goes on.
 ///
 /// Returns `LiveFault::Unsettled` if the run was not settled; its report is written all the same. Every other error but
 /// `LiveFault::Write` comes before anything is written to `output`.
@@ -48,20 +47,20 @@ pub fn run_studio_live<
     alloc: Global,
     run: LiveRun<'_>,
     outputs: O,
-    control: Option<Token>,
+    page: PageInputs,
     output: &mut W,
     faults: E,
 ) -> Result<OutputEnds, LiveFault>
-    ensures ok { OnOk result (WritesRun run.entry.options.now.one_thread (is_some control) run.entry.studio.now true
-        (W.contents output.old) (W.contents output.new)) }
+    ensures ok { OnOk result (WritesRun run.entry.options.now.one_thread (is_some page.control) run.entry.studio.now
+        true (W.contents output.old) (W.contents output.new)) }
     ensures ends { IfOk result
         (λ ends. AreEndsIn run.entry.options.now.one_thread O.Events.ended O.Mix.ended ends) }
-    ensures fault { IfErr result (FailsRun run.entry.options.now.one_thread (is_some control) run.entry.studio.now
+    ensures fault { IfErr result (FailsRun run.entry.options.now.one_thread (is_some page.control) run.entry.studio.now
         (W.contents output.old) (W.contents output.new)) }
 {
     // Allocated before the run, so that no run is left without memory for its report.
     let mut text = TextBuffer::new(alloc)?;
-    let ended = launch_run(rt, alloc, run, outputs, control, faults)?;
+    let ended = launch_run(rt, alloc, run, outputs, page, faults)?;
     write_report(&mut text, output, &ended.report)?;
     text.finish(output)?;
     if !ended.report.settled {

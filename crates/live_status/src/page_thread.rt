@@ -2,7 +2,8 @@
 
 use rtrb::{Producer, RingBuffer};
 use status_page::{
-    Control, ControlPage, GainRequester, Page, PageServer, RingSource, Snapshot, serve_page,
+    Control, ControlPage, GainRequester, Page, PageServer, RingSource, RunFacts, Snapshot,
+    serve_page,
 };
 use std::alloc::{AllocError, AllocFailed, Global};
 use std::hash::RandomState;
@@ -52,12 +53,14 @@ pub struct PageThread<D: GainRequester> {
 }
 
 impl<D: GainRequester> PageThread<D> {
-    /// Binds a port of 127.0.0.1, and returns the page's server and the end of the ring for its snapshots. At port 0
-    /// the system picks one. Returns `PageFault::Page` if the port cannot be bound.
+    /// Binds a port of 127.0.0.1, and returns the page's server and the end of the ring for its snapshots. The page
+    /// shows these facts of the run. At port 0 the system picks one. Returns `PageFault::Page` if the port cannot be
+    /// bound.
     pub(crate) fn bind<R: Net + RandomSource>(
         rt: &R,
         alloc: Global,
         port: u16,
+        facts: RunFacts,
         control: Option<Control<D>>,
     ) -> Result<(PageThread<D>, Producer<Snapshot>), PageFault> {
         let (producer, consumer) = RingBuffer::new(alloc, MAX_SNAPSHOTS)?;
@@ -65,7 +68,7 @@ impl<D: GainRequester> PageThread<D> {
             Ok(server) => Ok((
                 PageThread {
                     server,
-                    page: Page::new(alloc, Snapshot::new()),
+                    page: Page::new(alloc, facts, Snapshot::new()),
                     source: RingSource::new(consumer),
                     control,
                 },

@@ -5,7 +5,7 @@ use crate::meter::Meter;
 use crate::page_thread::{PageFault, PageThread};
 use crate::publisher::{PublisherOutputs, StatusPublisher};
 use rtrb::Producer;
-use status_page::{Control, GainRequester, Snapshot, StreamName};
+use status_page::{Control, GainRequester, RunFacts, Snapshot, StreamName};
 use std::alloc::{AllocError, Global};
 use std::io::Write;
 use std::net::Net;
@@ -39,12 +39,14 @@ pub struct OpenPage<D: GainRequester> {
     pub snapshots: Option<Producer<Snapshot>>,
 }
 
-/// Binds the page's port, if a page is wanted, which gets this control of the run's gains, if there is one. Returns
-/// `PageFault::Memory` if an allocation fails, and `PageFault::Page` if the port cannot be bound.
+/// Binds the page's port, if a page is wanted, which shows these facts of the run and gets this control of the run's
+/// gains, if there is one. Returns `PageFault::Memory` if an allocation fails, and `PageFault::Page` if the port cannot
+/// be bound.
 pub fn open_page<R: Net + RandomSource, D: GainRequester>(
     rt: &R,
     alloc: Global,
     port: Option<u16>,
+    facts: RunFacts,
     control: Option<Control<D>>,
 ) -> Result<OpenPage<D>, PageFault> {
     let Some(port) = port else {
@@ -53,7 +55,7 @@ pub fn open_page<R: Net + RandomSource, D: GainRequester>(
             snapshots: None,
         });
     };
-    let (thread, snapshots) = PageThread::bind(rt, alloc, port, control)?;
+    let (thread, snapshots) = PageThread::bind(rt, alloc, port, facts, control)?;
     Ok(OpenPage {
         thread: Some(thread),
         snapshots: Some(snapshots),

@@ -6,20 +6,20 @@ use Rattle.http_uri.specs.Uri.{uri_path}
 use Rattle.http_server.specs.declared.response.Response.{Response}
 use Rattle.http_server.specs.Exchange.{Call}
 use Rattle.http_server.specs.History.{History}
-use Rattle.status_page.specs.declared.snapshot.Snapshot.{Snapshot}
+use Rattle.status_page.specs.declared.run_facts.ShownRun.{ShownRun}
 use Rattle.status_page.specs.Host.{host_of}
 use Rattle.status_page.specs.Responses.{IsAnswer}
 
 -- the response to a request, by its host, its method and its path
-abbrev pub IsAnswered : Snapshot → Request (List ℕ) → Response → Type 0
-IsAnswered snapshot request response = IsAnswer snapshot (host_of (head_of request)) (head_of request).method (uri_path (head_of request).uri) response
+abbrev pub IsAnswered : ShownRun → Request (List ℕ) → Response → Type 0
+IsAnswered run request response = IsAnswer run (host_of (head_of request)) (head_of request).method (uri_path (head_of request).uri) response
 
 -- the response to a request, which leaves the page as it was
-abbrev pub page_answers : Snapshot → Request (List ℕ) → Response → Snapshot → Type 0
+abbrev pub page_answers : ShownRun → Request (List ℕ) → Response → ShownRun → Type 0
 page_answers old request response new = IsAnswered old request response × (new ≡ old)
 
--- further requests were answered, each from this snapshot
-pub record AnswersMore (snapshot : Snapshot) (old new : History) : Type 0 where
+-- further requests were answered, each by the page of this run
+pub record AnswersMore (run : ShownRun) (old new : History) : Type 0 where
   pub more : List Call
   pub follow : new.calls ≡ old.calls ++ more
-  pub answered : All (λ call. IsAnswered snapshot call.0 call.1) more
+  pub answered : All (λ call. IsAnswered run call.0 call.1) more

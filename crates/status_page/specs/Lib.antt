@@ -13,6 +13,7 @@ pub mod Metrics
 pub mod PathConditions
 pub mod RequestRate
 pub mod Responses
+pub mod RunFacts
 pub mod State
 pub mod Times
 pub mod Token

@@ -276,14 +276,14 @@ abbrev pub output_state_samples : Bool → List ℕ → List ℕ → List ℕ
 output_state_samples true group state = reader_states group state
 output_state_samples false group state = file_states group state
 
--- a count without labels, if it is known
-unfoldable pub count_sample : List ℕ → List ℕ → Option ℕ → List ℕ
-count_sample group key None = []
-count_sample group key (Some count) = metric_text group key Counter ++ codes " " ++ decimal count ++ codes "\n"
+-- the sample of a number without labels, if it is known
+unfoldable pub single_sample : List ℕ → List ℕ → MetricKind → Option ℕ → List ℕ
+single_sample group key kind None = []
+single_sample group key kind (Some value) = metric_text group key kind ++ codes " " ++ decimal value ++ codes "\n"
 
--- the metric of a count without labels
-abbrev pub count_family : List ℕ → List ℕ → List ℕ → Option ℕ → List ℕ
-count_family group key help count = header_text group key Counter help ++ count_sample group key count
+-- the metric of a number without labels
+abbrev pub single_family : List ℕ → List ℕ → MetricKind → List ℕ → Option ℕ → List ℕ
+single_family group key kind help value = header_text group key kind help ++ single_sample group key kind value
 
 -- the metric of an output's state
 unfoldable pub output_state_family : OutputKind → List ℕ → List ℕ
@@ -293,11 +293,11 @@ output_state_family kind state =
 
 -- the metric of the units that were written
 unfoldable pub written_family : OutputKind → Option ℕ → List ℕ
-written_family kind written = count_family (metric_group kind) (output_unit kind) (written_help kind) written
+written_family kind written = single_family (metric_group kind) (output_unit kind) Counter (written_help kind) written
 
 -- the metric of the units that were left out
 unfoldable pub left_out_family : OutputKind → Option ℕ → List ℕ
-left_out_family kind left_out = count_family (metric_group kind) (codes "left_out") (left_out_help kind) left_out
+left_out_family kind left_out = single_family (metric_group kind) (codes "left_out") Counter (left_out_help kind) left_out
 
 -- that metric, if the output has a reader
 abbrev pub left_out_family_if : Bool → OutputKind → Option ℕ → List ℕ
@@ -319,7 +319,7 @@ run_output_families (kind ∷ kinds) states = run_output_family kind (state_of k
 
 -- the metric of the datagrams of the mix that were left out because they were stale
 unfoldable pub stale_text : ℕ → List ℕ
-stale_text stale = count_family (codes "sends_") (codes "stale") (codes "Datagrams of the mix that were sent to neither address, because they were useless to every receiver.") (Some stale)
+stale_text stale = single_family (codes "sends_") (codes "stale") Counter (codes "Datagrams of the mix that were sent to neither address, because they were useless to every receiver.") (Some stale)
 
 -- all metrics
 unfoldable pub metrics_text : Snapshot → List ℕ

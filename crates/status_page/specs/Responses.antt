@@ -9,9 +9,9 @@ use Rattle.http_server.specs.Response.{IsResponse}
 use Rattle.status_page.specs.declared.page.html.TheConstants.{HTML}
 use Rattle.status_page.specs.declared.page.resource.Resource.{Resource}
 use Rattle.status_page.specs.declared.page.resource.Resource.TheVariants.{Page, State, Metrics}
-use Rattle.status_page.specs.declared.snapshot.Snapshot.{Snapshot}
+use Rattle.status_page.specs.declared.run_facts.ShownRun.{ShownRun}
 use Rattle.status_page.specs.Host.{is_here}
-use Rattle.status_page.specs.Metrics.{metrics_text}
+use Rattle.status_page.specs.RunFacts.{run_metrics}
 use Rattle.status_page.specs.State.{state_tokens}
 
 -- the resource at a path
@@ -35,11 +35,11 @@ media_type Metrics = codes "text/plain; version=0.0.4; charset=utf-8"
 unfoldable pub page_text : List ℕ
 page_text = HTML.now
 
--- the content of a resource, by a snapshot
-abbrev pub content_of : Snapshot → Resource → List ℕ
-content_of snapshot Page = page_text
-content_of snapshot State = print (state_tokens snapshot)
-content_of snapshot Metrics = metrics_text snapshot
+-- the content of a resource of this run's page
+abbrev pub content_of : ShownRun → Resource → List ℕ
+content_of run Page = page_text
+content_of run State = print (state_tokens run.snapshot)
+content_of run Metrics = run_metrics run
 
 -- what a browser may do with a response (Content Security Policy Level 3): it uses the style, the script and the icon that
 -- are in it, sends requests to its own origin alone, and shows it in no frame
@@ -70,15 +70,15 @@ abbrev pub misdirected_text : List ℕ
 misdirected_text = codes "The page answers only to the hosts 127.0.0.1, localhost and [::1].\n"
 
 -- 421 for another host; else 404 without a resource, 405 for a method that does not only read, and else the resource
-abbrev pub answers : Snapshot → Bool → Bool → Option Resource → Response → Type 0
-answers snapshot false read found response = IsResponse 421 misdirected_fields misdirected_text response
-answers snapshot true read None response = IsResponse 404 guard_fields [] response
-answers snapshot true false (Some resource) response = IsResponse 405 refused_fields [] response
-answers snapshot true true (Some resource) response = IsResponse 200 (shown_fields resource) (content_of snapshot resource) response
+abbrev pub answers : ShownRun → Bool → Bool → Option Resource → Response → Type 0
+answers run false read found response = IsResponse 421 misdirected_fields misdirected_text response
+answers run true read None response = IsResponse 404 guard_fields [] response
+answers run true false (Some resource) response = IsResponse 405 refused_fields [] response
+answers run true true (Some resource) response = IsResponse 200 (shown_fields resource) (content_of run resource) response
 
 -- the response to a request, by its host, its method and its path
-abbrev pub IsAnswer : Snapshot → Option (List ℕ) → List ℕ → List ℕ → Response → Type 0
-IsAnswer snapshot host method path response = answers snapshot (is_here host) (is_read method) (resource_of path) response
+abbrev pub IsAnswer : ShownRun → Option (List ℕ) → List ℕ → List ℕ → Response → Type 0
+IsAnswer run host method path response = answers run (is_here host) (is_read method) (resource_of path) response
 
 -- the limits of a connection: at most 8,192 octets of a head and of trailers, at most `most` of a body, and no further
 -- request before the response

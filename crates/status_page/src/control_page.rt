@@ -71,7 +71,8 @@ impl<D: GainRequester> ControlPage<D> {
 
     /// Responds from a newer snapshot from now on.
     pub fn update(&mut self, snapshot: Snapshot)
-        ensures page { self.new.page ≡ snapshot }
+        ensures facts { self.new.page.facts ≡ self.old.page.facts }
+        ensures snapshot { self.new.page.snapshot ≡ snapshot }
         ensures control { self.new.control ≡ self.old.control }
         ensures change_rate { self.new.change_rate ≡ self.old.change_rate }
         ensures read_rate { self.new.read_rate ≡ self.old.read_rate }
@@ -213,7 +214,7 @@ fn show_page(response: &mut Response) -> Result<(), AllocError>
 }
 
 impl<D: GainRequester> ServedPage for ControlPage<D> {
-    ghost shown = { λ page. page.page };
+    ghost shown = { λ page. page.page.snapshot };
 
     fn connection(&self, alloc: Global, keys: RandomState) -> Connection {
         new_control_connection(alloc, keys)

@@ -1,12 +1,13 @@
 //! The operator's page of a run: HTML, JSON and Prometheus metrics of a snapshot, and their HTTP
 //! server on 127.0.0.1.
 //!
-//! - **What is shown**: `Snapshot` holds everything. `state_json` and `metrics_text` write its numbers
-//!   under the same keys.
+//! - **What is shown**: `Snapshot` holds all that changes, and `RunFacts` what does not. `state_json` and
+//!   `metrics_text` write the numbers of a snapshot under the same keys.
 //! - **Without sockets**: the caller keeps a `Page` with the newest snapshot, and for each client a
 //!   connection from `new_connection`. After octets arrived, call `read_from` and `Page::answer`. As
 //!   long as the connection `wants_write`, call `write_to` and `answer`. Drop the connection once it
-//!   `is_done`. The page is at `/`, `state_json` at `/state`, and `metrics_text` at `/metrics`.
+//!   `is_done`. The page is at `/`, `state_json` at `/state`, and `metrics_text` at `/metrics`, with the
+//!   metrics of the facts behind it.
 //! - **With sockets**: `PageServer::bind` listens on 127.0.0.1, and each `turn` waits for sockets and
 //!   responds from the page. `serve_page` does so in a thread of its own, and takes a newer snapshot
 //!   from its `RingSource` before each turn.
@@ -30,6 +31,7 @@ mod control_page;
 mod fields;
 mod page;
 mod path_condition;
+mod run_facts;
 mod server;
 mod snapshot;
 
@@ -42,6 +44,7 @@ pub use page::controls_html::CONTROLS;
 pub use page::html::HTML;
 pub use page::metrics::metrics_text;
 pub use page::state::state_json;
+pub use run_facts::RunFacts;
 pub use server::client::{new_connection, new_control_connection};
 pub use server::served::{GainsAnswer, ServedPage};
 pub use server::source::{RingSource, serve_page};

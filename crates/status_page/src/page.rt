@@ -1,6 +1,7 @@
-//! The page: the service that responds to requests from one snapshot. `html` has the page's text, `controls_html` that
-//! of its gains, `state` writes the snapshot as JSON, and `metrics` and `path_states` as metrics, of lines in
-//! `samples` and pieces in `text`. `resource` has the paths, and `host` the hosts to which requests may be addressed.
+//! The page: the service that responds to requests from one snapshot. `html` has the page's text, and `controls_html`
+//! that of its gains. `state` writes the snapshot as JSON. `metrics` and `path_states` write it as metrics, and `facts`
+//! appends those of the run. Their lines are in `samples`, and the pieces of lines in `text`. `resource` has the paths,
+//! and `host` the hosts to which requests may be addressed.
 ghost use Rattle.std.specs.Prelude.{◌≡◌, [], ◌∷◌, ◌++◌, codes, OnOk, IfOk};
 ghost use Rattle.http_server.specs.Connection.{config_of, history};
 ghost use Rattle.http_server.specs.History.{IsServed, Rests};
@@ -18,11 +19,12 @@ ghost use Rattle.status_page.specs.Responses.{
 };
 ghost use Rattle.status_page.specs.declared.page.resource.Resource.TheVariants.{State};
 
+use crate::page::facts::run_metrics;
 use crate::page::host::is_addressed_here;
 use crate::page::html::page_html;
-use crate::page::metrics::metrics_text;
 use crate::page::resource::Resource;
 use crate::page::state::state_json;
+use crate::run_facts::{RunFacts, ShownRun};
 use crate::snapshot::Snapshot;
 use bytes::Bytes;
 use http::{HeaderName, HeaderValue, Method, Request, StatusCode};
@@ -31,6 +33,7 @@ use std::alloc::{AllocError, Global};
 use std::marker::Model;
 
 pub(crate) mod controls_html;
+mod facts;
 pub(crate) mod host;
 pub(crate) mod html;
 pub(crate) mod metrics;
@@ -44,7 +47,7 @@ mod text;
 #[derive(Drop)]
 pub struct Page {
     alloc: Global,
-    snapshot: Snapshot,
+    run: ShownRun,
     /// The response's body at `/state`, once there was a request for it.
     // Kept, since each open page requests it ten times a second: its JSON is written once for all of them.
     state: Option<Bytes>,
@@ -52,34 +55,36 @@ pub struct Page {
 
 impl Model for Page {
     ghost use Rattle.std.specs.Prelude.{◌≡◌, IfSome};
-    ghost use Rattle.status_page.specs.declared.snapshot.Snapshot as shown;
+    ghost use Rattle.status_page.specs.declared.run_facts.ShownRun as shown;
     ghost use Rattle.status_page.specs.declared.page.resource.Resource.TheVariants.{State};
     ghost use Rattle.status_page.specs.Responses.{content_of};
 
-    ghost Value = { shown.Snapshot };
+    ghost Value = { shown.ShownRun };
 
-    ghost view = { λ page. page.snapshot };
+    ghost view = { λ page. page.run };
 
-    ghost invariant = { λ page. IfSome page.state (λ octets. octets ≡ content_of page.snapshot State) };
+    ghost invariant = { λ page. IfSome page.state (λ octets. octets ≡ content_of page.run State) };
 }
 
 impl Page {
-    /// Returns the page of a snapshot.
-    pub fn new(alloc: Global, snapshot: Snapshot) -> Page
-        ensures { result ≡ snapshot }
+    /// Returns the page of a run with these facts and this snapshot.
+    pub fn new(alloc: Global, facts: RunFacts, snapshot: Snapshot) -> Page
+        ensures facts { result.facts ≡ facts }
+        ensures snapshot { result.snapshot ≡ snapshot }
     {
         Page {
             alloc,
-            snapshot,
+            run: ShownRun { facts, snapshot },
             state: None,
         }
     }
 
     /// Responds from a newer snapshot from now on.
     pub fn update(&mut self, snapshot: Snapshot)
-        ensures { self.new ≡ snapshot }
+        ensures facts { self.new.facts ≡ self.old.facts }
+        ensures snapshot { self.new.snapshot ≡ snapshot }
     {
-        self.snapshot = snapshot;
+        self.run.snapshot = snapshot;
         self.state = None;
     }
 
@@ -123,7 +128,7 @@ impl Page {
         match resource {
             Resource::Page => Ok(Bytes::from_static(page_html().as_bytes())),
             Resource::State => self.state(),
-            Resource::Metrics => shared(metrics_text(self.alloc, &self.snapshot)?),
+            Resource::Metrics => shared(run_metrics(self.alloc, &self.run)?),
         }
     }
 
@@ -135,7 +140,7 @@ impl Page {
         if let Some(state) = &self.state {
             return state.clone();
         }
-        let state = shared(state_json(self.alloc, &self.snapshot)?)?;
+        let state = shared(state_json(self.alloc, &self.run.snapshot)?)?;
         self.state = Some(state.clone()?);
         Ok(state)
     }

@@ -10,15 +10,15 @@ use crate::run_files::{RunPaths, files_of};
 use crate::service::{Service, service_in_env};
 use crate::std_fds::is_stdout_terminal;
 use crate::token_file::token_of;
-use command_line::LiveArgs;
+use command_line::{LiveArgs, VERSION};
 use file_commands::{CommandFault, output_result, table_in};
 use live_io::{
     InheritedSockets, LivePorts, RunHealth, SocketConfig, UnexpectedSources, unopened_socket,
 };
-use live_run::{LiveFault, LiveInputs, LiveRun, SignalFile, run_studio_live};
+use live_run::{LiveFault, LiveInputs, LiveRun, PageInputs, SignalFile, run_studio_live};
 use rtp_stream::Path;
-use run_outputs::{OutputEnds, RunStart};
-use status_page::{StreamName, Token};
+use run_outputs::{CreateOutput, OutputEnds, RunStart};
+use status_page::{RunFacts, StreamName, Token};
 use std::alloc::{AllocError, Global};
 use std::io::Write;
 use std::net::Net;
@@ -141,7 +141,7 @@ fn run_loaded<
     alloc: Global,
     loaded: &LoadedRun<'_>,
     outputs: (RunPaths<'_, '_, H>, Option<Service<NotifySocket>>),
-    token: Option<Token>,
+    control: Option<Token>,
     output: &mut W,
     faults: &mut H::Stderr,
 ) -> Result<(), ProgramFault> {
@@ -154,9 +154,47 @@ fn run_loaded<
         inputs: live_inputs(loaded, &progress, start),
     };
     let outputs = (files.outputs(&progress), service);
+    let page = PageRequest {
+        started: loaded.opened.started,
+        control,
+    };
     let lines = LiveLines::new(faults);
-    let ran = run_studio_live(rt, alloc, run, outputs, token, output, lines);
+    let ran = run_with_page(rt, alloc, run, outputs, page, output, lines);
     finish(alloc, ran, studio, run.inputs, loaded.args, output)
+}
+
+/// What a run's page is opened with, but for the program's version.
+#[derive(Drop)]
+struct PageRequest {
+    /// The time of day in UTC at which the run opened, in seconds since 1970, if it could be read.
+    started: Option<u64>,
+    control: Option<Token>,
+}
+
+/// Runs a studio as `run_studio_live` does, with a page that shows this program's version.
+// In a function of its own: the borrow checker doesn't cover a call in which what is `'static`, as the version, stands
+// next to outputs of several lifetimes. Here the outputs are a type parameter.
+fn run_with_page<
+    R: Threads + Wait + Sync + Net + Clock + RandomSource,
+    W: Write,
+    E: Write + Send + Drop,
+    O: CreateOutput,
+>(
+    rt: &R,
+    alloc: Global,
+    run: LiveRun<'_>,
+    outputs: O,
+    page: PageRequest,
+    output: &mut W,
+    faults: E,
+) -> Result<OutputEnds, LiveFault> {
+    let PageRequest { started, control } = page;
+    let facts = RunFacts {
+        version: VERSION,
+        started,
+    };
+    let page = PageInputs { facts, control };
+    run_studio_live(rt, alloc, run, outputs, page, output, faults)
 }
 
 /// Returns the inputs of a run with this start, whose outputs set this progress.

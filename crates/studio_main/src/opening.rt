@@ -11,12 +11,17 @@ use studio_config::StudioSpec;
 /// The number of sampling instants in a minute.
 const MINUTE_INSTANTS: u64 = 2_880_000;
 
+/// The number of sampling instants in a second.
+const SECOND_INSTANTS: u64 = 48_000;
+
 /// A studio that opens, with the clocks at its opening time.
 #[derive(Drop)]
 pub(crate) struct OpenedStudio {
     pub(crate) studio: StudioSpec,
     /// The reading of the system's monotonic clock, if it could be read.
     pub(crate) began: Option<Duration>,
+    /// The time of day in UTC, in seconds since 1970, if it could be read.
+    pub(crate) started: Option<u64>,
     /// The division of the mix into WAV files, if it is divided.
     pub(crate) parts: Option<AudioParts>,
 }
@@ -44,6 +49,7 @@ pub(crate) fn open_studio<R: Clock>(
         (None, None) => Ok(OpenedStudio {
             studio,
             began: rt.monotonic().ok(),
+            started: rt.since_1970().ok().map(|time| time.as_secs()),
             parts: None,
         }),
     }
@@ -61,8 +67,15 @@ fn opened_at(studio: StudioSpec, present: TaiTime, minutes: Option<u64>) -> Open
     OpenedStudio {
         studio,
         began: Some(present.began),
+        started: second_of(present.utc),
         parts,
     }
+}
+
+/// Returns the second of a time in sampling instants since 1970, or `None` if the time is before 1970.
+fn second_of(instants: i64) -> Option<u64> {
+    let instants = u64::try_from(instants).ok()?;
+    Some(instants / SECOND_INSTANTS)
 }
 
 /// Returns the present time by International Atomic Time with this offset, and in UTC.

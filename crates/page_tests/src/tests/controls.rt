@@ -1,7 +1,7 @@
 //! Requests to the gains of a run and their responses, over a requester in memory.
 use super::client::{sent_by, stands_alone};
 use super::memory_requester::MemoryRequester;
-use super::sample::snapshot;
+use super::sample::{facts, snapshot};
 use http_server::Connection;
 use status_page::{
     CONTROLS, Control, ControlPage, GainShape, HTML, Page, Token, new_control_connection,
@@ -23,7 +23,7 @@ fn page_over(
 ) -> ControlPage<MemoryRequester> {
     let token = Token::from_bytes(b"0123456789abcdef\n").expect(rt, "a token");
     let control = Control::new(alloc, requester, token).expect(rt, "there is memory");
-    ControlPage::new(Page::new(alloc, snapshot()), control)
+    ControlPage::new(Page::new(alloc, facts(), snapshot()), control)
 }
 
 /// Returns a page over a new requester.

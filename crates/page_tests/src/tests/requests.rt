@@ -1,8 +1,8 @@
 //! Requests and their responses, octet by octet.
 use super::client::{sent_by, stands_alone};
-use super::sample::snapshot;
+use super::sample::{facts, snapshot};
 use super::texts::STATE;
-use status_page::{HTML, Page, new_connection, state_json};
+use status_page::{HTML, Page, RunFacts, new_connection, state_json};
 use std::alloc::Global;
 use std::hash::RandomState;
 use std::process::Abort;
@@ -108,7 +108,7 @@ const SHORT: [(&str, &[&str]); 12] = [
 /// no request.
 #[test]
 fn requests_are_answered_octet_by_octet(rt: HostRuntime) {
-    let page = &mut Page::new(rt.alloc(), snapshot());
+    let page = &mut Page::new(rt.alloc(), facts(), snapshot());
     for (request, answer) in &SHORT {
         is_answered(&rt, rt.alloc(), page, *request, *answer);
     }
@@ -150,7 +150,7 @@ const KEPT: [&str; 7] = [
 /// One request after another on one connection: each has its response whole, with the length of its body.
 #[test]
 fn a_connection_is_kept(rt: HostRuntime) {
-    let page = &mut Page::new(rt.alloc(), snapshot());
+    let page = &mut Page::new(rt.alloc(), facts(), snapshot());
     let requests =
         b"GET /state HTTP/1.1\r\nHost: localhost\r\n\r\nGET /?now HTTP/1.1\r\nHost: localhost\r\n\r\n";
     has_kept_parts(&rt, &answers(&rt, rt.alloc(), page, requests), HTML);
@@ -160,6 +160,48 @@ fn a_connection_is_kept(rt: HostRuntime) {
 fn has_kept_parts(rt: &impl Abort, sent: &[u8], html: &str) {
     let rest = behind(sent, &KEPT).expect(rt, "the parts");
     assert!(rt; rest.ends_with(html.as_bytes()));
+}
+
+/// The end of the metrics, from the last one of the snapshot to the time at which the run opened.
+const METRICS_END: &str = "\ndarbexum_pcm_left_out_total 22\n\
+    # HELP darbexum_build_info The version of the program, in a label. The value is 1.\n\
+    # TYPE darbexum_build_info gauge\n\
+    darbexum_build_info{version=\"7.8.9\"} 1\n\
+    # HELP darbexum_start_time_seconds The time at which the run opened, in seconds since 1970 (Unix time).\n\
+    # TYPE darbexum_start_time_seconds gauge\n";
+
+/// Behind the metrics of the snapshot are those of the run: its version, and the time at which it opened.
+#[test]
+fn the_metrics_end_with_the_facts_of_the_run(rt: HostRuntime) {
+    let page = &mut Page::new(rt.alloc(), facts(), snapshot());
+    metrics_end_with(
+        &rt,
+        rt.alloc(),
+        page,
+        "darbexum_start_time_seconds 1764561185\n",
+    );
+}
+
+/// The time at which the run opened has no line if it is not known.
+#[test]
+fn an_unknown_start_has_no_line(rt: HostRuntime) {
+    let unknown = RunFacts {
+        version: "7.8.9",
+        started: None,
+    };
+    let page = &mut Page::new(rt.alloc(), unknown, snapshot());
+    metrics_end_with(&rt, rt.alloc(), page, "");
+}
+
+/// Tests that the metrics of a page end with `METRICS_END` and this line, or none.
+fn metrics_end_with(rt: &(impl Abort + RandomSource), alloc: Global, page: &mut Page, line: &str) {
+    let request = b"GET /metrics HTTP/1.1\r\nHost: localhost\r\n\r\n";
+    let sent = answers(rt, alloc, page, request);
+    let rest = sent
+        .as_slice()
+        .strip_suffix(line.as_bytes())
+        .expect(rt, "the line");
+    assert!(rt; rest.ends_with(METRICS_END.as_bytes()));
 }
 
 /// Returns a request that begins so, of 9,000 octets.
@@ -178,7 +220,7 @@ const LONG: [(&str, &str); 2] = [
 /// A head of more than 8,192 octets is refused, wherever it is cut.
 #[test]
 fn a_long_head_is_refused(rt: HostRuntime) {
-    let page = &mut Page::new(rt.alloc(), snapshot());
+    let page = &mut Page::new(rt.alloc(), facts(), snapshot());
     for (front, answer) in &LONG {
         is_refused(&rt, rt.alloc(), page, *front, *answer);
     }

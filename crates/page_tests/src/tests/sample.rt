@@ -1,16 +1,24 @@
-//! A snapshot, in which each number is another.
+//! A snapshot, in which each number is another, and the facts of its run.
 //!
 //! All parts find space in it, which the texts show: so its functions test no result, and hold little across a test.
 use rtp_stats::ArrivalMargin;
 use rtp_stream::{Counts, PathCounts};
 use status_page::{
-    ChannelState, Condition, CopyCounts, PathCondition, PathState, Snapshot, SocketState,
+    ChannelState, Condition, CopyCounts, PathCondition, PathState, RunFacts, Snapshot, SocketState,
     StreamName, StreamState,
 };
 use studio_io::{OutputCounts, OutputEnd, OutputKind, OutputState, OutputStates};
 
 /// A name with all that has to be escaped.
 pub(super) const NAME: &str = "L\"\\\n<b>";
+
+/// Returns the facts of a run that opened on 2025-12-01 at 03:53:05 UTC.
+pub(super) fn facts() -> RunFacts {
+    RunFacts {
+        version: "7.8.9",
+        started: Some(1_764_561_185),
+    }
+}
 
 /// Returns the counts of two datagrams that were no packets.
 fn path_counts() -> PathCounts {

@@ -1,5 +1,5 @@
 //! Clients at real sockets, with the server and the clients in one thread.
-use super::sample::snapshot;
+use super::sample::{facts, snapshot};
 use status_page::{MAX_CLIENTS, Page, PageServer};
 use std::alloc::Global;
 use std::hash::RandomState;
@@ -92,7 +92,12 @@ fn serves(rt: &impl Abort, server: &mut PageServer, page: &mut Page, clients: &m
 
 /// Tests that with a page that has something to show.
 fn serves_page(rt: &impl Abort, alloc: Global, server: &mut PageServer, clients: &mut [TcpStream]) {
-    serves(rt, server, &mut Page::new(alloc, snapshot()), clients);
+    serves(
+        rt,
+        server,
+        &mut Page::new(alloc, facts(), snapshot()),
+        clients,
+    );
 }
 
 /// 70 clients at once: 64 are answered, and the others are disconnected. The 64 do nothing more, and are disconnected

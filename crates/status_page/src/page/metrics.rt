@@ -14,7 +14,6 @@ ghost use Rattle.status_page.specs.Metrics.{
   output_families,
   failed_samples,
   failed_text,
-  count_family,
   file_states,
   left_out_family,
   left_out_family_if,
@@ -24,6 +23,7 @@ ghost use Rattle.status_page.specs.Metrics.{
   reader_states,
   run_output_families,
   run_output_family,
+  single_family,
   stale_text,
   written_family,
   metrics_text,
@@ -37,8 +37,8 @@ use crate::fields::path::{PATH_FIELDS, PathField};
 use crate::fields::stream::StreamField;
 use crate::page::path_states::push_path_conditions;
 use crate::page::samples::{
-    push_condition_sample, push_count_sample, push_failed_sample, push_output_sample,
-    push_path_sample, push_state_sample, push_stream_sample,
+    push_condition_sample, push_failed_sample, push_output_sample, push_path_sample,
+    push_single_sample, push_state_sample, push_stream_sample,
 };
 use crate::page::text::push_header;
 use crate::snapshot::{ChannelState, Condition, PathState, Snapshot, StreamState};
@@ -279,7 +279,14 @@ const STALE_HELP: &str =
 fn push_stale(text: &mut Vec<u8>, stale: u64) -> Result<(), AllocError>
     ensures { OnOk result (text.new.items ≡ text.old.items ++ stale_text stale) }
 {
-    push_count_family(text, "sends_", "stale", STALE_HELP, Some(stale))
+    push_single_family(
+        text,
+        "sends_",
+        "stale",
+        MetricKind::Counter,
+        STALE_HELP,
+        Some(stale),
+    )
 }
 
 /// Appends the metrics of the outputs of these kinds.
@@ -343,10 +350,11 @@ fn push_written(
 ) -> Result<(), AllocError>
     ensures { OnOk result (text.new.items ≡ text.old.items ++ written_family kind written) }
 {
-    push_count_family(
+    push_single_family(
         text,
         kind.metric_group(),
         kind.unit(),
+        MetricKind::Counter,
         kind.written_help(),
         written,
     )
@@ -377,27 +385,30 @@ fn push_left_out(
 ) -> Result<(), AllocError>
     ensures { OnOk result (text.new.items ≡ text.old.items ++ left_out_family kind left_out) }
 {
-    push_count_family(
+    push_single_family(
         text,
         kind.metric_group(),
         "left_out",
+        MetricKind::Counter,
         kind.left_out_help(),
         left_out,
     )
 }
 
-/// Appends the metric of a count without labels.
-fn push_count_family(
+/// Appends the metric of a number without labels.
+pub(crate) fn push_single_family(
     text: &mut Vec<u8>,
     group: &str,
     key: &str,
+    kind: MetricKind,
     help: &str,
-    count: Option<u64>,
+    value: Option<u64>,
 ) -> Result<(), AllocError>
-    ensures { OnOk result (text.new.items ≡ text.old.items ++ count_family group.now key.now help.now count) }
+    ensures { OnOk result
+        (text.new.items ≡ text.old.items ++ single_family group.now key.now kind help.now value) }
 {
-    push_header(text, group, key, MetricKind::Counter, help)?;
-    push_count_sample(text, group, key, count)
+    push_header(text, group, key, kind, help)?;
+    push_single_sample(text, group, key, kind, value)
 }
 
 /// Appends the lines of the states of an output, which has a reader or not: 1 for the state of this name, and 0 for the

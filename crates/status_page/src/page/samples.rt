@@ -4,7 +4,7 @@ ghost use Rattle.status_page.specs.Metrics.{
   change_text,
   name_label,
   failed_sample,
-  count_sample,
+  single_sample,
   state_sample,
   stream_labels,
   value_text,
@@ -15,6 +15,7 @@ ghost use Rattle.status_page.specs.Metrics.{
   path_condition_sample,
   output_sample,
 };
+ghost use Rattle.status_page.specs.RunFacts.{version_sample};
 
 use crate::fields::output::OutputField;
 use crate::fields::path::{PathField, flag};
@@ -212,21 +213,35 @@ pub(crate) fn push_state_sample(
     push_value(text, flag(state == name))
 }
 
-/// Appends the line with a count without labels. Appends nothing if the count is not known.
-#[tactic(auto, unfolding(crate::specs::Metrics::count_sample))]
-pub(crate) fn push_count_sample(
+/// Appends the line with a number without labels. Appends nothing if the number is not known.
+#[tactic(auto, unfolding(crate::specs::Metrics::single_sample))]
+pub(crate) fn push_single_sample(
     text: &mut Vec<u8>,
     group: &str,
     key: &str,
-    count: Option<u64>,
+    kind: MetricKind,
+    value: Option<u64>,
 ) -> Result<(), AllocError>
-    ensures { OnOk result (text.new.items ≡ text.old.items ++ count_sample group.now key.now count) }
+    ensures { OnOk result
+        (text.new.items ≡ text.old.items ++ single_sample group.now key.now kind value) }
 {
-    let Some(count) = count else {
+    let Some(value) = value else {
         return Ok(());
     };
-    push_metric(text, group, key, MetricKind::Counter)?;
+    push_metric(text, group, key, kind)?;
     push(text, " ")?;
-    push_number(text, count)?;
+    push_number(text, value)?;
     push(text, "\n")
+}
+
+/// Appends the line with the program's version.
+#[tactic(auto, unfolding(crate::specs::RunFacts::version_sample))]
+pub(crate) fn push_version_sample(text: &mut Vec<u8>, version: &str) -> Result<(), AllocError>
+    ensures { OnOk result (text.new.items ≡ text.old.items ++ version_sample version.now) }
+{
+    push_metric(text, "build_", "info", MetricKind::Gauge)?;
+    push(text, "{version=\"")?;
+    push_label(text, version)?;
+    push(text, "\"")?;
+    push_value(text, 1)
 }

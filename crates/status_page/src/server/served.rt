@@ -43,7 +43,7 @@ pub trait ServedPage: Drop {
 }
 
 impl ServedPage for Page {
-    ghost shown = { λ page. page };
+    ghost shown = { λ page. page.snapshot };
 
     fn connection(&self, alloc: Global, keys: RandomState) -> Connection {
         new_connection(alloc, keys)

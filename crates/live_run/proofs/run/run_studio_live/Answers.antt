@@ -11,7 +11,7 @@ returns-in_err-write_report-clause-fault g c =
     let written = g.W.Write.contents c.args.output.now in
     let written_then = g.W.Write.contents c.write_report.new.writer in
     let text = report_text c.in_ok-ended.ended.report in
-    broke_off c.args.run.options.now.one_thread (is_some c.args.control) c.args.run.studio.now written written_then c.from_residual-in_err-write_report.result c.from_residual-in_err-write_report.ensures.1
+    broke_off c.args.run.options.now.one_thread (is_some c.args.page.control) c.args.run.studio.now written written_then c.from_residual-in_err-write_report.result c.from_residual-in_err-write_report.ensures.1
     (record {
       report = c.in_ok-ended.ended.report;
       is = c.in_ok-ended.ensures.run;
@@ -23,7 +23,7 @@ returns-in_err-finish-clause-fault g c =
     let written = g.W.Write.contents c.args.output.now in
     let held = c.write_report.new.text in
     let text = report_text c.in_ok-ended.ended.report in
-    broke_off c.args.run.options.now.one_thread (is_some c.args.control) c.args.run.studio.now written (g.W.Write.contents c.finish.new.writer) c.from_residual-in_err-finish.result c.from_residual-in_err-finish.ensures.1
+    broke_off c.args.run.options.now.one_thread (is_some c.args.page.control) c.args.run.studio.now written (g.W.Write.contents c.finish.new.writer) c.from_residual-in_err-finish.result c.from_residual-in_err-finish.ensures.1
     (record {
       report = c.in_ok-ended.ended.report;
       is = c.in_ok-ended.ensures.run;
