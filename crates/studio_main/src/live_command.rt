@@ -163,7 +163,7 @@ fn run_loaded<
     finish(alloc, ran, studio, run.inputs, loaded.args, output)
 }
 
-/// What a run's page is opened with, but for the program's version.
+/// The inputs of a run's page, but for the program's version.
 #[derive(Drop)]
 struct PageRequest {
     /// The time of day in UTC at which the run opened, in seconds since 1970, if it could be read.
