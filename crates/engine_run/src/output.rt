@@ -39,7 +39,7 @@ pub(crate) fn send_due<K: Sink>(
     // Called for its contract: a datagram has at most `MAX_OUTPUT_OCTETS` octets, so it fits `out`.
     let _short = engine.output().datagram_len();
     while let Some(len) = engine.turn(now, &mut out)? {
-        let answer = sink.send(&out[..len]);
+        let answer = sink.send_block(&out[..len], &engine.last_block());
         counts.add(answer);
     }
     Ok(())
@@ -58,7 +58,7 @@ pub(crate) fn send_rest<K: Sink>(engine: &mut Engine, sink: &mut K, counts: &mut
     // Called for its contract: a datagram has at most `MAX_OUTPUT_OCTETS` octets, so it fits `out`.
     let _short = engine.output().datagram_len();
     while let Some(len) = engine.drain(&mut out) {
-        let answer = sink.send(&out[..len]);
+        let answer = sink.send_block(&out[..len], &engine.last_block());
         counts.add(answer);
     }
 }

@@ -6,7 +6,7 @@ ghost use Rattle.live_audio.specs.PcmProducer.{HasProduced, LeavesOut, Takes};
 use crate::producer::samples_of;
 use rtrb::Producer;
 use run_outputs::MixOutput;
-use studio_io::{OutputEnd, OutputKind, OutputProgress};
+use studio_io::{MixedBlock, OutputEnd, OutputKind, OutputProgress};
 
 /// The end of a ring in the run's thread, into which the samples of each datagram are put. It never waits.
 #[derive(Drop)]
@@ -90,11 +90,11 @@ impl<'r> PcmProducer<'r> {
 }
 
 impl MixOutput for PcmProducer<'_> {
-    ghost mixes = { λ old datagram new. Takes old (drop 12 datagram) new };
+    ghost mixes = { λ old mixed new. Takes old (drop 12 mixed.datagram) new };
 
     ghost ended = { λ producer kind. None };
 
-    fn mixed(&mut self, datagram: &[u8]) {
+    fn mixed(&mut self, datagram: &[u8], _block: &MixedBlock<'_>) {
         self.put(datagram);
     }
 

@@ -4,7 +4,7 @@ ghost use Rattle.live_audio.specs.Producer.{Puts, StaysEnded, wav_end};
 
 use rtrb::Producer;
 use run_outputs::MixOutput;
-use studio_io::{OutputEnd, OutputKind, OutputProgress};
+use studio_io::{MixedBlock, OutputEnd, OutputKind, OutputProgress};
 
 /// The end of a ring in the run's thread, into which the samples of each datagram are put. It never waits.
 #[derive(Drop)]
@@ -59,11 +59,11 @@ impl<'r> AudioProducer<'r> {
 }
 
 impl MixOutput for AudioProducer<'_> {
-    ghost mixes = { λ old datagram new. Puts old (drop 12 datagram) new × StaysEnded old new };
+    ghost mixes = { λ old mixed new. Puts old (drop 12 mixed.datagram) new × StaysEnded old new };
 
     ghost ended = { λ producer kind. wav_end kind producer };
 
-    fn mixed(&mut self, datagram: &[u8]) {
+    fn mixed(&mut self, datagram: &[u8], _block: &MixedBlock<'_>) {
         self.put(datagram);
     }
 

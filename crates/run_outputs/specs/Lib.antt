@@ -1,3 +1,4 @@
 pub mod Events
+pub mod Mixes
 pub mod Ends
 pub mod Create

@@ -5,7 +5,7 @@
 //!
 //! 1. An `EventOutput` takes the events of a run in one thread: each datagram that arrived, each
 //!    change of gains, and the close.
-//! 2. A `MixOutput` takes each datagram of the mix after it was sent, in a run of either form.
+//! 2. A `MixOutput` takes each datagram of the mix with its block, after it was sent, in a run of either form.
 //! 3. A `SideTask` writes what these two took, in a thread of its own.
 //!
 //! `CreateOutput` makes the three. `Option<O>` and pairs of outputs are outputs too, and `NoOutput`

@@ -5,23 +5,24 @@ ghost use Rattle.studio_io.specs.declared.output_kind.OutputKind.{OutputKind};
 ghost use Rattle.studio_io.specs.declared.output_state.OutputEnd.{OutputEnd};
 ghost use Rattle.run_outputs.specs.Ends.{either_end, end_if};
 ghost use Rattle.run_outputs.specs.Events.{Arrived, Changed, TakesIf};
+ghost use Rattle.run_outputs.specs.Mixes.{Mixed, mixed_alone, mixed_of};
 
 use crate::events::{ArrivedDatagram, EventOutput, TakenChange};
-use studio_io::{OutputEnd, OutputKind, SendAnswer, Sink};
+use studio_io::{Missing, MixedBlock, OutputEnd, OutputKind, SendAnswer, Sink};
 
-/// An output that takes the datagrams of the mix, in their order.
+/// An output that takes the datagrams of the mix with their blocks, in their order.
 ///
 /// Its call runs in the thread that mixes, so it must not wait.
 pub trait MixOutput: Drop {
-    /// Holds between the states before and after a datagram of the mix with these octets.
-    ghost mixes: { Self → List ℕ → Self → Type 0 };
+    /// Holds between the states before and after a datagram of the mix with its block.
+    ghost mixes: { Self → Mixed → Self → Type 0 };
 
     /// The reason why the output of a kind has ended, if this part of it knows one.
     ghost ended: { Self → OutputKind → Option OutputEnd };
 
-    /// Takes a datagram of the mix, after it was sent.
-    fn mixed(&mut self, datagram: &[u8])
-        ensures { mixes self.old datagram.now self.new };
+    /// Takes a datagram of the mix and its block, after it was sent.
+    fn mixed(&mut self, datagram: &[u8], block: &MixedBlock<'_>)
+        ensures { mixes self.old (mixed_of datagram.now block.now) self.new };
 
     /// Returns the reason why the output of a kind has ended, or `None` if it has not, or this part of it knows none.
     fn end_of(&self, kind: OutputKind) -> Option<OutputEnd>
@@ -29,13 +30,13 @@ pub trait MixOutput: Drop {
 }
 
 impl<O: MixOutput> MixOutput for Option<O> {
-    ghost mixes = { λ old datagram new. TakesIf (λ one other. O.mixes one datagram other) old new };
+    ghost mixes = { λ old mixed new. TakesIf (λ one other. O.mixes one mixed other) old new };
 
     ghost ended = { λ output kind. end_if O.ended output kind };
 
-    fn mixed(&mut self, datagram: &[u8]) {
+    fn mixed(&mut self, datagram: &[u8], block: &MixedBlock<'_>) {
         if let Some(output) = self {
-            output.mixed(datagram);
+            output.mixed(datagram, block);
         }
     }
 
@@ -48,13 +49,13 @@ impl<O: MixOutput> MixOutput for Option<O> {
 }
 
 impl<A: MixOutput, B: MixOutput> MixOutput for (A, B) {
-    ghost mixes = { λ old datagram new. A.mixes old.0 datagram new.0 × B.mixes old.1 datagram new.1 };
+    ghost mixes = { λ old mixed new. A.mixes old.0 mixed new.0 × B.mixes old.1 mixed new.1 };
 
     ghost ended = { λ output kind. either_end (A.ended output.0 kind) (B.ended output.1 kind) };
 
-    fn mixed(&mut self, datagram: &[u8]) {
-        self.0.mixed(datagram);
-        self.1.mixed(datagram);
+    fn mixed(&mut self, datagram: &[u8], block: &MixedBlock<'_>) {
+        self.0.mixed(datagram, block);
+        self.1.mixed(datagram, block);
     }
 
     fn end_of(&self, kind: OutputKind) -> Option<OutputEnd> {
@@ -70,11 +71,11 @@ impl<A: MixOutput, B: MixOutput> MixOutput for (A, B) {
 pub struct NoOutput;
 
 impl MixOutput for NoOutput {
-    ghost mixes = { λ old datagram new. new ≡ old };
+    ghost mixes = { λ old mixed new. new ≡ old };
 
     ghost ended = { λ output kind. None };
 
-    fn mixed(&mut self, _datagram: &[u8]) {}
+    fn mixed(&mut self, _datagram: &[u8], _block: &MixedBlock<'_>) {}
 
     fn end_of(&self, _kind: OutputKind) -> Option<OutputEnd> {
         None
@@ -122,11 +123,12 @@ impl<K: Sink, M: MixOutput> OutputSink<K, M> {
         OutputSink { sink, output }
     }
 
-    /// Returns the output that takes what was sent.
-    pub fn output(&self) -> &M
-        ensures { result.now ≡ self.now.output }
+    /// Returns the sink that sends, and the output that takes what was sent.
+    pub fn into_parts(self) -> (K, M)
+        ensures { result ≡ (self.sink, self.output) }
     {
-        &self.output
+        let OutputSink { sink, output } = self;
+        (sink, output)
     }
 }
 
@@ -138,11 +140,25 @@ impl<K: Sink, M: MixOutput> Sink for OutputSink<K, M> {
     fn send(&mut self, datagram: &[u8]) -> SendAnswer
         ensures handed { Hands (K.handed self.old.sink) (datagram.now ∷ []) (K.handed self.new.sink) }
         ensures answered { Returns (K.answered self.old.sink) (result ∷ []) (K.answered self.new.sink) }
-        ensures mixed { M.mixes self.old.output datagram.now self.new.output }
+        ensures mixed { M.mixes self.old.output (mixed_alone datagram.now) self.new.output }
+    {
+        let answer = self.sink.send(datagram);
+        let block = MixedBlock {
+            inputs: &[],
+            missing: Missing::NOTHING,
+        };
+        self.output.mixed(datagram, &block);
+        answer
+    }
+
+    fn send_block(&mut self, datagram: &[u8], block: &MixedBlock<'_>) -> SendAnswer
+        ensures handed { Hands (K.handed self.old.sink) (datagram.now ∷ []) (K.handed self.new.sink) }
+        ensures answered { Returns (K.answered self.old.sink) (result ∷ []) (K.answered self.new.sink) }
+        ensures mixed { M.mixes self.old.output (mixed_of datagram.now block.now) self.new.output }
     {
         // After it was sent, so that the outputs do not delay the datagram.
-        let answer = self.sink.send(datagram);
-        self.output.mixed(datagram);
+        let answer = self.sink.send_block(datagram, block);
+        self.output.mixed(datagram, block);
         answer
     }
 }

@@ -11,7 +11,7 @@ use std::sync::atomic::{AtomicU32, Ordering};
 use std::thread::Parker;
 use std::time::Duration;
 use studio_config::StudioSpec;
-use studio_io::{OutputEnd, OutputKind};
+use studio_io::{MixedBlock, OutputEnd, OutputKind};
 
 /// The state of a start that is still under way.
 const PENDING: u32 = 0;
@@ -103,16 +103,16 @@ pub struct NotedMix<'a, M> {
 }
 
 impl<M: MixOutput> MixOutput for NotedMix<'_, M> {
-    ghost mixes = { λ old datagram new. M.mixes old.mix datagram new.mix };
+    ghost mixes = { λ old mixed new. M.mixes old.mix mixed new.mix };
 
     ghost ended = { λ output kind. M.ended output.mix kind };
 
-    fn mixed(&mut self, datagram: &[u8]) {
+    fn mixed(&mut self, datagram: &[u8], block: &MixedBlock<'_>) {
         if !self.has_begun {
             self.has_begun = true;
             self.start.set_begun();
         }
-        self.mix.mixed(datagram);
+        self.mix.mixed(datagram, block);
     }
 
     fn end_of(&self, kind: OutputKind) -> Option<OutputEnd> {

@@ -9,8 +9,8 @@ use crate::rings::marks::MarkConsumer;
 use crate::stream_end::turns::StreamDone;
 use gain_mix::{ChangeFault, Matrix};
 use rtp_stats::MixStatsSender;
-use studio_io::{GainAnswer, GainRequest};
-use studio_mix::{Missing, Mixer};
+use studio_io::{GainAnswer, GainRequest, Missing, MixedBlock};
+use studio_mix::Mixer;
 
 pub(crate) mod marks_in;
 
@@ -125,6 +125,14 @@ impl MixEnd {
             → result ≡ missing_in studio (accepted_feeds studio.streams self.now.sides.items) number }
     {
         self.mixer.missing()
+    }
+
+    /// Returns the last datagram's block: its inputs, and what was missing in it.
+    pub fn last_block(&self) -> MixedBlock<'_>
+        ensures inputs { result.inputs.now ≡ self.now.mixer.inputs }
+        ensures missing { result.missing ≡ self.now.mixer.missing }
+    {
+        self.mixer.last_block()
     }
 
     /// Returns the length of a datagram, in octets, with its RTP header of 12.

@@ -63,7 +63,8 @@ use rtp_stream::{Counts, Path, PathCounts, StreamSpec};
 use std::alloc::{AllocError, Global};
 use std::marker::Model;
 use studio_config::StudioSpec;
-use studio_mix::{Missing, Mixer};
+use studio_io::{Missing, MixedBlock};
+use studio_mix::Mixer;
 use studio_session::{ArriveOutcome, is_runnable};
 
 mod gain_requests;
@@ -458,6 +459,14 @@ impl Engine {
             → result ≡ missing_in studio (feeds_of studio events) number }
     {
         self.mixer.missing()
+    }
+
+    /// Returns the last datagram's block: its inputs, and what was missing in it.
+    pub fn last_block(&self) -> MixedBlock<'_>
+        ensures inputs { result.inputs.now ≡ self.now.mixer.inputs }
+        ensures missing { result.missing ≡ self.now.mixer.missing }
+    {
+        self.mixer.last_block()
     }
 
     /// Returns the deadline of a stream's next slot, in sampling instants, or `None` before its first packet, after a

@@ -4,7 +4,7 @@
 //!
 //! - a `Feed` for each path, which returns its datagrams;
 //! - a `Clock`, or one for each stream if the run has a thread per stream;
-//! - a `Sink`, which takes the datagrams of the mix;
+//! - a `Sink`, which takes the datagrams of the mix, each with the block of which it was mixed;
 //! - if gains are to change while it goes on, a `GainSource`, which it asks for changes; else
 //!   `NoGains`.
 //!
@@ -28,6 +28,7 @@ mod live_options;
 mod memory_clock;
 mod memory_feed;
 mod memory_sink;
+mod mixed_block;
 mod output_kind;
 mod output_progress;
 mod output_state;
@@ -45,6 +46,7 @@ pub use live_options::LiveOptions;
 pub use memory_clock::MemoryClock;
 pub use memory_feed::MemoryFeed;
 pub use memory_sink::MemorySink;
+pub use mixed_block::{Missing, MixedBlock};
 pub use output_kind::{OUTPUT_KINDS, OutputKind};
 pub use output_progress::{OutputProgress, RunProgress};
 pub use output_state::{OutputCounts, OutputEnd, OutputState};

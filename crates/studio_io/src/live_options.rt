@@ -13,4 +13,7 @@ pub struct LiveOptions {
     pub until_eof: bool,
     /// True if the run uses an engine in one thread instead of workers.
     pub one_thread: bool,
+    /// The seconds after the opening in which each copy of the mix waits as if two streams were missing in it. 0 if
+    /// none waits for that.
+    pub yield_seconds: u32,
 }

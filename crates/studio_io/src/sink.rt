@@ -3,6 +3,8 @@ ghost use Rattle.std.specs.Prelude.{◌≡◌, ◌+◌, ◌<◌, ◌^◌, List, 
 ghost use Rattle.studio_io.specs.Sinks.{Hands, Returns};
 ghost use Rattle.studio_io.specs.declared.sink.SendAnswer.{SendAnswer};
 
+use crate::mixed_block::MixedBlock;
+
 /// The result of `Sink::send` for each of the two addresses: true if it took the datagram.
 #[derive(Clone, Copy, PartialEq, Eq)]
 pub struct SendAnswer {
@@ -26,6 +28,15 @@ pub trait Sink: Drop {
     fn send(&mut self, datagram: &[u8]) -> SendAnswer
         ensures handed { Hands (handed self.old) (datagram.now ∷ []) (handed self.new) }
         ensures answered { Returns (answered self.old) (result ∷ []) (answered self.new) };
+
+    /// Sends the datagram of a block to both addresses, and returns the result for each. Runs call this one. It does
+    /// the same as `send`, unless the sink uses the block.
+    fn send_block(&mut self, datagram: &[u8], _block: &MixedBlock<'_>) -> SendAnswer
+        ensures handed { Hands (handed self.old) (datagram.now ∷ []) (handed self.new) }
+        ensures answered { Returns (answered self.old) (result ∷ []) (answered self.new) }
+    {
+        self.send(datagram)
+    }
 }
 
 /// The numbers of datagrams that a sink was passed. At each address the sent and the failed ones add up to all of them.

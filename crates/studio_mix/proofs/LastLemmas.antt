@@ -18,7 +18,7 @@ use Rattle.studio_mix.specs.Missing.{is_used, is_missing, is_heard, at_some, mis
 use Rattle.studio_mix.specs.MissingLanes.{agrees}
 use Rattle.studio_mix.specs.Output.{block_inputs}
 use Rattle.studio_mix.specs.Ready.{are_covered}
-use Rattle.studio_mix.specs.declared.missing.Missing.{Missing}
+use Rattle.studio_io.specs.declared.mixed_block.Missing.{Missing}
 use Rattle.studio_mix.proofs.LawLemmas.{covers_before, listed_on, first_longer, rest_longer, covered_before, values_longer, same_rows}
 use Rattle.studio_mix.proofs.MissingLemmas.{same_in, both_left, both_right, missing_by}
 use Rattle.studio_mix.proofs.MixerLemmas.{next_start}

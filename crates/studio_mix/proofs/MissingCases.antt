@@ -29,7 +29,7 @@ abbrev output : Output
 output = record { enc = L24; channels = 2; frames = 12; pt = 97; ssrc = 2; seq0 = 0; start = pos 0; offset = 0 }
 
 abbrev studio_of : Changes → Studio
-studio_of schedule = record { open_at = pos 0; streams = pair ∷ single ∷ []; output = output; clock = Run; schedule = schedule; ports = record { paths = absent_rows 16; to_a = None; to_b = None }; networks = absent_networks }
+studio_of schedule = record { open_at = pos 0; streams = pair ∷ single ∷ []; output = output; clock = Run; schedule = schedule; ports = record { paths = absent_rows 16; to_a = None; to_b = None }; networks = absent_networks; late = 0 }
 
 -- one gain for each channel of the pair and for the single one, in the row of each channel of the output
 abbrev both_used : Changes

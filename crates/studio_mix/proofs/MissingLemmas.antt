@@ -17,7 +17,7 @@ use Rattle.studio_config.specs.Studio.{Studio}
 use Rattle.studio_mix.specs.Feed.{Feed}
 use Rattle.studio_mix.specs.Lanes.{AreFed, ArePresent, lane_channels}
 use Rattle.studio_mix.specs.Missing.{is_missing, is_heard, at_some, missing_from, heard_from}
-use Rattle.studio_mix.specs.declared.missing.Missing.{Missing}
+use Rattle.studio_io.specs.declared.mixed_block.Missing.{Missing}
 use Rattle.studio_mix.specs.MissingLanes.{is_whole, agrees, is_used_where, missing_lanes, heard_lanes}
 
 -- a test of the numbers from one on: it holds for none of them, or for one

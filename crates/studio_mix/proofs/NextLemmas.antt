@@ -21,7 +21,7 @@ use Rattle.studio_mix.specs.Feed.{Feed}
 use Rattle.studio_mix.specs.Output.{block_samples, datagram_of}
 use Rattle.studio_mix.specs.Lanes.{AreFed, IsLaneAt, lane_channels}
 use Rattle.studio_mix.specs.Mixer.{MixerState, HasFeeds, IsMixer}
-use Rattle.studio_mix.specs.declared.missing.Missing.{Missing}
+use Rattle.studio_io.specs.declared.mixed_block.Missing.{Missing}
 use Rattle.studio_mix.specs.Last.{AreLast}
 use Rattle.studio_mix.specs.Saturated.{AreSaturated}
 use Rattle.studio_mix.proofs.RowLemmas.{rows_whole}

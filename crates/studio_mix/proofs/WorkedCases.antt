@@ -27,7 +27,7 @@ abbrev output : Output
 output = record { enc = L24; channels = 1; frames = 48; pt = 97; ssrc = 2; seq0 = 65535; start = pos 0; offset = 0 }
 
 abbrev studio : Studio
-studio = record { open_at = pos 0; streams = first ∷ second ∷ []; output = output; clock = Run; schedule = record { first = (pos 65536 ∷ pos 65536 ∷ []) ∷ []; later = [] }; ports = record { paths = absent_rows 16; to_a = None; to_b = None }; networks = absent_networks }
+studio = record { open_at = pos 0; streams = first ∷ second ∷ []; output = output; clock = Run; schedule = record { first = (pos 65536 ∷ pos 65536 ∷ []) ∷ []; later = [] }; ports = record { paths = absent_rows 16; to_a = None; to_b = None }; networks = absent_networks; late = 0 }
 
 abbrev samples : ℕ → List ℕ → List ℕ
 samples count octets = flat_map (λ (x : List ℕ). x) (replicate count octets)

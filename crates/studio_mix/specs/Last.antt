@@ -4,7 +4,7 @@ use Rattle.studio_config.specs.Studio.{Studio, channel_total}
 use Rattle.studio_mix.specs.Feed.{Feed}
 use Rattle.studio_mix.specs.Output.{block_inputs}
 use Rattle.studio_mix.specs.Missing.{missing_in}
-use Rattle.studio_mix.specs.declared.missing.Missing.{Missing}
+use Rattle.studio_io.specs.declared.mixed_block.Missing.{Missing}
 
 -- the values of all streams in the block before `next`, and what is missing in it; before the first block the values are
 -- 0 and nothing is missing

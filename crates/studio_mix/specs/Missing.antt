@@ -8,7 +8,7 @@ use Rattle.gain_mix.specs.Gain.{are_used}
 use Rattle.mix_packets.specs.Block.{block_start}
 use Rattle.studio_config.specs.Studio.{Studio}
 use Rattle.studio_mix.specs.Feed.{Feed}
-use Rattle.studio_mix.specs.declared.missing.Missing.{Missing}
+use Rattle.studio_io.specs.declared.mixed_block.Missing.{Missing}
 
 -- a stream whose first channel is `at` is used at a time: a gain in force from one of its channels is not 0
 abbrev pub is_used : Studio → ℕ → Feed → ℤ → Bool

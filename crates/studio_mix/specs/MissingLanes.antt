@@ -5,7 +5,7 @@ use Rattle.std.specs.List.{list_all, list_any, range_with_len}
 use Rattle.lane_align.specs.Lane.{LaneState}
 use Rattle.gain_mix.specs.Changes.{Changes, matrix_at}
 use Rattle.gain_mix.specs.Gain.{are_used}
-use Rattle.studio_mix.specs.declared.missing.Missing.{Missing}
+use Rattle.studio_io.specs.declared.mixed_block.Missing.{Missing}
 
 -- the stream is present in each frame of the lane's block
 abbrev pub is_whole : LaneState → Bool

@@ -14,7 +14,7 @@ use Rattle.studio_mix.specs.Feed.{Feed}
 use Rattle.studio_mix.specs.Lanes.{AreFed, IsLaneAt, lane_channels}
 use Rattle.studio_mix.specs.Saturated.{AreSaturated}
 use Rattle.studio_mix.specs.Last.{AreLast}
-use Rattle.studio_mix.specs.declared.missing.Missing.{Missing}
+use Rattle.studio_io.specs.declared.mixed_block.Missing.{Missing}
 
 -- a mixer as contracts see it; `saturated` has the number of saturated samples of each channel, `inputs` the values of
 -- all streams in the last block, and `missing` what was missing in it

@@ -27,7 +27,6 @@ mod mixer;
 mod whole_laws;
 
 pub use laws::{changes_follow_one_another, later_changes_change_no_block, ready_blocks_stay};
-pub use missing::Missing;
 pub use mixer::Mixer;
 pub use whole_laws::{
     empty_blocks_are_silent, later_changes_keep_what_is_missing, longer_marks_keep_what_is_missing,

@@ -8,25 +8,7 @@ ghost use Rattle.studio_mix.specs.MissingLanes.{agrees, is_used_where, is_whole,
 
 use gain_mix::LiveSchedule;
 use lane_align::Lane;
-
-/// The streams that are missing in a block of a mix: how many, and whether anything else is in it.
-#[derive(Clone, Copy, Debug, PartialEq, Eq)]
-pub struct Missing {
-    /// The number of streams that are used at some time of the block for which no packet of theirs came.
-    ///
-    /// A stream is used while a gain in force from one of its channels isn't 0.
-    pub streams: usize,
-    /// Streams are missing, and at no time of the block is there a packet of a stream that is used: its samples are 0.
-    pub is_empty: bool,
-}
-
-impl Missing {
-    /// Nothing is missing.
-    pub const NOTHING: Missing = Missing {
-        streams: 0,
-        is_empty: false,
-    };
-}
+use studio_io::Missing;
 
 /// Returns what is missing in the block that these lanes read last, and that begins at `time`.
 pub(crate) fn missing_among(lanes: &[Lane], schedule: &LiveSchedule, time: i64) -> Missing

@@ -50,7 +50,7 @@ ghost use Rattle.studio_mix.specs.Changed.{gains_fault_of, with_gains};
 
 use crate::lane_capacity::greatest_lag;
 use crate::lanes::{are_covered, new_lanes, reach_past, read_lanes};
-use crate::missing::{Missing, missing_among};
+use crate::missing::missing_among;
 use gain_mix::{ChangeFault, LiveSchedule, Matrix, mix_counted};
 use lane_align::Lane;
 use mix_packets::{OutSpec, Packer};
@@ -58,6 +58,7 @@ use rtp_stream::{Mark, MarkRef};
 use std::alloc::{AllocError, Global};
 use std::marker::Model;
 use studio_config::StudioSpec;
+use studio_io::{Missing, MixedBlock};
 
 /// A mixer of a studio's streams: a lane for each stream, the gains and the output, block by block.
 ///
@@ -196,6 +197,17 @@ impl Mixer {
             → HasFeeds studio self.now feeds (number + 1) → result ≡ missing_in studio feeds number }
     {
         self.missing
+    }
+
+    /// Returns the last block: its inputs, and what was missing in it.
+    pub fn last_block(&self) -> MixedBlock<'_>
+        ensures inputs { result.inputs.now ≡ self.now.inputs }
+        ensures missing { result.missing ≡ self.now.missing }
+    {
+        MixedBlock {
+            inputs: self.inputs(),
+            missing: self.missing(),
+        }
     }
 
     /// Returns the media time at which the next block ends, in sampling instants.

@@ -74,7 +74,7 @@ fn mix_once<K: Sink>(end: &mut MixEnd, sink: &mut K, counts: &mut SendCounts) ->
     if note.len.is_none() {
         return note.taken == 0;
     }
-    let answer = sink.send(&out[..len]);
+    let answer = sink.send_block(&out[..len], &end.last_block());
     counts.add(answer);
     false
 }

@@ -42,12 +42,12 @@ loop-len-preserved g c =
       sent = λ studio events datagrams s.
           let before = inv.sent studio events datagrams s in
           sent_more studio c.loop-len.engine c.turn.new.self (turned first mid events) (turned first last events) datagrams
-          (g.K.Sink.handed c.args.sink.now) (g.K.Sink.handed c.loop-len.sink) (g.K.Sink.handed c.send-answer.new.self) c.args.counts.now.blocks c.loop-len.counts.blocks c.add.new.self.blocks
+          (g.K.Sink.handed c.args.sink.now) (g.K.Sink.handed c.loop-len.sink) (g.K.Sink.handed c.send_block-answer.new.self) c.args.counts.now.blocks c.loop-len.counts.blocks c.add.new.self.blocks
           c.loop-len.out c.turn.new.out c.in-Some.len same within before
           (subst (λ l. Gives studio c.turn.new.self l (datagrams ++ before.more) c.loop-len.out c.turn.new.out c.in-Some.len) (turned_twice now first mid last events inv.time c.in_ok-len.ensures.time)
           (gives studio (turned first mid events) (datagrams ++ before.more) before.stands))
-          c.send-answer.ensures.handed c.add.ensures.blocks;
-      sums = λ first h. sums-answer c.loop-len.counts c.add.new.self c.send-answer.result c.add.ensures.blocks c.add.ensures.sent_a c.add.ensures.sent_b _ _ c.send-answer.ensures.answered first (inv.sums first h);
+          c.send_block-answer.ensures.handed c.add.ensures.blocks;
+      sums = λ first h. sums-answer c.loop-len.counts c.add.new.self c.send_block-answer.result c.add.ensures.blocks c.add.ensures.sent_a c.add.ensures.sent_b _ _ c.send_block-answer.ensures.answered first (inv.sums first h);
     }
 
 pub returns-clause-sent : goal.returns-clause-sent
@@ -74,8 +74,8 @@ returns-clause-there g c = λ studio events datagrams s.
 pub slice_bounds-out-end : goal.slice_bounds-out-end
 slice_bounds-out-end c = grind (arith, elements)
 
-pub slice_bounds-send-end : goal.slice_bounds-send-end
-slice_bounds-send-end c = grind (arith, elements)
+pub slice_bounds-send_block-end : goal.slice_bounds-send_block-end
+slice_bounds-send_block-end c = grind (arith, elements)
 
 pub loop-len-smaller : goal.loop-len-smaller
 loop-len-smaller c = grind (arith, elements)

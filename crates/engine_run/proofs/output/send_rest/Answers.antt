@@ -30,11 +30,11 @@ loop-len-preserved g c =
       sent = λ studio events datagrams s.
           let before = inv.sent studio events datagrams s in
           sent_more studio c.loop-len.engine c.drain.new.self events events datagrams
-          (g.K.Sink.handed c.args.sink.now) (g.K.Sink.handed c.loop-len.sink) (g.K.Sink.handed c.send-answer.new.self) c.args.counts.now.blocks c.loop-len.counts.blocks c.add.new.self.blocks
+          (g.K.Sink.handed c.args.sink.now) (g.K.Sink.handed c.loop-len.sink) (g.K.Sink.handed c.send_block-answer.new.self) c.args.counts.now.blocks c.loop-len.counts.blocks c.add.new.self.blocks
           c.loop-len.out c.drain.new.out c.in-Some.len same within before
           (gives studio events (datagrams ++ before.more) before.stands)
-          c.send-answer.ensures.handed c.add.ensures.blocks;
-      sums = λ first h. sums-answer c.loop-len.counts c.add.new.self c.send-answer.result c.add.ensures.blocks c.add.ensures.sent_a c.add.ensures.sent_b _ _ c.send-answer.ensures.answered first (inv.sums first h);
+          c.send_block-answer.ensures.handed c.add.ensures.blocks;
+      sums = λ first h. sums-answer c.loop-len.counts c.add.new.self c.send_block-answer.result c.add.ensures.blocks c.add.ensures.sent_a c.add.ensures.sent_b _ _ c.send_block-answer.ensures.answered first (inv.sums first h);
     }
 
 pub returns-clause-sent : goal.returns-clause-sent
@@ -42,8 +42,8 @@ returns-clause-sent g c = λ studio events datagrams s.
     let before = c.loop-len.invariant.sent studio events datagrams s in
     record { more = before.more; stands = c.drain.ensures.none c.in_default.is studio events (datagrams ++ before.more) before.stands; count = before.count; handed = before.handed }
 
-pub slice_bounds-send-end : goal.slice_bounds-send-end
-slice_bounds-send-end c = grind (arith, elements)
+pub slice_bounds-send_block-end : goal.slice_bounds-send_block-end
+slice_bounds-send_block-end c = grind (arith, elements)
 
 pub returns-clause-sums : goal.returns-clause-sums
 returns-clause-sums g c = c.loop-len.invariant.sums

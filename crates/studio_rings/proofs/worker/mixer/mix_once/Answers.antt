@@ -11,7 +11,7 @@ returns-then-is_none-clause-sums g c = λ before h. h
 
 pub returns-clause-mixes : goal.returns-clause-mixes
 returns-clause-mixes g c = let t = c.turn-note.ensures in
-    mixes-one g.K.Sink.handed _ _ _ _ _ _ _ _ _ _ _ (search rules) c.add.ensures.blocks c.datagram_len-len.ensures.value refl t.taken t.mixes t.given c.send-answer.ensures.handed
+    mixes-one g.K.Sink.handed _ _ _ _ _ _ _ _ _ _ _ (search rules) c.add.ensures.blocks c.datagram_len-len.ensures.value refl t.taken t.mixes t.given c.send_block-answer.ensures.handed
 
 pub returns-clause-sums : goal.returns-clause-sums
-returns-clause-sums g c = sums-answer c.args.counts.now c.add.new.self c.send-answer.result c.add.ensures.blocks c.add.ensures.sent_a c.add.ensures.sent_b _ _ c.send-answer.ensures.answered
+returns-clause-sums g c = sums-answer c.args.counts.now c.add.new.self c.send_block-answer.result c.add.ensures.blocks c.add.ensures.sent_a c.add.ensures.sent_b _ _ c.send_block-answer.ensures.answered
