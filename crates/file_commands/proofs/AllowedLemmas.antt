@@ -137,22 +137,27 @@ pub allowed_in_output-Clock : (k : Key) → k ≡ key.Clock → true ≡ is_allo
 unfolding keys_at packet_keys
 allowed_in_output-Clock k e = rw e refl
 
-pub allowed_in_output-others : (k : Key) → (k ≡ key.Channels → ⊥) → (k ≡ key.Seq → ⊥) → (k ≡ key.Start → ⊥) → (k ≡ key.Gains → ⊥) → (k ≡ key.Change → ⊥) → (k ≡ key.ToA → ⊥) → (k ≡ key.ToB → ⊥) → (k ≡ key.FromA → ⊥) → (k ≡ key.FromB → ⊥) → (k ≡ key.ToAddressA → ⊥) → (k ≡ key.ToAddressB → ⊥) → (k ≡ key.Ttl → ⊥) → (k ≡ key.Clock → ⊥) → is_known packet_keys (name_of k) ≡ is_allowed place.Output k
+pub allowed_in_output-Late : (k : Key) → k ≡ key.Late → true ≡ is_allowed place.Output k
 unfolding keys_at packet_keys
-allowed_in_output-others key.Channels h _ _ _ _ _ _ _ _ _ _ _ _ = absurd (h refl)
-allowed_in_output-others key.Seq _ h _ _ _ _ _ _ _ _ _ _ _ = absurd (h refl)
-allowed_in_output-others key.Start _ _ h _ _ _ _ _ _ _ _ _ _ = absurd (h refl)
-allowed_in_output-others key.Gains _ _ _ h _ _ _ _ _ _ _ _ _ = absurd (h refl)
-allowed_in_output-others key.Change _ _ _ _ h _ _ _ _ _ _ _ _ = absurd (h refl)
-allowed_in_output-others key.ToA _ _ _ _ _ h _ _ _ _ _ _ _ = absurd (h refl)
-allowed_in_output-others key.ToB _ _ _ _ _ _ h _ _ _ _ _ _ = absurd (h refl)
-allowed_in_output-others key.FromA _ _ _ _ _ _ _ h _ _ _ _ _ = absurd (h refl)
-allowed_in_output-others key.FromB _ _ _ _ _ _ _ _ h _ _ _ _ = absurd (h refl)
-allowed_in_output-others key.ToAddressA _ _ _ _ _ _ _ _ _ h _ _ _ = absurd (h refl)
-allowed_in_output-others key.ToAddressB _ _ _ _ _ _ _ _ _ _ h _ _ = absurd (h refl)
-allowed_in_output-others key.Ttl _ _ _ _ _ _ _ _ _ _ _ h _ = absurd (h refl)
-allowed_in_output-others key.Clock _ _ _ _ _ _ _ _ _ _ _ _ h = absurd (h refl)
-allowed_in_output-others k _ _ _ _ _ _ _ _ _ _ _ _ _ = refl
+allowed_in_output-Late k e = rw e refl
+
+pub allowed_in_output-others : (k : Key) → (k ≡ key.Channels → ⊥) → (k ≡ key.Seq → ⊥) → (k ≡ key.Start → ⊥) → (k ≡ key.Gains → ⊥) → (k ≡ key.Change → ⊥) → (k ≡ key.ToA → ⊥) → (k ≡ key.ToB → ⊥) → (k ≡ key.FromA → ⊥) → (k ≡ key.FromB → ⊥) → (k ≡ key.ToAddressA → ⊥) → (k ≡ key.ToAddressB → ⊥) → (k ≡ key.Ttl → ⊥) → (k ≡ key.Clock → ⊥) → (k ≡ key.Late → ⊥) → is_known packet_keys (name_of k) ≡ is_allowed place.Output k
+unfolding keys_at packet_keys
+allowed_in_output-others key.Channels h _ _ _ _ _ _ _ _ _ _ _ _ _ = absurd (h refl)
+allowed_in_output-others key.Seq _ h _ _ _ _ _ _ _ _ _ _ _ _ = absurd (h refl)
+allowed_in_output-others key.Start _ _ h _ _ _ _ _ _ _ _ _ _ _ = absurd (h refl)
+allowed_in_output-others key.Gains _ _ _ h _ _ _ _ _ _ _ _ _ _ = absurd (h refl)
+allowed_in_output-others key.Change _ _ _ _ h _ _ _ _ _ _ _ _ _ = absurd (h refl)
+allowed_in_output-others key.ToA _ _ _ _ _ h _ _ _ _ _ _ _ _ = absurd (h refl)
+allowed_in_output-others key.ToB _ _ _ _ _ _ h _ _ _ _ _ _ _ = absurd (h refl)
+allowed_in_output-others key.FromA _ _ _ _ _ _ _ h _ _ _ _ _ _ = absurd (h refl)
+allowed_in_output-others key.FromB _ _ _ _ _ _ _ _ h _ _ _ _ _ = absurd (h refl)
+allowed_in_output-others key.ToAddressA _ _ _ _ _ _ _ _ _ h _ _ _ _ = absurd (h refl)
+allowed_in_output-others key.ToAddressB _ _ _ _ _ _ _ _ _ _ h _ _ _ = absurd (h refl)
+allowed_in_output-others key.Ttl _ _ _ _ _ _ _ _ _ _ _ h _ _ = absurd (h refl)
+allowed_in_output-others key.Clock _ _ _ _ _ _ _ _ _ _ _ _ h _ = absurd (h refl)
+allowed_in_output-others key.Late _ _ _ _ _ _ _ _ _ _ _ _ _ h = absurd (h refl)
+allowed_in_output-others k _ _ _ _ _ _ _ _ _ _ _ _ _ _ = refl
 
 pub allowed_in_packets-Encoding : (k : Key) → k ≡ key.Encoding → true ≡ is_known packet_keys (name_of k)
 unfolding keys_at packet_keys
@@ -196,7 +201,7 @@ allowed_in_change-others k _ _ = refl
 
 -- all keys, in the order of `KEYS`
 abbrev pub all_keys : List Key
-all_keys = key.OpenAt ∷ key.Stream ∷ key.Output ∷ key.Encoding ∷ key.Channels ∷ key.Frames ∷ key.Pt ∷ key.Ssrc ∷ key.Clock ∷ key.Offset ∷ key.Latency ∷ key.Window ∷ key.Paths ∷ key.PortA ∷ key.PortB ∷ key.PortC ∷ key.PortD ∷ key.AddressA ∷ key.AddressB ∷ key.AddressC ∷ key.AddressD ∷ key.SourceA ∷ key.SourceB ∷ key.SourceC ∷ key.SourceD ∷ key.Name ∷ key.Seq ∷ key.Start ∷ key.Gains ∷ key.Change ∷ key.ToA ∷ key.ToB ∷ key.FromA ∷ key.FromB ∷ key.ToAddressA ∷ key.ToAddressB ∷ key.Ttl ∷ key.At ∷ []
+all_keys = key.OpenAt ∷ key.Stream ∷ key.Output ∷ key.Encoding ∷ key.Channels ∷ key.Frames ∷ key.Pt ∷ key.Ssrc ∷ key.Clock ∷ key.Offset ∷ key.Latency ∷ key.Window ∷ key.Paths ∷ key.PortA ∷ key.PortB ∷ key.PortC ∷ key.PortD ∷ key.AddressA ∷ key.AddressB ∷ key.AddressC ∷ key.AddressD ∷ key.SourceA ∷ key.SourceB ∷ key.SourceC ∷ key.SourceD ∷ key.Name ∷ key.Seq ∷ key.Start ∷ key.Gains ∷ key.Change ∷ key.ToA ∷ key.ToB ∷ key.FromA ∷ key.FromB ∷ key.ToAddressA ∷ key.ToAddressB ∷ key.Ttl ∷ key.Late ∷ key.At ∷ []
 
 -- each key is one of them
 pub key_place : (k : Key) → (n : ℕ) × (slice_get all_keys n ≡ Some k)
@@ -237,7 +242,8 @@ key_place key.FromB = (33, refl)
 key_place key.ToAddressA = (34, refl)
 key_place key.ToAddressB = (35, refl)
 key_place key.Ttl = (36, refl)
-key_place key.At = (37, refl)
+key_place key.Late = (37, refl)
+key_place key.At = (38, refl)
 
 -- a table at a place may have the keys of its rows
 all_allowed : (p : ConfigTable) → list_all (is_allowed p) (keys_at p) ≡ true

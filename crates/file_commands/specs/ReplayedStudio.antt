@@ -1,9 +1,7 @@
 -- The studio that a replay plays: that of a configuration, with the changes of a text of gains.
-use Rattle.std.specs.Prelude.{◌≡◌, ℕ, pos, List, map, Some, None, Ok}
+use Rattle.std.specs.Prelude.{◌≡◌, ℕ, pos, List, map, Some, Ok}
 use Rattle.studio_config.specs.Studio.{Studio}
-use Rattle.studio_config.specs.Ports.{absent_rows}
 use Rattle.studio_config.specs.Shift.{shifted}
-use Rattle.studio_config.specs.Networks.{absent_networks}
 use Rattle.studio_run.specs.GainsLines.{schedule_after}
 use Rattle.pcap_file.specs.Entries.{entries_of}
 use Rattle.pcap_file.specs.Described.{interfaces_of}
@@ -11,10 +9,10 @@ use Rattle.pcap_replay.specs.Record.{opening_in}
 use Rattle.pcap_replay.specs.RecordedPaths.{ArePathsOf, texts_of}
 use Rattle.pcap_replay.specs.declared.recording.RecordedPath.{RecordedPath}
 
--- the same studio, but the gains change as the text says; the ports and addresses of a live run are left out
+-- the same studio, but the gains change as the text says
 pub record HasGains (studio : Studio) (text : List ℕ) (changed : Studio) : Type 0 where
   pub gains : schedule_after studio.schedule text ≡ Ok changed.schedule
-  pub others : changed ≡ record studio { schedule = changed.schedule; ports = record { paths = absent_rows 16; to_a = None; to_b = None }; networks = absent_networks }
+  pub others : changed ≡ record studio { schedule = changed.schedule }
 
 -- the record that begins with these octets is of a run of the studio: the paths that it describes before its first packet
 -- are those of the studio's streams

@@ -61,11 +61,7 @@ fn studio_with_file<H: Host>(
 
 /// Returns the octets of the file of gains at a path. Returns `GainsInputFault::Unread` if the file cannot be read,
 /// `GainsInputFault::TooLong` if it has too many octets, and `CommandFault::Memory` if an allocation fails.
-pub(crate) fn read_gains<H: Host>(
-    host: &H,
-    alloc: Global,
-    path: &str,
-) -> Result<Vec<u8>, CommandFault> {
+pub fn read_gains<H: Host>(host: &H, alloc: Global, path: &str) -> Result<Vec<u8>, CommandFault> {
     match host.read_all(alloc, path) {
         Ok(text) => Ok(text),
         Err(fault) => Err(CommandFault::of_gains(fault)),
@@ -74,7 +70,7 @@ pub(crate) fn read_gains<H: Host>(
 
 /// Returns the studio whose gains change as a text says. Returns the text's first fault, or `CommandFault::Memory` if
 /// an allocation fails.
-pub(crate) fn changed_studio(
+pub fn changed_studio(
     alloc: Global,
     studio: &StudioSpec,
     text: &[u8],

@@ -53,7 +53,7 @@ fn default_at(place: ConfigTable, key: Key) -> &'static str {
     match key {
         Key::Ssrc => default_source(place),
         Key::Clock => default_clock(place),
-        Key::Offset => "0",
+        Key::Offset | Key::Late => "0",
         Key::Paths => "2",
         Key::PortA | Key::PortB | Key::PortC | Key::PortD => "required by live",
         Key::ToA | Key::ToB => "required by live",

@@ -34,6 +34,7 @@ pub(crate) fn write_summary<W: Write>(
     }
     write_output(studio.output(), studio.output_clock(), output)?;
     write_copies(studio.ports(), &studio.networks().output, output)?;
+    write_late(studio.late(), output)?;
     writeln!(output, "gains from the start")?;
     write_gains(studio.schedule().first(), output)?;
     for (time, gains) in studio.schedule().later() {
@@ -310,6 +311,18 @@ fn write_output<W: Write>(spec: &OutSpec, clock: OutputClock, output: &mut W) ->
         OutputClock::Run => writeln!(output),
         OutputClock::Media => writeln!(output, ", counted by the media clock"),
     }
+}
+
+/// Writes how long the copies wait in which streams are missing, if they do.
+fn write_late<W: Write>(late: u16, output: &mut W) -> io::Result<()> {
+    if late == 0 {
+        return Ok(());
+    }
+    write!(output, "  copies wait {late} ")?;
+    write_millis(u64::from(late), output)?;
+    write!(output, " longer in which one stream is missing, and ")?;
+    write_time(2 * u64::from(late), output)?;
+    writeln!(output, " longer in which more are")
 }
 
 /// Writes a line for each copy of the output that has a port.

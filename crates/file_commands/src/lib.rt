@@ -31,7 +31,7 @@ mod stream_output;
 mod streams_command;
 mod trace_commands;
 
-pub use config::{parse_studio, read_config, table_in};
+pub use config::{changed_studio, parse_studio, read_config, read_gains, table_in};
 pub use config_help::run_config_help;
 pub use fault::{
     CaptureInputFault, CommandFault, ConfigFault, FileClash, GainsInputFault, InputKind,

@@ -6,6 +6,7 @@ pub mod Inherited
 pub mod Links
 pub mod MixSpans
 pub mod MixTimes
+pub mod LateCopies
 pub mod Names
 pub mod Paths
 pub mod Ports

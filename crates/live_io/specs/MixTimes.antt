@@ -24,6 +24,10 @@ due_at times = int_max times.end times.open_at +ℤ pos times.latency
 abbrev pub due_of : MixTimes → MixDue
 due_of times = record { at = due_at times; useful = times.span + 48000 }
 
+-- the same for a copy that waits for so long
+abbrev pub due_after : ℕ → MixTimes → MixDue
+due_after delay times = record { at = due_at times +ℤ pos delay; useful = times.span + 48000 }
+
 -- a datagram that is handed out later is useless to every receiver
 abbrev pub IsStale : MixDue → ℤ → Type 0
 IsStale due now = (due.at +ℤ pos due.useful) <ℤ now

@@ -11,7 +11,8 @@
 //!    its socket has, and waits by a `ReceivePace`, unless flags say which sockets are to be read. It reads its
 //!    socket as a `RetryingSocket`, which tries a socket that fails less and less often.
 //!    `UdpSink` is the `Sink` of the two sending sockets. `TimelySink` leaves out the datagrams of the mix that are
-//!    useless to every receiver, and `HoldUp` says what a feed leaves out after a hold-up, until the mix has caught up.
+//!    useless to every receiver, and sends those later in whose block streams are missing, as `LateSettings` say.
+//!    `HoldUp` says what a feed leaves out after a hold-up, until the mix has caught up.
 //!    `copy_whole` leaves out the datagrams that are too long.
 //! 4. `RecordOutput` is the record as an output of a run. It creates a `RecordChannel`, which has two
 //!    ends of a ring. The thread of the run passes each datagram and each change of gains to its
@@ -42,6 +43,8 @@ pub use sockets::group_table::{has_group, read_joined_groups};
 pub use sockets::health::{RunHealth, SendHealth, SocketHealth};
 pub use sockets::hold_up::HoldUp;
 pub use sockets::inherited::{InheritedSocketFault, InheritedSockets};
+pub use sockets::late::LateSettings;
+pub use sockets::late::copy_time::CopyTime;
 pub use sockets::mix_times::{MixDue, MixProgress, MixTimes, greatest_latency};
 pub use sockets::pace::{ReceivePace, ReceiveWait, common_pause};
 pub use sockets::ports::LivePorts;

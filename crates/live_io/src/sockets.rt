@@ -1,11 +1,11 @@
 //! The sockets of a run. `ports` and `addresses` find where they are bound, `inherited` has those that were passed in,
 //! and `receiver` and `sink` those that receive and send. `feed` makes a feed of a receiver; `unexpected` tests and
 //! counts the sources of datagrams, and `whole_datagrams` says which of them are too long. `hold_up` says what a feed
-//! leaves out after a hold-up, by the times of the mix in `mix_times`, and `timely_sink` leaves out what the mix has
-//! too late. `sharing` says which paths can be at one place. A socket that fails is read by `retrying`, as `backoff`
-//! says, and one that is empty as `pace` says. `health` has what the sockets count. Of the kernel's
-//! tables (`kernel_table`), `udp_table` has what the kernel counts, and `group_table` the groups that are joined.
-//! `unopened` says which socket could not be opened.
+//! leaves out after a hold-up, by the times of the mix in `mix_times`. `timely_sink` leaves out what the mix has too
+//! late, and has the copies wait in which streams are missing, in `late`. `sharing` says which paths can be at one
+//! place. A socket that fails is read by `retrying`, as `backoff` says, and one that is empty as `pace` says. `health`
+//! has what the sockets count. Of the kernel's tables (`kernel_table`), `udp_table` has what the kernel counts, and
+//! `group_table` the groups that are joined. `unopened` says which socket could not be opened.
 ghost use Rattle.std.specs.Prelude.{IfOk};
 ghost use Rattle.live_io.specs.Sending.{AreDestinations};
 
@@ -34,6 +34,7 @@ pub(crate) mod health;
 pub(crate) mod hold_up;
 pub(crate) mod inherited;
 pub(crate) mod kernel_table;
+pub(crate) mod late;
 pub(crate) mod mix_times;
 pub(crate) mod names;
 pub(crate) mod pace;

@@ -7,7 +7,7 @@ use Rattle.studio_config.specs.OutputClock.{clock_fault_of}
 use Rattle.studio_config.specs.Rows.{Row, required, whole, few_tables, a_table, key_of, first_of, first_in, at_table, row_fault, rows_fault, unknown_fault, table_fault}
 use Rattle.studio_config.specs.NetworkTable.{path_rows, sender_rows}
 use Rattle.studio_config.specs.StreamTable.{packet_rows, source_rows, wait_rows, port_rows, name_rows, stream_rows, stream_fault}
-use Rattle.studio_config.specs.OutputTable.{number_rows, gains_row, change_row, address_rows, clock_row, output_rows, output_of, each_fault, change_fault, schedule_fault, output_fault}
+use Rattle.studio_config.specs.OutputTable.{number_rows, gains_row, change_row, address_rows, timing_rows, output_rows, output_of, each_fault, change_fault, schedule_fault, output_fault}
 use Rattle.studio_config.specs.declared.config.fault.ConfigTable.{ConfigTable}
 use Rattle.studio_config.specs.declared.config.fault.ConfigTable.TheVariants as at
 use Rattle.studio_config.specs.declared.config.fault.SpecErrorKind.TheVariants as kind
@@ -84,7 +84,7 @@ after_keys ins m =
 abbrev after_changes : ℕ → Members → Option SpecError
 after_changes ins m =
     first_of (each_fault change_fault 0 (tables_at m key.Change))
-    (first_of (rows_fault at.Output m address_rows) (first_of (rows_fault at.Output m sender_rows) (first_of (row_fault at.Output m clock_row) (first_of (unknown_fault at.Output (map key_of output_rows) m) (after_keys ins m)))))
+    (first_of (rows_fault at.Output m address_rows) (first_of (rows_fault at.Output m sender_rows) (first_of (rows_fault at.Output m timing_rows) (first_of (unknown_fault at.Output (map key_of output_rows) m) (after_keys ins m)))))
 
 -- the first fault of the output's table after its gains
 abbrev after_gains : ℕ → Members → Option SpecError
@@ -122,19 +122,19 @@ module _ (ins : ℕ) (m : Members) (e : SpecError) (packets : rows_fault at.Outp
     output_fault-later is = output_fault-after (first_of-none (row_fault at.Output m change_row) (after_changes ins m) e changes is)
 
     pub output_fault-each : each_fault change_fault 0 (tables_at m key.Change) ≡ Some e → output_fault ins m ≡ Some e
-    output_fault-each is = output_fault-later (first_in-1 (each_fault change_fault 0 (tables_at m key.Change)) (rows_fault at.Output m address_rows) (rows_fault at.Output m sender_rows) (row_fault at.Output m clock_row) (unknown_fault at.Output (map key_of output_rows) m) (after_keys ins m) e is)
+    output_fault-each is = output_fault-later (first_in-1 (each_fault change_fault 0 (tables_at m key.Change)) (rows_fault at.Output m address_rows) (rows_fault at.Output m sender_rows) (rows_fault at.Output m timing_rows) (unknown_fault at.Output (map key_of output_rows) m) (after_keys ins m) e is)
 
     pub output_fault-addresses : each_fault change_fault 0 (tables_at m key.Change) ≡ None → rows_fault at.Output m address_rows ≡ Some e → output_fault ins m ≡ Some e
-    output_fault-addresses each is = output_fault-later (first_in-2 (each_fault change_fault 0 (tables_at m key.Change)) (rows_fault at.Output m address_rows) (rows_fault at.Output m sender_rows) (row_fault at.Output m clock_row) (unknown_fault at.Output (map key_of output_rows) m) (after_keys ins m) e each is)
+    output_fault-addresses each is = output_fault-later (first_in-2 (each_fault change_fault 0 (tables_at m key.Change)) (rows_fault at.Output m address_rows) (rows_fault at.Output m sender_rows) (rows_fault at.Output m timing_rows) (unknown_fault at.Output (map key_of output_rows) m) (after_keys ins m) e each is)
 
     pub output_fault-senders : each_fault change_fault 0 (tables_at m key.Change) ≡ None → rows_fault at.Output m address_rows ≡ None → rows_fault at.Output m sender_rows ≡ Some e → output_fault ins m ≡ Some e
-    output_fault-senders each addresses is = output_fault-later (first_in-3 (each_fault change_fault 0 (tables_at m key.Change)) (rows_fault at.Output m address_rows) (rows_fault at.Output m sender_rows) (row_fault at.Output m clock_row) (unknown_fault at.Output (map key_of output_rows) m) (after_keys ins m) e each addresses is)
+    output_fault-senders each addresses is = output_fault-later (first_in-3 (each_fault change_fault 0 (tables_at m key.Change)) (rows_fault at.Output m address_rows) (rows_fault at.Output m sender_rows) (rows_fault at.Output m timing_rows) (unknown_fault at.Output (map key_of output_rows) m) (after_keys ins m) e each addresses is)
 
-    pub output_fault-clock : each_fault change_fault 0 (tables_at m key.Change) ≡ None → rows_fault at.Output m address_rows ≡ None → rows_fault at.Output m sender_rows ≡ None → row_fault at.Output m clock_row ≡ Some e → output_fault ins m ≡ Some e
-    output_fault-clock each addresses senders is = output_fault-later (first_in-4 (each_fault change_fault 0 (tables_at m key.Change)) (rows_fault at.Output m address_rows) (rows_fault at.Output m sender_rows) (row_fault at.Output m clock_row) (unknown_fault at.Output (map key_of output_rows) m) (after_keys ins m) e each addresses senders is)
+    pub output_fault-timing : each_fault change_fault 0 (tables_at m key.Change) ≡ None → rows_fault at.Output m address_rows ≡ None → rows_fault at.Output m sender_rows ≡ None → rows_fault at.Output m timing_rows ≡ Some e → output_fault ins m ≡ Some e
+    output_fault-timing each addresses senders is = output_fault-later (first_in-4 (each_fault change_fault 0 (tables_at m key.Change)) (rows_fault at.Output m address_rows) (rows_fault at.Output m sender_rows) (rows_fault at.Output m timing_rows) (unknown_fault at.Output (map key_of output_rows) m) (after_keys ins m) e each addresses senders is)
 
-    pub output_fault-unknown : each_fault change_fault 0 (tables_at m key.Change) ≡ None → rows_fault at.Output m address_rows ≡ None → rows_fault at.Output m sender_rows ≡ None → row_fault at.Output m clock_row ≡ None → unknown_fault at.Output (map key_of output_rows) m ≡ Some e → output_fault ins m ≡ Some e
-    output_fault-unknown each addresses senders clock is = output_fault-later (first_in-5 (each_fault change_fault 0 (tables_at m key.Change)) (rows_fault at.Output m address_rows) (rows_fault at.Output m sender_rows) (row_fault at.Output m clock_row) (unknown_fault at.Output (map key_of output_rows) m) (after_keys ins m) e each addresses senders clock is)
+    pub output_fault-unknown : each_fault change_fault 0 (tables_at m key.Change) ≡ None → rows_fault at.Output m address_rows ≡ None → rows_fault at.Output m sender_rows ≡ None → rows_fault at.Output m timing_rows ≡ None → unknown_fault at.Output (map key_of output_rows) m ≡ Some e → output_fault ins m ≡ Some e
+    output_fault-unknown each addresses senders timing is = output_fault-later (first_in-5 (each_fault change_fault 0 (tables_at m key.Change)) (rows_fault at.Output m address_rows) (rows_fault at.Output m sender_rows) (rows_fault at.Output m timing_rows) (unknown_fault at.Output (map key_of output_rows) m) (after_keys ins m) e each addresses senders timing is)
 
 -- the first of a fault and of no fault
 first_of-nothing : {E : Type 0} (a : Option E) → first_of a None ≡ a

@@ -65,6 +65,7 @@ run_studio_of members = record {
     sources = sender_table (tables_at members key.Stream);
     output = senders_of (table_at members key.Output);
   };
+  late = number_or (table_at members key.Output) key.Late 0;
 }
 
 -- the studio that a configuration describes

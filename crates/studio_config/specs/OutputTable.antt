@@ -44,12 +44,15 @@ address_rows =
     ∷ optional key.ToB (whole 1 65535)
     ∷ []
 
--- the row of the output's clock
-abbrev pub clock_row : Row
-clock_row = optional key.Clock (one_of output_clocks)
+-- the rows of the output's clock, and of the delay of copies in which streams are missing
+abbrev pub timing_rows : List Row
+timing_rows =
+    optional key.Clock (one_of output_clocks)
+    ∷ optional key.Late (whole 0 4800)
+    ∷ []
 
 abbrev pub output_rows : List Row
-output_rows = packet_rows ++ number_rows ++ gains_row ∷ change_row ∷ address_rows ++ sender_rows ++ clock_row ∷ []
+output_rows = packet_rows ++ number_rows ++ gains_row ∷ change_row ∷ address_rows ++ sender_rows ++ timing_rows
 
 -- the rows of a change: its time, and the gains from then on
 abbrev pub change_rows : List Row
@@ -125,7 +128,7 @@ output_fault ins members =
     ∷ each_fault change_fault 0 (tables_at members key.Change)
     ∷ rows_fault place.Output members address_rows
     ∷ rows_fault place.Output members sender_rows
-    ∷ row_fault place.Output members clock_row
+    ∷ rows_fault place.Output members timing_rows
     ∷ unknown_fault place.Output (map key_of output_rows) members
     ∷ at_table place.Output (option_map kind.Output (out_fault_of (output_of members)))
     ∷ schedule_fault (number_or members key.Channels 0) ins members

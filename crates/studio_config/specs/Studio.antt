@@ -17,6 +17,8 @@ pub record Studio : Type 0 where
   pub schedule : Changes
   pub ports : Ports
   pub networks : Networks
+  -- the delay of the output's copies in which a stream is missing
+  pub late : ℕ
 
 -- the number of channels of all streams
 abbrev pub channel_total : List Stream → ℕ

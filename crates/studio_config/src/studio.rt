@@ -27,6 +27,8 @@ pub struct StudioSpec {
     schedule: Schedule,
     ports: Ports,
     networks: Networks,
+    /// The delay of the output's copies in which a stream is missing, in sampling instants.
+    late: u16,
 }
 
 impl Model for StudioSpec {
@@ -34,14 +36,14 @@ impl Model for StudioSpec {
 
     ghost Value = { Studio };
 
-    ghost view = { λ s. record { open_at = s.open_at; streams = s.streams.items; output = s.output; clock = s.clock; schedule = s.schedule; ports = s.ports; networks = s.networks } };
+    ghost view = { λ s. record { open_at = s.open_at; streams = s.streams.items; output = s.output; clock = s.clock; schedule = s.schedule; ports = s.ports; networks = s.networks; late = s.late } };
 
     ghost invariant = { λ s. IsStudio (view s) };
 }
 
 impl StudioSpec {
     /// Returns a studio whose merges open at `open_at`, in sampling instants at 48 kHz, with its output by the clock of
-    /// the run, and with no known port or address.
+    /// the run and its copies sent at once, and with no known port or address.
     pub fn new(
         open_at: i64,
         streams: Vec<StreamSpec>,
@@ -54,7 +56,7 @@ impl StudioSpec {
         requires few { length streams.items ≤ 16 }
         requires outs { length schedule.first ≡ output.channels }
         requires ins { ins_of schedule.first ≡ channel_total streams.items }
-        ensures { result ≡ record { open_at = open_at; streams = streams.items; output = output; clock = Run; schedule = schedule; ports = record { paths = absent_rows 16; to_a = None; to_b = None }; networks = absent_networks } }
+        ensures { result ≡ record { open_at = open_at; streams = streams.items; output = output; clock = Run; schedule = schedule; ports = record { paths = absent_rows 16; to_a = None; to_b = None }; networks = absent_networks; late = 0 } }
     {
         StudioSpec {
             open_at,
@@ -64,11 +66,12 @@ impl StudioSpec {
             schedule,
             ports: Ports::absent(),
             networks: Networks::absent(),
+            late: 0,
         }
     }
 
     /// Returns the studio with these ports.
-    pub(crate) fn with_ports(mut self, ports: Ports) -> StudioSpec
+    pub fn with_ports(mut self, ports: Ports) -> StudioSpec
         ensures { result ≡ record self { ports = ports } }
     {
         self.ports = ports;
@@ -89,6 +92,15 @@ impl StudioSpec {
         ensures { result ≡ record self { clock = clock } }
     {
         self.clock = clock;
+        self
+    }
+
+    /// Returns the studio whose output's copies wait for this many sampling instants more if one stream is missing in
+    /// them, and twice as long if more are. With 0 none waits.
+    pub fn with_late(mut self, late: u16) -> StudioSpec
+        ensures { result ≡ record self { late = late } }
+    {
+        self.late = late;
         self
     }
 
@@ -120,6 +132,14 @@ impl StudioSpec {
         ensures { result ≡ self.now.clock }
     {
         self.clock
+    }
+
+    /// Returns for how many sampling instants a copy of the output waits in which one stream is missing. With 0 none
+    /// waits.
+    pub fn late(&self) -> u16
+        ensures { result ≡ self.now.late }
+    {
+        self.late
     }
 
     /// Returns the gains and their changes.

@@ -10,7 +10,7 @@ ghost use Rattle.file_commands.specs.SimilarKey.{is_allowed, keys_at, packet_key
 use studio_config::{ConfigTable, Key};
 
 /// All keys of configurations.
-pub(crate) const KEYS: [Key; 38] = [
+pub(crate) const KEYS: [Key; 39] = [
     Key::OpenAt,
     Key::Stream,
     Key::Output,
@@ -48,6 +48,7 @@ pub(crate) const KEYS: [Key; 38] = [
     Key::ToAddressA,
     Key::ToAddressB,
     Key::Ttl,
+    Key::Late,
     Key::At,
 ];
 
@@ -100,7 +101,7 @@ pub(crate) fn whole_words(key: Key) -> &'static str {
         Key::OpenAt | Key::At | Key::Start | Key::Offset | Key::Latency => "whole numbers from ",
         Key::Channels | Key::Pt | Key::Ssrc | Key::Seq | Key::Paths => "whole numbers from ",
         Key::PortA | Key::PortB | Key::PortC | Key::PortD => "whole numbers from ",
-        Key::ToA | Key::ToB | Key::Ttl => "whole numbers from ",
+        Key::ToA | Key::ToB | Key::Ttl | Key::Late => "whole numbers from ",
         _ => "",
     }
 }
@@ -153,6 +154,7 @@ fn allowed_in_output(key: Key) -> Option<&'static str>
         Key::FromA | Key::FromB | Key::ToAddressA | Key::ToAddressB => Some(ADDRESS),
         Key::Ttl => Some("1 to 255"),
         Key::Clock => Some("\"run\", and \"media\" if each stream has clock = \"media\""),
+        Key::Late => Some("0 to 4800 sample periods"),
         _ => allowed_in_packets(key),
     }
 }

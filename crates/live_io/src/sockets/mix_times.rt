@@ -58,7 +58,7 @@ pub struct MixTimes {
 }
 
 impl MixTimes {
-    ghost use Rattle.live_io.specs.MixTimes.{BeginMix, due_of};
+    ghost use Rattle.live_io.specs.MixTimes.{BeginMix, due_after, due_of};
 
     /// Returns the times of a studio's mix before its first block.
     pub fn of(studio: &StudioSpec) -> MixTimes
@@ -82,6 +82,18 @@ impl MixTimes {
         MixDue {
             at: self.end.max(self.open_at) + i64::from(self.latency),
             useful: self.span + SECOND,
+        }
+    }
+
+    /// Returns when a copy of that datagram is due that waits for so long, in sampling instants. From then on it is
+    /// useful for as long as one that does not wait.
+    pub fn due_after(&self, delay: u32) -> MixDue
+        ensures { result ≡ due_after delay self.now }
+    {
+        let due = self.due();
+        MixDue {
+            at: due.at + i64::from(delay),
+            useful: due.useful,
         }
     }
 
@@ -145,7 +157,8 @@ pub(crate) fn span_of(stream: &StreamSpec) -> u32
     u32::from(stream.window()) * u32::from(stream.frames())
 }
 
-/// The progress of a run's mix: when its next datagram is due, and how many were stale.
+/// The progress of a run's mix: when its next datagram is due, how many were stale or lacked a stream, and what became
+/// of those.
 // Atomics, since the thread of the mix writes, and those of the feeds and of the status read.
 #[derive(Drop)]
 pub struct MixProgress {
@@ -153,6 +166,9 @@ pub struct MixProgress {
     /// The time at which the next datagram is due, in sampling instants.
     due_at: AtomicI64,
     stale: AtomicU64,
+    incomplete: AtomicU64,
+    sent_late: AtomicU64,
+    left_out: AtomicU64,
 }
 
 impl MixProgress {
@@ -163,6 +179,9 @@ impl MixProgress {
             begin,
             due_at: AtomicI64::new(begin.due().at),
             stale: AtomicU64::new(0),
+            incomplete: AtomicU64::new(0),
+            sent_late: AtomicU64::new(0),
+            left_out: AtomicU64::new(0),
         }
     }
 
@@ -184,6 +203,23 @@ impl MixProgress {
         self.stale.load(Ordering::SeqCst)
     }
 
+    /// Returns the number of datagrams in whose block a stream was missing, sent or not, in a run whose copies wait for
+    /// that. In other runs it is 0.
+    pub fn incomplete(&self) -> u64 {
+        self.incomplete.load(Ordering::SeqCst)
+    }
+
+    /// Returns the number of datagrams that were sent later than one in whose block nothing is missing.
+    pub fn sent_late(&self) -> u64 {
+        self.sent_late.load(Ordering::SeqCst)
+    }
+
+    /// Returns the number of datagrams that were left out because nothing was in them that a listener lacks, or because
+    /// the run ended before their time.
+    pub fn left_out(&self) -> u64 {
+        self.left_out.load(Ordering::SeqCst)
+    }
+
     /// Sets when the next datagram of the mix is due.
     pub(crate) fn set_due(&self, due: MixDue) {
         self.due_at.store(due.at, Ordering::SeqCst);
@@ -192,5 +228,20 @@ impl MixProgress {
     /// Counts a datagram that was not sent because it was stale.
     pub(crate) fn note_stale(&self) {
         self.stale.fetch_add(1, Ordering::SeqCst);
+    }
+
+    /// Counts a datagram in whose block a stream is missing.
+    pub(crate) fn note_incomplete(&self) {
+        self.incomplete.fetch_add(1, Ordering::SeqCst);
+    }
+
+    /// Counts a datagram that was sent later.
+    pub(crate) fn note_sent_late(&self) {
+        self.sent_late.fetch_add(1, Ordering::SeqCst);
+    }
+
+    /// Counts datagrams that were left out.
+    pub(crate) fn note_left_out(&self, count: u64) {
+        self.left_out.fetch_add(count, Ordering::SeqCst);
     }
 }

@@ -64,7 +64,8 @@ impl StudioSpec {
         studio
             .with_ports(ports)
             .with_networks(networks)
-            .by_clock(output.clock)
+            .with_late(output.timing.late)
+            .by_clock(output.timing.clock)
     }
 }
 

@@ -43,6 +43,7 @@ pub enum Key {
     ToAddressA,
     ToAddressB,
     Ttl,
+    Late,
     At,
 }
 
@@ -91,6 +92,7 @@ impl Key {
             Key::ToAddressA => "to_address_a",
             Key::ToAddressB => "to_address_b",
             Key::Ttl => "ttl",
+            Key::Late => "late",
             Key::At => "at",
         }
     }

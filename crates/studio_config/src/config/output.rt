@@ -6,7 +6,7 @@ ghost use Rattle.mix_packets.specs.OutSpec.{out_fault_of};
 ghost use Rattle.studio_config.specs.Values.{number_at, number_or, output_clock_at};
 ghost use Rattle.studio_config.specs.Rows.{at_table, rows_fault};
 ghost use Rattle.studio_config.specs.NetworkTable.{senders_of};
-ghost use Rattle.studio_config.specs.OutputTable.{number_rows, address_rows, output_of, schedule_of, output_fault};
+ghost use Rattle.studio_config.specs.OutputTable.{number_rows, address_rows, timing_rows, output_of, schedule_of, output_fault};
 ghost use Rattle.studio_config.specs.Config.{no_memory};
 ghost use Rattle.studio_config.specs.declared.config.keys.Key.TheVariants as key;
 ghost use Rattle.studio_config.specs.declared.config.fault.ConfigTable.TheVariants as at;
@@ -46,19 +46,26 @@ pub(crate) struct Addresses {
     pub to_b: Option<u16>,
 }
 
+/// The clock of the output, and the delay of the copies in which streams are missing, in sampling instants.
+#[derive(Clone, Copy)]
+pub(crate) struct Timing {
+    pub clock: OutputClock,
+    pub late: u16,
+}
+
 /// The contents of the output's table: the output, its gains and their changes, the ports and addresses of its two
-/// copies, and its clock.
+/// copies, and when they are sent.
 #[derive(Drop)]
 pub(crate) struct OutputEntry {
     pub spec: OutSpec,
     pub schedule: Schedule,
     pub addresses: Addresses,
     pub senders: OutputAddresses,
-    pub clock: OutputClock,
+    pub timing: Timing,
 }
 
 /// The keys of the output's table.
-const KEYS: [Key; 18] = [
+const KEYS: [Key; 19] = [
     Key::Encoding,
     Key::Channels,
     Key::Frames,
@@ -77,6 +84,7 @@ const KEYS: [Key; 18] = [
     Key::ToAddressB,
     Key::Ttl,
     Key::Clock,
+    Key::Late,
 ];
 
 /// Reads the output's table, for streams that have `ins` channels in all.
@@ -93,7 +101,8 @@ pub(crate) fn read_output(
     ensures to_a { IfOk result (λ o. number_at (table_view table.now) key.ToA ≡ o.addresses.to_a) }
     ensures to_b { IfOk result (λ o. number_at (table_view table.now) key.ToB ≡ o.addresses.to_b) }
     ensures senders { IfOk result (λ o. o.senders ≡ senders_of (table_view table.now)) }
-    ensures clock { IfOk result (λ o. output_clock_at (table_view table.now) key.Clock ≡ o.clock) }
+    ensures clock { IfOk result (λ o. output_clock_at (table_view table.now) key.Clock ≡ o.timing.clock) }
+    ensures late { IfOk result (λ o. number_or (table_view table.now) key.Late 0 ≡ o.timing.late) }
     ensures outs { IfOk result (λ o. length o.schedule.first ≡ o.spec.channels) }
     ensures ins { IfOk result (λ o. ins_of o.schedule.first ≡ ins) }
     ensures fault { IfErr result (λ e. (e ≡ no_memory) ⊎ (output_fault ins (table_view table.now) ≡ Some e)) }
@@ -106,7 +115,7 @@ pub(crate) fn read_output(
     check_changes(changes)?;
     let addresses = read_addresses(table, place)?;
     let senders = read_senders(table, place)?;
-    let clock = output_clock(table, place, Key::Clock)?;
+    let timing = read_timing(table, place)?;
     check_known(table, place, &KEYS)?;
     // Each key is tested, an unknown one too, before the output as a whole. The gains come last, since their shape
     // depends on the output's channels.
@@ -126,7 +135,7 @@ pub(crate) fn read_output(
         schedule,
         addresses,
         senders,
-        clock,
+        timing,
     })
 }
 
@@ -177,4 +186,16 @@ fn read_addresses(table: &Table, place: ConfigTable) -> Result<Addresses, SpecEr
     let to_a = port(table, place, Key::ToA)?;
     let to_b = port(table, place, Key::ToB)?;
     Ok(Addresses { to_a, to_b })
+}
+
+/// Reads the clock of the output, and the delay of the copies in which streams are missing.
+fn read_timing(table: &Table, place: ConfigTable) -> Result<Timing, SpecError>
+    ensures ok { OnOk result (rows_fault place (table_view table.now) timing_rows ≡ None) }
+    ensures clock { IfOk result (λ t. output_clock_at (table_view table.now) key.Clock ≡ t.clock) }
+    ensures late { IfOk result (λ t. number_or (table_view table.now) key.Late 0 ≡ t.late) }
+    ensures fault { IfErr result (λ e. rows_fault place (table_view table.now) timing_rows ≡ Some e) }
+{
+    let clock = output_clock(table, place, Key::Clock)?;
+    let late = whole_or(table, place, Key::Late, 0, 4800, 0)? as u16;
+    Ok(Timing { clock, late })
 }

@@ -1,7 +1,5 @@
 //! The schedule that the lines of a text lead to, and the studio that has it.
-ghost use Rattle.std.specs.Prelude.{◌≡◌, ◌⊎◌, None, Ok, Err, IfOk, IfErr};
-ghost use Rattle.studio_config.specs.Ports.{absent_rows};
-ghost use Rattle.studio_config.specs.Networks.{absent_networks};
+ghost use Rattle.std.specs.Prelude.{◌≡◌, ◌⊎◌, Ok, Err, IfOk, IfErr};
 ghost use Rattle.studio_run.specs.GainsLines.{line_said, schedule_after};
 ghost use Rattle.studio_run.specs.declared.gains.fault.GainsFaultKind.TheVariants as kind;
 
@@ -14,7 +12,7 @@ use std::alloc::{AllocError, Global};
 use studio_config::StudioSpec;
 
 /// Returns the studio whose gains change as a text says. The changes of the text replace those that were planned from
-/// the time of its first one on. Ports and addresses are left out.
+/// the time of its first one on.
 ///
 /// The error is the first fault of the text, or an allocation failure.
 pub fn studio_with_gains(
@@ -23,7 +21,7 @@ pub fn studio_with_gains(
     text: &[u8],
 ) -> Result<StudioSpec, GainsFault>
     ensures schedule { IfOk result (λ s. schedule_after studio.now.schedule text.now ≡ Ok s.schedule) }
-    ensures others { IfOk result (λ s. s ≡ record studio.now { schedule = s.schedule; ports = record { paths = absent_rows 16; to_a = None; to_b = None }; networks = absent_networks }) }
+    ensures others { IfOk result (λ s. s ≡ record studio.now { schedule = s.schedule }) }
     ensures fault { IfErr result
         (λ e. (e.kind ≡ kind.Memory) ⊎ (schedule_after studio.now.schedule text.now ≡ Err e)) }
 {
@@ -36,10 +34,21 @@ pub fn studio_with_gains(
     match read_lines(alloc, schedule, text) {
         Ok(changed) => {
             let changed = StudioSpec::new(studio.open_at(), streams, *studio.output(), changed);
-            Ok(changed.with_output_clock(studio.output_clock()))
+            Ok(with_others_of(studio, changed))
         }
         Err(fault) => Err(fault),
     }
+}
+
+/// Returns the second studio with the output's clock, the ports, the addresses and the delay of copies of the first.
+fn with_others_of(studio: &StudioSpec, changed: StudioSpec) -> StudioSpec
+    ensures { result ≡ record changed { clock = studio.now.clock; ports = studio.now.ports; networks = studio.now.networks; late = studio.now.late } }
+{
+    changed
+        .with_output_clock(studio.output_clock())
+        .with_ports(*studio.ports())
+        .with_networks(*studio.networks())
+        .with_late(studio.late())
 }
 
 /// Returns the fault of an allocation, which belongs to no line.

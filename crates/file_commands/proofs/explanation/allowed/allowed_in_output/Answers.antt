@@ -29,5 +29,8 @@ returns-in-Ttl c = lemma.allowed_in_output-Ttl c.args.key c.in-Ttl.is
 pub returns-in-Clock : goal.returns-in-Clock
 returns-in-Clock c = lemma.allowed_in_output-Clock c.args.key c.in-Clock.is
 
+pub returns-in-Late : goal.returns-in-Late
+returns-in-Late c = lemma.allowed_in_output-Late c.args.key c.in-Late.is
+
 pub returns-in_default : goal.returns-in_default
-returns-in_default c = c.allowed_in_packets.ensures ∙ lemma.allowed_in_output-others c.args.key c.in_default.not-Channels c.in_default.not-Seq c.in_default.not-Start c.in_default.not-Gains c.in_default.not-Change c.in_default.not-ToA c.in_default.not-ToB c.in_default.not-FromA c.in_default.not-FromB c.in_default.not-ToAddressA c.in_default.not-ToAddressB c.in_default.not-Ttl c.in_default.not-Clock
+returns-in_default c = c.allowed_in_packets.ensures ∙ lemma.allowed_in_output-others c.args.key c.in_default.not-Channels c.in_default.not-Seq c.in_default.not-Start c.in_default.not-Gains c.in_default.not-Change c.in_default.not-ToA c.in_default.not-ToB c.in_default.not-FromA c.in_default.not-FromB c.in_default.not-ToAddressA c.in_default.not-ToAddressB c.in_default.not-Ttl c.in_default.not-Clock c.in_default.not-Late

@@ -4,7 +4,7 @@ use Rattle.toml.specs.View.{table_view}
 use Rattle.studio_config.specs.OutputTable.{each_fault, change_fault}
 use Rattle.studio_config.specs.declared.config.keys.Key.TheVariants as key
 use Rattle.studio_config.specs.Values.{tables_at}
-use Rattle.studio_config.proofs.FaultLemmas.{output_fault-packets, output_fault-numbers, output_fault-gains, output_fault-changes, output_fault-each, output_fault-addresses, output_fault-senders, output_fault-clock, output_fault-unknown}
+use Rattle.studio_config.proofs.FaultLemmas.{output_fault-packets, output_fault-numbers, output_fault-gains, output_fault-changes, output_fault-each, output_fault-addresses, output_fault-senders, output_fault-timing, output_fault-unknown}
 use Rattle.studio_config.proofs.config.output.read_output.Goals as goal
 
 pub returns-in_err-packets-clause-fault : goal.returns-in_err-packets-clause-fault
@@ -44,17 +44,17 @@ returns-in_err-senders-clause-fault c =
     let each : each_fault change_fault 0 (tables_at (table_view c.args.table.now) key.Change) ≡ None = ap (each_fault change_fault 0) (sym c.in_ok-changes.ensures.tables) ∙ c.in_ok-check_changes.ensures.ok in
     rw is (inr (output_fault-senders c.args.ins (table_view c.args.table.now) _ c.in_ok-packets.ensures.ok c.in_ok-numbers.ensures.ok c.in_ok-check_gains.ensures.ok c.in_ok-changes.ensures.ok each c.in_ok-addresses.ensures.ok c.in_err-senders.ensures.fault))
 
-pub returns-in_err-clock-clause-fault : goal.returns-in_err-clock-clause-fault
-returns-in_err-clock-clause-fault c =
-    let is : c.from_residual-in_err-clock.result ≡ Err c.in_err-clock.field-0.0 = search rules in
+pub returns-in_err-timing-clause-fault : goal.returns-in_err-timing-clause-fault
+returns-in_err-timing-clause-fault c =
+    let is : c.from_residual-in_err-timing.result ≡ Err c.in_err-timing.field-0.0 = search rules in
     let each : each_fault change_fault 0 (tables_at (table_view c.args.table.now) key.Change) ≡ None = ap (each_fault change_fault 0) (sym c.in_ok-changes.ensures.tables) ∙ c.in_ok-check_changes.ensures.ok in
-    rw is (inr (output_fault-clock c.args.ins (table_view c.args.table.now) _ c.in_ok-packets.ensures.ok c.in_ok-numbers.ensures.ok c.in_ok-check_gains.ensures.ok c.in_ok-changes.ensures.ok each c.in_ok-addresses.ensures.ok c.in_ok-senders.ensures.ok c.in_err-clock.ensures.fault))
+    rw is (inr (output_fault-timing c.args.ins (table_view c.args.table.now) _ c.in_ok-packets.ensures.ok c.in_ok-numbers.ensures.ok c.in_ok-check_gains.ensures.ok c.in_ok-changes.ensures.ok each c.in_ok-addresses.ensures.ok c.in_ok-senders.ensures.ok c.in_err-timing.ensures.fault))
 
 pub returns-in_err-check_known-clause-fault : goal.returns-in_err-check_known-clause-fault
 returns-in_err-check_known-clause-fault c =
     let is : c.from_residual-in_err-check_known.result ≡ Err c.in_err-check_known.field-0.0 = search rules in
     let each : each_fault change_fault 0 (tables_at (table_view c.args.table.now) key.Change) ≡ None = ap (each_fault change_fault 0) (sym c.in_ok-changes.ensures.tables) ∙ c.in_ok-check_changes.ensures.ok in
-    rw is (inr (output_fault-unknown c.args.ins (table_view c.args.table.now) _ c.in_ok-packets.ensures.ok c.in_ok-numbers.ensures.ok c.in_ok-check_gains.ensures.ok c.in_ok-changes.ensures.ok each c.in_ok-addresses.ensures.ok c.in_ok-senders.ensures.ok c.in_ok-clock.ensures.ok c.in_err-check_known.ensures.fault))
+    rw is (inr (output_fault-unknown c.args.ins (table_view c.args.table.now) _ c.in_ok-packets.ensures.ok c.in_ok-numbers.ensures.ok c.in_ok-check_gains.ensures.ok c.in_ok-changes.ensures.ok each c.in_ok-addresses.ensures.ok c.in_ok-senders.ensures.ok c.in_ok-timing.ensures.ok c.in_err-check_known.ensures.fault))
 
 pub read_schedule-requires-clause-same : goal.read_schedule-requires-clause-same
 read_schedule-requires-clause-same c = grind (arith, elements)

@@ -91,7 +91,7 @@ module _ (c : goal.After-by_clock) where
   members = table_view c.args.table.now
 
   -- the studio by the clock of the run
-  run_studio : c.with_networks.result ≡ run_studio_of members
+  run_studio : c.with_late.result ≡ run_studio_of members
   run_studio =
       let open_at : to_z w64 c.in_ok-open_at.field-0 ≡ pos (number_or members key.OpenAt 0) = to_z_pos w64 (omega (arith, c.in_ok-open_at.ensures.high)) ∙ ap pos (sym c.in_ok-open_at.ensures.number) in
       let streams : c.in_ok-streams.streams.items ≡ streams_of members = c.in_ok-streams.ensures.streams ∙ ap (map stream_of) c.in_ok-tables.ensures.tables in
@@ -104,27 +104,28 @@ module _ (c : goal.After-by_clock) where
       let to_a : c.in_ok-output.output.addresses.to_a ≡ number_at (table_at members key.Output) key.ToA = sym c.in_ok-output.ensures.to_a ∙ ap (λ t. number_at t key.ToA) table in
       let to_b : c.in_ok-output.output.addresses.to_b ≡ number_at (table_at members key.Output) key.ToB = sym c.in_ok-output.ensures.to_b ∙ ap (λ t. number_at t key.ToB) table in
       let senders : c.in_ok-output.output.senders ≡ senders_of (table_at members key.Output) = c.in_ok-output.ensures.senders ∙ ap senders_of table in
-      rw (c.with_networks.ensures, c.with_ports.ensures, c.new-studio.ensures, open_at, streams, paths, receive_at, sources, output, schedule, to_a, to_b, senders)
+      let late : c.in_ok-output.output.timing.late ≡ number_or (table_at members key.Output) key.Late 0 = sym c.in_ok-output.ensures.late ∙ ap (λ t. number_or t key.Late 0) table in
+      rw (c.with_late.ensures, c.with_networks.ensures, c.with_ports.ensures, c.new-studio.ensures, open_at, streams, paths, receive_at, sources, output, schedule, to_a, to_b, senders, late)
 
   -- the clock of the output
-  clock : c.in_ok-output.output.clock ≡ output_clock_of members
+  clock : c.in_ok-output.output.timing.clock ≡ output_clock_of members
   clock = sym c.in_ok-output.ensures.clock ∙ ap (λ t. output_clock_at t key.Clock) (sym c.in_ok-output_table.ensures.table)
 
   -- what is left is the fault of the clock
-  fault : clock_fault_of c.in_ok-output.output.clock c.with_networks.result ≡ config_fault_of members
+  fault : clock_fault_of c.in_ok-output.output.timing.clock c.with_late.result ≡ config_fault_of members
   fault =
       let top = top_fault-none members c.in_ok-open_at.ensures.ok c.in_ok-tables.ensures.ok c.in_ok-output_table.ensures.ok c.in_ok-check_known.ensures.ok in
       let streams : each_fault (λ n. stream_fault (at.Stream n)) 0 (tables_at members key.Stream) ≡ None = ap (each_fault (λ n. stream_fault (at.Stream n)) 0) (sym c.in_ok-tables.ensures.tables) ∙ c.in_ok-streams.ensures.ok in
       let ins : c.channel_total-ins.result ≡ channel_total (streams_of members) = c.channel_total-ins.ensures.total ∙ ap channel_total (c.deref.ensures.value ∙ c.in_ok-streams.ensures.streams ∙ ap (map stream_of) c.in_ok-tables.ensures.tables) in
       let output : output_fault (channel_total (streams_of members)) (table_at members key.Output) ≡ None = ap (λ n. output_fault n (table_at members key.Output)) (sym ins) ∙ ap (output_fault c.channel_total-ins.result) c.in_ok-output_table.ensures.table ∙ c.in_ok-output.ensures.ok in
-      ap (λ clock. clock_fault_of clock c.with_networks.result) clock ∙ ap (clock_fault_of (output_clock_of members)) run_studio ∙ sym (config_fault-clock members top streams output)
+      ap (λ clock. clock_fault_of clock c.with_late.result) clock ∙ ap (clock_fault_of (output_clock_of members)) run_studio ∙ sym (config_fault-clock members top streams output)
 
 pub returns-clause-ok : goal.returns-clause-ok
 returns-clause-ok c = subst (λ fault. OnOk c.by_clock.result (fault ≡ None)) (fault c) c.by_clock.ensures.fine
 
 pub returns-clause-studio : goal.returns-clause-studio
 returns-clause-studio c =
-    let same : by_clock c.in_ok-output.output.clock c.with_networks.result ≡ studio_of (table_view c.args.table.now) = ap (λ clock. by_clock clock c.with_networks.result) (clock c) ∙ ap (by_clock (output_clock_of (table_view c.args.table.now))) (run_studio c) in
+    let same : by_clock c.in_ok-output.output.timing.clock c.with_late.result ≡ studio_of (table_view c.args.table.now) = ap (λ clock. by_clock clock c.with_late.result) (clock c) ∙ ap (by_clock (output_clock_of (table_view c.args.table.now))) (run_studio c) in
     subst (λ (studio : Studio). IfOk c.by_clock.result (λ s. s ≡ studio)) same c.by_clock.ensures.ok
 
 pub returns-clause-fault : goal.returns-clause-fault

@@ -1,6 +1,6 @@
-use Rattle.std.proofs.lemmas.Nat.{rows}
 use Rattle.std.proofs.lemmas.Grind.{elements}
-use Rattle.std.proofs.Common.{arith}
+use Rattle.std.proofs.Common.{◌≡◌, ◌∙◌, arith, refl, to_z, of_z, w64}
+use Rattle.std.proofs.lemmas.Int.{ints}
 use Rattle.studio_run.proofs.gains.studio.studio_with_gains.Goals as goal
 
 pub new-changed-requires-clause-few : goal.new-changed-requires-clause-few
@@ -25,4 +25,10 @@ pub returns-in-Err-clause-fault : goal.returns-in-Err-clause-fault
 returns-in-Err-clause-fault c = grind (arith, elements)
 
 pub returns-in-Ok-read_lines-clause-others : goal.returns-in-Ok-read_lines-clause-others
-returns-in-Ok-read_lines-clause-others c = grind (arith, rows)
+returns-in-Ok-read_lines-clause-others c =
+    let low = c.open_at.ensures.sound.open_low in
+    let high = c.open_at.ensures.sound.open_high in
+    let is = c.open_at.ensures.value in
+    let open_at : to_z w64 (of_z w64 c.open_at.result) ≡ c.args.studio.now.open_at = omega (arith, ints) in
+    let streams : c.in-Ok-from_slice.streams.items ≡ c.args.studio.now.streams = c.in-Ok-from_slice.ensures.items ∙ c.streams.ensures.value in
+    rw (c.with_others_of.ensures, c.new-changed.ensures, open_at, streams, c.output.ensures) refl
