@@ -8,11 +8,15 @@ use Rattle.studio_io.specs.declared.output_states.OutputStates.{OutputStates}
 use Rattle.live_status.specs.Each.{AreEach}
 
 -- what a source of health says: of the socket of a path of a stream, of the datagrams of each copy of the mix that were
--- not sent, of those that were stale, or of the run's outputs
+-- not sent, of those that were stale, of those in which a stream was missing, that were sent late or left out, or of the
+-- run's outputs
 pub data Said : Type 0 where
   OfSocket : ℕ → ℕ → Option SocketState → Said
   OfFailed : List ℕ → Said
   OfStale : ℕ → Said
+  OfIncomplete : ℕ → Said
+  OfSentLate : ℕ → Said
+  OfLeftOut : ℕ → Said
   OfOutputs : OutputStates → Said
 
 -- the state of a path's socket is what the source says of this path; nothing else of the path changed
@@ -33,4 +37,7 @@ pub record HasHealth (Says : Said → Type 0) (snapshot : Snapshot) : Type 0 whe
   pub sockets : (number place : ℕ) (stream : StreamState) (path : PathState) → slice_get snapshot.streams.items number ≡ Some stream → slice_get stream.paths.items place ≡ Some path → Says (OfSocket number place path.socket)
   pub failed : Says (OfFailed snapshot.failed_sends)
   pub stale : Says (OfStale snapshot.stale)
+  pub incomplete : Says (OfIncomplete snapshot.incomplete)
+  pub sent_late : Says (OfSentLate snapshot.sent_late)
+  pub left_out : Says (OfLeftOut snapshot.left_out)
   pub outputs : Says (OfOutputs snapshot.run_outputs)

@@ -5,7 +5,7 @@ use Rattle.rtp_stream.specs.CountsFacts.{Tally}
 use Rattle.rtp_stream.specs.Path.{path_letter}
 use Rattle.studio_run.specs.Report.{count_text, tally_text}
 use Rattle.status_page.specs.declared.snapshot.SocketState.{SocketState}
-use Rattle.live_status.specs.declared.lines.running.FailedSends.{FailedSends}
+use Rattle.live_status.specs.declared.lines.running.MixCounts.{MixCounts}
 use Rattle.studio_io.specs.declared.output_kind.OutputKind.{OutputKind}
 use Rattle.studio_io.specs.declared.output_kind.TheConstants.{OUTPUT_KINDS}
 use Rattle.studio_io.specs.declared.output_state.OutputState.{OutputState}
@@ -58,8 +58,8 @@ socket_left_out socket = codes " too_long=" ++ decimal socket.too_long ++ codes 
 abbrev pub socket_line : ℕ → ℕ → ℤ → SocketState → List ℕ
 socket_line stream path time socket = socket_place stream path time ++ socket_faults socket ++ socket_losses socket ++ socket_left_out socket
 
--- the line of a run, at this clock reading: the failed sends of each copy of the mix, those that were stale, and then its
--- outputs
+-- the line of a run, at this clock reading: the failed sends of each copy of the mix, those that were stale, the datagrams
+-- in which a stream was missing, those that were sent late and those that were left out, and then its outputs
 unfoldable pub run_time : ℤ → List ℕ
 run_time time = codes "run time=" ++ signed_decimal time
 
@@ -69,8 +69,22 @@ run_failed failed_a failed_b = codes " failed_a=" ++ decimal failed_a ++ codes "
 unfoldable pub run_stale : ℕ → List ℕ
 run_stale stale = codes " stale=" ++ decimal stale
 
-abbrev pub run_sends : ℤ → FailedSends → List ℕ
-run_sends time failed = run_time time ++ run_failed failed.a failed.b ++ run_stale failed.stale
+unfoldable pub run_incomplete : ℕ → List ℕ
+run_incomplete incomplete = codes " incomplete=" ++ decimal incomplete
+
+unfoldable pub run_sent_late : ℕ → List ℕ
+run_sent_late sent_late = codes " sent_late=" ++ decimal sent_late
+
+unfoldable pub run_left_out : ℕ → List ℕ
+run_left_out left_out = codes " left_out=" ++ decimal left_out
+
+unfoldable pub run_missing : ℕ → ℕ → ℕ → List ℕ
+run_missing incomplete sent_late left_out = run_incomplete incomplete ++ run_sent_late sent_late ++ run_left_out left_out
+
+abbrev pub run_sends : ℤ → MixCounts → List ℕ
+run_sends time counts =
+    run_time time ++ run_failed counts.failed_a counts.failed_b ++ run_stale counts.stale
+    ++ run_missing counts.incomplete counts.sent_late counts.left_out
 
 -- the name of an output's state, behind the output's name
 unfoldable pub output_state : OutputKind → List ℕ → List ℕ
@@ -102,5 +116,5 @@ unfoldable pub run_outputs : List OutputKind → OutputStates → List ℕ
 run_outputs [] states = []
 run_outputs (kind ∷ kinds) states = run_output kind (state_of kind states) ++ run_outputs kinds states
 
-abbrev pub run_line : ℤ → FailedSends → OutputStates → List ℕ
-run_line time failed states = run_sends time failed ++ run_outputs OUTPUT_KINDS states ++ codes "\n"
+abbrev pub run_line : ℤ → MixCounts → OutputStates → List ℕ
+run_line time counts states = run_sends time counts ++ run_outputs OUTPUT_KINDS states ++ codes "\n"

@@ -17,13 +17,16 @@ pub record IsBlankSnapshot (statuses : List StreamStatus) (channels : ℕ) (snap
   pub streams : length statuses ≤ 16 → AreEach IsBlankOf statuses snapshot.streams.items
   pub outputs : snapshot.outputs.items ≡ replicate channels blank_output
 
--- the snapshot that was passed in, with the conditions of its streams and what their watches show; the failed and stale
--- sends of the mix, and the states of the run's record, WAV file and raw PCM, are those that were passed in
+-- the snapshot that was passed in, with the conditions of its streams and what their watches show; the counts of the mix's
+-- datagrams, and the states of the run's record, WAV file and raw PCM, are those that were passed in
 pub record IsShown (watches : List StreamWatch) (statuses : List StreamStatus) (now : ℤ) (has_ended : Bool) (given shown : Snapshot) : Type 0 where
   pub streams : ShowsStreams watches statuses now has_ended given.streams.items shown.streams.items
   pub outputs : shown.outputs ≡ given.outputs
   pub sends : shown.failed_sends ≡ given.failed_sends
   pub stale : shown.stale ≡ given.stale
+  pub incomplete : shown.incomplete ≡ given.incomplete
+  pub sent_late : shown.sent_late ≡ given.sent_late
+  pub left_out : shown.left_out ≡ given.left_out
   pub run_outputs : shown.run_outputs ≡ given.run_outputs
 
 -- the snapshot, with these conditions and watches, went through the ring, if there was space

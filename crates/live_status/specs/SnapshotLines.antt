@@ -7,7 +7,7 @@ use Rattle.status_page.specs.declared.snapshot.Snapshot.{Snapshot}
 use Rattle.status_page.specs.declared.snapshot.StreamState.{StreamState}
 use Rattle.live_status.specs.DriftLines.{drift_line, left_line}
 use Rattle.live_status.specs.Lines.{run_line, running_line, socket_line}
-use Rattle.live_status.specs.declared.lines.running.FailedSends.{FailedSends}
+use Rattle.live_status.specs.declared.lines.running.MixCounts.{MixCounts}
 
 -- a line, if what it says is known
 abbrev pub line_if : {T : Type 0} → Option T → (T → List ℕ) → List (List ℕ)
@@ -44,13 +44,13 @@ abbrev pub streams_lines : ℕ → ℤ → List StreamState → List (List ℕ)
 streams_lines number time [] = []
 streams_lines number time (stream ∷ more) = stream_lines number time stream ++ streams_lines (suc number) time more
 
--- the datagrams of each copy of the mix that were not sent, and those that were stale
-abbrev pub failed_in : Snapshot → FailedSends
-failed_in snapshot = record { a = slice_index snapshot.failed_sends 0; b = slice_index snapshot.failed_sends 1; stale = snapshot.stale }
+-- the counts of the mix's datagrams in a snapshot
+abbrev pub mix_counts_in : Snapshot → MixCounts
+mix_counts_in snapshot = record { failed_a = slice_index snapshot.failed_sends 0; failed_b = slice_index snapshot.failed_sends 1; stale = snapshot.stale; incomplete = snapshot.incomplete; sent_late = snapshot.sent_late; left_out = snapshot.left_out }
 
 -- the lines of a snapshot: those of each stream, and that of the run
 abbrev pub snapshot_lines : ℤ → Snapshot → List (List ℕ)
-snapshot_lines time snapshot = streams_lines 0 time snapshot.streams.items ++ run_line time (failed_in snapshot) snapshot.run_outputs ∷ []
+snapshot_lines time snapshot = streams_lines 0 time snapshot.streams.items ++ run_line time (mix_counts_in snapshot) snapshot.run_outputs ∷ []
 
 -- the text is that of some of these lines, whole and in their order; the others were left out
 abbrev pub AreSomeOf : List (List ℕ) → List ℕ → Type 0

@@ -6,7 +6,10 @@ ghost use Rattle.live_status.specs.Health.{
   FillsSockets,
   HasHealth,
   OfFailed,
+  OfIncomplete,
+  OfLeftOut,
   OfOutputs,
+  OfSentLate,
   OfSocket,
   OfStale,
   Said,
@@ -33,13 +36,25 @@ pub trait HealthSource: Drop {
     fn stale(&self) -> u64
         ensures { says self.now (OfStale result) };
 
+    /// Returns the number of datagrams of the mix in whose block a stream was missing, sent or not.
+    fn incomplete(&self) -> u64
+        ensures { says self.now (OfIncomplete result) };
+
+    /// Returns the number of datagrams of the mix that were sent later than a whole one.
+    fn sent_late(&self) -> u64
+        ensures { says self.now (OfSentLate result) };
+
+    /// Returns the number of datagrams of the mix that were left out because whole copies come from elsewhere.
+    fn left_out(&self) -> u64
+        ensures { says self.now (OfLeftOut result) };
+
     /// Returns the states of the run's outputs.
     fn outputs(&self) -> OutputStates
         ensures { says self.now (OfOutputs result) };
 }
 
-/// Fills in the health of a run: the socket of each path, the sends that failed or were left out, and the states of the
-/// run's outputs.
+/// Fills in the health of a run: the socket of each path, the sends that failed or were left out, the datagrams in
+/// which a stream was missing, and the states of the run's outputs.
 pub fn fill_health<H: HealthSource>(health: &H, snapshot: &mut Snapshot)
     ensures streams { AreEach (FillsSockets (H.says health.now)) snapshot.old.streams.items snapshot.new.streams.items }
     ensures outputs { snapshot.new.outputs ≡ snapshot.old.outputs }
@@ -47,6 +62,9 @@ pub fn fill_health<H: HealthSource>(health: &H, snapshot: &mut Snapshot)
 {
     snapshot.failed_sends = health.failed_sends();
     snapshot.stale = health.stale();
+    snapshot.incomplete = health.incomplete();
+    snapshot.sent_late = health.sent_late();
+    snapshot.left_out = health.left_out();
     snapshot.run_outputs = health.outputs();
     fill_sockets(health, snapshot.streams.as_mut_slice());
 }

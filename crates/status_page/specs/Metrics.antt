@@ -321,6 +321,22 @@ run_output_families (kind ∷ kinds) states = run_output_family kind (state_of k
 unfoldable pub stale_text : ℕ → List ℕ
 stale_text stale = single_family (codes "sends_") (codes "stale") Counter (codes "Datagrams of the mix that were sent to neither address, because they were useless to every receiver.") (Some stale)
 
+-- the metric of the datagrams of the mix in whose block a stream was missing
+unfoldable pub incomplete_text : ℕ → List ℕ
+incomplete_text incomplete = single_family (codes "incomplete_") (codes "datagrams") Counter (codes "Datagrams of the mix in whose block a stream was missing, sent or not.") (Some incomplete)
+
+-- the metric of the datagrams of the mix that were sent later than a whole one
+unfoldable pub sent_late_text : ℕ → List ℕ
+sent_late_text sent_late = single_family (codes "late_") (codes "datagrams") Counter (codes "Datagrams of the mix that were sent later than a whole one, because a stream was missing.") (Some sent_late)
+
+-- the metric of the datagrams of the mix that were left out because whole copies come from elsewhere
+unfoldable pub left_out_text : ℕ → List ℕ
+left_out_text left_out = single_family (codes "left_out_") (codes "datagrams") Counter (codes "Datagrams of the mix that were left out because whole copies come from elsewhere: no stream was there, or the run had ended.") (Some left_out)
+
+-- these three metrics
+abbrev pub incomplete_families : ℕ → ℕ → ℕ → List ℕ
+incomplete_families incomplete sent_late left_out = incomplete_text incomplete ++ sent_late_text sent_late ++ left_out_text left_out
+
 -- all metrics
 unfoldable pub metrics_text : Snapshot → List ℕ
 metrics_text snapshot =
@@ -331,4 +347,5 @@ metrics_text snapshot =
     ++ output_families OUTPUT_FIELDS snapshot.outputs.items
     ++ failed_text (slice_index snapshot.failed_sends 0) (slice_index snapshot.failed_sends 1)
     ++ stale_text snapshot.stale
+    ++ incomplete_families snapshot.incomplete snapshot.sent_late snapshot.left_out
     ++ run_output_families OUTPUT_KINDS snapshot.run_outputs

@@ -122,6 +122,13 @@ failed_tokens failed =
 abbrev pub stale_tokens : ℕ → List Token
 stale_tokens stale = key (codes "stale") ∷ number_token stale ∷ []
 
+-- the numbers of datagrams of the mix in whose block a stream was missing, of those that were sent later than a whole one,
+-- and of those that were left out because whole copies come from elsewhere
+abbrev pub incomplete_tokens : ℕ → ℕ → ℕ → List Token
+incomplete_tokens incomplete sent_late left_out =
+    key (codes "incomplete") ∷ number_token incomplete ∷ key (codes "sent_late") ∷ number_token sent_late
+    ∷ key (codes "left_out") ∷ number_token left_out ∷ []
+
 -- a state, by its name
 abbrev pub state_member : List ℕ → List Token
 state_member name = key (codes "state") ∷ string name ∷ []
@@ -160,4 +167,6 @@ unfoldable pub state_tokens : Snapshot → List Token
 state_tokens snapshot =
     begin_object ∷ (array_tokens (codes "streams") (streams_tokens snapshot.streams.items)
     ++ array_tokens (codes "outputs") (outputs_tokens snapshot.outputs.items)
-    ++ failed_tokens snapshot.failed_sends ++ stale_tokens snapshot.stale ++ run_outputs_tokens OUTPUT_KINDS snapshot.run_outputs ++ end_object ∷ [])
+    ++ failed_tokens snapshot.failed_sends ++ stale_tokens snapshot.stale
+    ++ incomplete_tokens snapshot.incomplete snapshot.sent_late snapshot.left_out
+    ++ run_outputs_tokens OUTPUT_KINDS snapshot.run_outputs ++ end_object ∷ [])

@@ -184,17 +184,28 @@ pub struct Snapshot {
     pub failed_sends: [u64; 2],
     /// The number of datagrams of the mix that were left out of both copies because they were stale.
     pub stale: u64,
+    /// The number of datagrams of the mix in whose block a stream was missing, sent or not.
+    pub incomplete: u64,
+    /// The number of datagrams of the mix that were sent later than a whole one.
+    pub sent_late: u64,
+    /// The number of datagrams of the mix that were left out because whole copies come from elsewhere: no stream was
+    /// there, or the run had ended.
+    pub left_out: u64,
     /// The state of what the run writes next to its mix: its record, its WAV file and its raw PCM.
     pub run_outputs: OutputStates,
 }
 
 impl Snapshot {
-    /// Returns a snapshot without streams, output channels and outputs of the run, in which no send failed.
+    /// Returns a snapshot without streams, output channels and outputs of the run, in which no send failed
+    /// and no stream was missing.
     pub fn new() -> Snapshot
         ensures streams { result.streams.items ≡ [] }
         ensures outputs { result.outputs.items ≡ [] }
         ensures sends { result.failed_sends ≡ 0 ∷ 0 ∷ [] }
         ensures stale { result.stale ≡ 0 }
+        ensures incomplete { result.incomplete ≡ 0 }
+        ensures late { result.sent_late ≡ 0 }
+        ensures left_out { result.left_out ≡ 0 }
         ensures run_outputs { (kind : OutputKind) → state_of kind result.run_outputs ≡ Absent }
     {
         Snapshot {
@@ -202,6 +213,9 @@ impl Snapshot {
             outputs: ArrayVec::new(),
             failed_sends: [0; 2],
             stale: 0,
+            incomplete: 0,
+            sent_late: 0,
+            left_out: 0,
             run_outputs: OutputStates::new(),
         }
     }

@@ -4,6 +4,7 @@ ghost use Rattle.rtp_stream.specs.Counts.{tally_of};
 ghost use Rattle.live_status.specs.Lines.{flag_text, known_text, running_line};
 ghost use Rattle.live_status.specs.Lines.{output_left_out, output_left_out_if, output_state, output_written};
 ghost use Rattle.live_status.specs.Lines.{run_failed, run_line, run_output, run_output_counts, run_outputs};
+ghost use Rattle.live_status.specs.Lines.{run_incomplete, run_left_out, run_missing, run_sent_late};
 ghost use Rattle.live_status.specs.Lines.{run_stale, run_time};
 ghost use Rattle.live_status.specs.Lines.{
   socket_faults,
@@ -125,30 +126,39 @@ pub(crate) fn push_known(text: &mut TextBuffer, number: Option<u64>)
     }
 }
 
-/// The datagrams of each copy of the mix that were not sent, and those of them that were left out of both because they
-/// were stale.
+/// The counts of the mix's datagrams.
 #[derive(Clone, Copy)]
-pub(crate) struct FailedSends {
-    pub(crate) a: u64,
-    pub(crate) b: u64,
+pub(crate) struct MixCounts {
+    /// The datagrams that were not sent to the first address.
+    pub(crate) failed_a: u64,
+    /// The datagrams that were not sent to the second address.
+    pub(crate) failed_b: u64,
+    /// The datagrams that were sent to neither address because they were stale.
     pub(crate) stale: u64,
+    /// The datagrams in whose block a stream was missing, sent or not.
+    pub(crate) incomplete: u64,
+    /// The datagrams that were sent later than a whole one.
+    pub(crate) sent_late: u64,
+    /// The datagrams that were left out because whole copies come from elsewhere.
+    pub(crate) left_out: u64,
 }
 
-/// Adds the line of a run at a clock reading, in sampling instants: the datagrams of each copy of the mix that were not
-/// sent, those that were stale, and the states of the run's outputs, each with its counts.
+/// Adds the line of a run at a clock reading, in sampling instants: the counts of the mix's datagrams, and the states
+/// of the run's outputs, each with its counts.
 // Each word is a function of its own, so that no proof has more than a few texts to compare.
 pub(crate) fn push_run_line(
     text: &mut TextBuffer,
     time: i64,
-    failed: FailedSends,
+    counts: MixCounts,
     outputs: &OutputStates,
 )
     requires { length text.old + 4096 ≤ 65536 }
-    ensures { text.new ≡ text.old ++ run_line time failed outputs.now }
+    ensures { text.new ≡ text.old ++ run_line time counts outputs.now }
 {
     push_run_time(text, time);
-    push_run_failed(text, failed.a, failed.b);
-    push_run_stale(text, failed.stale);
+    push_run_failed(text, counts.failed_a, counts.failed_b);
+    push_run_stale(text, counts.stale);
+    push_run_missing(text, counts.incomplete, counts.sent_late, counts.left_out);
     push_run_outputs(text, &OUTPUT_KINDS, outputs);
     text.push("\n");
 }
@@ -186,6 +196,52 @@ fn push_run_stale(text: &mut TextBuffer, stale: u64)
 {
     text.push(" stale=");
     text.push_number(stale);
+}
+
+/// Adds the datagrams of the mix in whose block a stream was missing, those that were sent later than a whole one, and
+/// those that were left out because whole copies come from elsewhere.
+#[tactic(auto, unfolding(crate::specs::Lines::run_missing))]
+fn push_run_missing(text: &mut TextBuffer, incomplete: u64, sent_late: u64, left_out: u64)
+    requires { length text.old + 300 ≤ 65536 }
+    ensures text { text.new ≡ text.old ++ run_missing incomplete sent_late left_out }
+    ensures few { length text.new ≤ length text.old + 300 }
+{
+    push_run_incomplete(text, incomplete);
+    push_run_sent_late(text, sent_late);
+    push_run_left_out(text, left_out);
+}
+
+/// Adds the datagrams of the mix in whose block a stream was missing.
+#[tactic(auto, unfolding(crate::specs::Lines::run_incomplete))]
+fn push_run_incomplete(text: &mut TextBuffer, incomplete: u64)
+    requires { length text.old + 100 ≤ 65536 }
+    ensures text { text.new ≡ text.old ++ run_incomplete incomplete }
+    ensures few { length text.new ≤ length text.old + 100 }
+{
+    text.push(" incomplete=");
+    text.push_number(incomplete);
+}
+
+/// Adds the datagrams of the mix that were sent later than a whole one.
+#[tactic(auto, unfolding(crate::specs::Lines::run_sent_late))]
+fn push_run_sent_late(text: &mut TextBuffer, sent_late: u64)
+    requires { length text.old + 100 ≤ 65536 }
+    ensures text { text.new ≡ text.old ++ run_sent_late sent_late }
+    ensures few { length text.new ≤ length text.old + 100 }
+{
+    text.push(" sent_late=");
+    text.push_number(sent_late);
+}
+
+/// Adds the datagrams of the mix that were left out because whole copies come from elsewhere.
+#[tactic(auto, unfolding(crate::specs::Lines::run_left_out))]
+fn push_run_left_out(text: &mut TextBuffer, left_out: u64)
+    requires { length text.old + 100 ≤ 65536 }
+    ensures text { text.new ≡ text.old ++ run_left_out left_out }
+    ensures few { length text.new ≤ length text.old + 100 }
+{
+    text.push(" left_out=");
+    text.push_number(left_out);
 }
 
 /// Adds the outputs of these kinds.

@@ -8,7 +8,7 @@ ghost use Rattle.live_status.specs.SnapshotLines.{
   WritesSome,
   counts_line,
   drift_lines,
-  failed_in,
+  mix_counts_in,
   path_lines,
   paths_lines,
   snapshot_lines,
@@ -18,7 +18,7 @@ ghost use Rattle.live_status.specs.SnapshotLines.{
 };
 
 use crate::lines::drift::{push_drift_line, push_left_line};
-use crate::lines::running::{FailedSends, push_run_line, push_running_line, push_socket_line};
+use crate::lines::running::{MixCounts, push_run_line, push_running_line, push_socket_line};
 use live_io::{STDERR, is_ready};
 use rtp_stream::Path;
 use status_page::{PathState, Snapshot, StreamState};
@@ -184,17 +184,19 @@ fn push_socket(text: &mut TextBuffer, now: i64, number: u8, letter: Path, path: 
 /// Adds the line of the run, if standard error takes a line at once.
 fn push_run(text: &mut TextBuffer, now: i64, snapshot: &Snapshot)
     requires { text.old ≡ [] }
-    ensures { AreSomeOf (run_line now (failed_in snapshot.now) snapshot.now.run_outputs ∷ []) text.new }
+    ensures { AreSomeOf (run_line now (mix_counts_in snapshot.now) snapshot.now.run_outputs ∷ []) text.new }
 {
     if can_write() {
         let [a, b] = snapshot.failed_sends;
-        let stale = snapshot.stale;
-        push_run_line(
-            text,
-            now,
-            FailedSends { a, b, stale },
-            &snapshot.run_outputs,
-        );
+        let counts = MixCounts {
+            failed_a: a,
+            failed_b: b,
+            stale: snapshot.stale,
+            incomplete: snapshot.incomplete,
+            sent_late: snapshot.sent_late,
+            left_out: snapshot.left_out,
+        };
+        push_run_line(text, now, counts, &snapshot.run_outputs);
     }
 }
 

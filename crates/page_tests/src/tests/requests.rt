@@ -58,7 +58,7 @@ const SHORT: [(&str, &[&str]); 12] = [
         &[
             "HTTP/1.0 200 OK\r\ncontent-type: application/json\r\n",
             GUARD,
-            "content-length: 1248\r\nconnection: close\r\n\r\n",
+            "content-length: 1293\r\nconnection: close\r\n\r\n",
         ],
     ),
     (
@@ -140,7 +140,7 @@ fn behind<'a>(octets: &'a [u8], parts: &[&str]) -> Option<&'a [u8]> {
 const KEPT: [&str; 7] = [
     "HTTP/1.1 200 OK\r\ncontent-type: application/json\r\n",
     GUARD,
-    "content-length: 1248\r\n\r\n",
+    "content-length: 1293\r\n\r\n",
     STATE,
     "HTTP/1.1 200 OK\r\ncontent-type: text/html; charset=utf-8\r\n",
     GUARD,

@@ -110,7 +110,8 @@ fn run_outputs() -> OutputStates {
     states
 }
 
-/// Returns a snapshot of that stream, of two output channels, of failed and stale sends, and of the outputs of a run.
+/// Returns a snapshot of that stream, of two output channels, of failed, stale, incomplete and late sends, and of the
+/// outputs of a run.
 pub(super) fn snapshot() -> Snapshot {
     let mut snapshot = Snapshot::new();
     let _ = snapshot.streams.try_push(stream());
@@ -118,6 +119,9 @@ pub(super) fn snapshot() -> Snapshot {
     add_output(&mut snapshot, 0);
     snapshot.failed_sends = [11, 13];
     snapshot.stale = 10;
+    snapshot.incomplete = 31;
+    snapshot.sent_late = 32;
+    snapshot.left_out = 33;
     snapshot.run_outputs = run_outputs();
     snapshot
 }

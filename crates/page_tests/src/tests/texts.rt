@@ -14,11 +14,14 @@ pub(super) const STATE: &str =
     \"late\":null,\"ahead\":null,\"repeated\":null,\"bad\":null,\"wrong_type\":null,\"wrong_length\":null,\"full\":null,\"spare_least\":null,\
     \"spare_median\":null,\"spare_greatest\":null,\"drift_ppm\":null,\"astray\":null,\"repeating\":null,\"unexpected\":null,\"socket_faults\":null,\"socket_ended\":null,\"socket_dropped\":null,\"too_long\":null,\"held_up\":null}]}],\
     \"outputs\":[{\"peak\":8388608,\"saturated\":2},{\"peak\":0,\"saturated\":2}],\
-    \"failed_sends\":[11,13],\"stale\":10,\"record\":{\"state\":\"ended\",\"datagrams\":14},\
+    \"failed_sends\":[11,13],\"stale\":10,\"incomplete\":31,\"sent_late\":32,\"left_out\":33,\
+    \"record\":{\"state\":\"ended\",\"datagrams\":14},\
     \"wav\":{\"state\":\"writing\",\"blocks\":20},\"pcm\":{\"state\":\"waiting\",\"blocks\":21,\"left_out\":22}}";
 
-/// The JSON of a snapshot without streams, outputs, failed or stale sends, a record, a WAV file and raw PCM.
+/// The JSON of a snapshot without streams, outputs, failed, stale, incomplete or late sends, a record, a WAV file and
+/// raw PCM.
 const EMPTY: &str = "{\"streams\":[],\"outputs\":[],\"failed_sends\":[0,0],\"stale\":0,\
+    \"incomplete\":0,\"sent_late\":0,\"left_out\":0,\
     \"record\":{\"state\":\"none\",\"datagrams\":null},\"wav\":{\"state\":\"none\",\"blocks\":null},\
     \"pcm\":{\"state\":\"none\",\"blocks\":null,\"left_out\":null}}";
 
@@ -65,6 +68,14 @@ const METRICS: [&str; 20] = [
     # HELP darbexum_sends_stale_total Datagrams of the mix that were sent to neither address, \
     because they were useless to every receiver.\n\
     # TYPE darbexum_sends_stale_total counter\ndarbexum_sends_stale_total 10\n\
+    # HELP darbexum_incomplete_datagrams_total Datagrams of the mix in whose block a stream was missing, sent or not.\n\
+    # TYPE darbexum_incomplete_datagrams_total counter\ndarbexum_incomplete_datagrams_total 31\n\
+    # HELP darbexum_late_datagrams_total Datagrams of the mix that were sent later than a whole one, \
+    because a stream was missing.\n\
+    # TYPE darbexum_late_datagrams_total counter\ndarbexum_late_datagrams_total 32\n\
+    # HELP darbexum_left_out_datagrams_total Datagrams of the mix that were left out \
+    because whole copies come from elsewhere: no stream was there, or the run had ended.\n\
+    # TYPE darbexum_left_out_datagrams_total counter\ndarbexum_left_out_datagrams_total 33\n\
     # HELP darbexum_record_state The state of the record: 1 for the state that it is in, and 0 for the others.\n\
     # TYPE darbexum_record_state gauge\n\
     darbexum_record_state{state=\"none\"} 0\ndarbexum_record_state{state=\"writing\"} 0\n\

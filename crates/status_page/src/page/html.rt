@@ -328,8 +328,9 @@ function drawRun(state, old) {
   show(record, kind === "none" ? "no record" : (closed ? "\u2715 record ended at " : "\u25cf record ") + exact(datagrams));
   style(record, closed ? "bad word" : kind === "none" ? "soft" : "good");
   const failed = state.failed_sends, all = failed[0] + failed[1];
-  const stale = state.stale > 0 ? ", stale " + exact(state.stale) : "";
-  show(sends, all > 0 ? "\u25b2 sends failed: a " + exact(failed[0]) + ", b " + exact(failed[1]) + stale : "no send failed");
+  const counts = [["stale", state.stale], ["incomplete", state.incomplete], ["sent late", state.sent_late], ["left out", state.left_out]];
+  const more = counts.filter(([, count]) => count > 0).map(([word, count]) => ", " + word + " " + exact(count)).join("");
+  show(sends, all > 0 ? "\u25b2 sends failed: a " + exact(failed[0]) + ", b " + exact(failed[1]) + more : "no send failed" + more);
   style(sends, all > old.failed_sends[0] + old.failed_sends[1] ? "bad word" : all > 0 ? "warn" : "soft");
 }
 

@@ -25,6 +25,10 @@ ghost use Rattle.status_page.specs.Metrics.{
   run_output_family,
   single_family,
   stale_text,
+  incomplete_families,
+  incomplete_text,
+  sent_late_text,
+  left_out_text,
   written_family,
   metrics_text,
   state_header,
@@ -64,6 +68,12 @@ pub fn metrics_text(alloc: Global, snapshot: &Snapshot) -> Result<Vec<u8>, Alloc
         snapshot.failed_sends[1],
     )?;
     push_stale(&mut text, snapshot.stale)?;
+    push_incomplete_families(
+        &mut text,
+        snapshot.incomplete,
+        snapshot.sent_late,
+        snapshot.left_out,
+    )?;
     push_run_output_families(&mut text, &OUTPUT_KINDS, &snapshot.run_outputs)?;
     Ok(text)
 }
@@ -286,6 +296,79 @@ fn push_stale(text: &mut Vec<u8>, stale: u64) -> Result<(), AllocError>
         MetricKind::Counter,
         STALE_HELP,
         Some(stale),
+    )
+}
+
+/// Appends the metrics of the datagrams of the mix in whose block a stream was missing, of those that were sent late,
+/// and of those that were left out because whole copies come from elsewhere.
+fn push_incomplete_families(
+    text: &mut Vec<u8>,
+    incomplete: u64,
+    sent_late: u64,
+    left_out: u64,
+) -> Result<(), AllocError>
+    ensures { OnOk result
+        (text.new.items ≡ text.old.items ++ incomplete_families incomplete sent_late left_out) }
+{
+    push_incomplete(text, incomplete)?;
+    push_sent_late(text, sent_late)?;
+    push_left_out_datagrams(text, left_out)
+}
+
+/// The description of the metric of the datagrams in whose block a stream was missing.
+const INCOMPLETE_HELP: &str =
+    "Datagrams of the mix in whose block a stream was missing, sent or not.";
+
+/// Appends the metric of the datagrams of the mix in whose block a stream was missing.
+#[tactic(auto, unfolding(crate::specs::Metrics::incomplete_text))]
+fn push_incomplete(text: &mut Vec<u8>, incomplete: u64) -> Result<(), AllocError>
+    ensures { OnOk result (text.new.items ≡ text.old.items ++ incomplete_text incomplete) }
+{
+    push_single_family(
+        text,
+        "incomplete_",
+        "datagrams",
+        MetricKind::Counter,
+        INCOMPLETE_HELP,
+        Some(incomplete),
+    )
+}
+
+/// The description of the metric of the datagrams that were sent late.
+const LATE_HELP: &str =
+    "Datagrams of the mix that were sent later than a whole one, because a stream was missing.";
+
+/// Appends the metric of the datagrams of the mix that were sent later than a whole one.
+#[tactic(auto, unfolding(crate::specs::Metrics::sent_late_text))]
+fn push_sent_late(text: &mut Vec<u8>, sent_late: u64) -> Result<(), AllocError>
+    ensures { OnOk result (text.new.items ≡ text.old.items ++ sent_late_text sent_late) }
+{
+    push_single_family(
+        text,
+        "late_",
+        "datagrams",
+        MetricKind::Counter,
+        LATE_HELP,
+        Some(sent_late),
+    )
+}
+
+/// The description of the metric of the datagrams that were left out.
+const LEFT_OUT_HELP: &str =
+    "Datagrams of the mix that were left out because whole copies come from elsewhere: no stream was there, or the run had ended.";
+
+/// Appends the metric of the datagrams of the mix that were left out because whole copies come from elsewhere.
+#[tactic(auto, unfolding(crate::specs::Metrics::left_out_text))]
+fn push_left_out_datagrams(text: &mut Vec<u8>, left_out: u64) -> Result<(), AllocError>
+    ensures { OnOk result (text.new.items ≡ text.old.items ++ left_out_text left_out) }
+{
+    push_single_family(
+        text,
+        "left_out_",
+        "datagrams",
+        MetricKind::Counter,
+        LEFT_OUT_HELP,
+        Some(left_out),
     )
 }
 

@@ -22,6 +22,7 @@ ghost use Rattle.status_page.specs.State.{
   outputs_tokens,
   failed_tokens,
   stale_tokens,
+  incomplete_tokens,
   count_member,
   left_out_members,
   output_count_members,
@@ -54,6 +55,12 @@ pub fn state_json(alloc: Global, snapshot: &Snapshot) -> Result<Vec<u8>, AllocEr
     write_outputs(&mut writer, snapshot.outputs.as_slice())?;
     write_failed_sends(&mut writer, snapshot.failed_sends)?;
     write_stale(&mut writer, snapshot.stale)?;
+    write_incomplete(
+        &mut writer,
+        snapshot.incomplete,
+        snapshot.sent_late,
+        snapshot.left_out,
+    )?;
     write_run_outputs(&mut writer, &OUTPUT_KINDS, &snapshot.run_outputs)?;
     writer.end_object()?;
     Ok(writer.into_inner())
@@ -314,6 +321,26 @@ fn write_stale(writer: &mut Writer, stale: u64) -> Result<(), AllocError>
 {
     writer.key("stale")?;
     writer.u64(stale)
+}
+
+/// Writes the members with the numbers of datagrams of the mix in whose block a stream was missing, of those that were
+/// sent later than a whole one, and of those that were left out because whole copies come from elsewhere.
+fn write_incomplete(
+    writer: &mut Writer,
+    incomplete: u64,
+    sent_late: u64,
+    left_out: u64,
+) -> Result<(), AllocError>
+    ensures tokens { OnOk result
+        (writer.new.tokens ≡ writer.old.tokens ++ incomplete_tokens incomplete sent_late left_out) }
+    ensures before { OnOk result (writer.new.before ≡ writer.old.before) }
+{
+    writer.key("incomplete")?;
+    writer.u64(incomplete)?;
+    writer.key("sent_late")?;
+    writer.u64(sent_late)?;
+    writer.key("left_out")?;
+    writer.u64(left_out)
 }
 
 /// Writes the members with the outputs of these kinds.

@@ -20,5 +20,8 @@ returns-clause-health g c =
       sockets = sockets-said (g.H.HealthSource.says c.args.health.now) olds _ (subst (λ (l : List StreamState). AreEach Fills olds l) (sym (refilled olds news filled.length_is)) filled);
       failed = c.failed_sends-snapshot.ensures;
       stale = c.stale-snapshot.ensures;
+      incomplete = c.incomplete-snapshot.ensures;
+      sent_late = c.sent_late-snapshot.ensures;
+      left_out = c.left_out-snapshot.ensures;
       outputs = c.outputs-snapshot.ensures;
     }
