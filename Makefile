@@ -69,7 +69,7 @@ program := crates/studio_main/out/studio_main
 scripts := memory/check tests/captures tests/sdp tests/package tests/library diff/run $(addprefix examples/,check faults statuses levels blocks wav chart)
 # Live runs wait for most of their time, so three of them leave a processor free. The longest begin first. What a busy machine would
 # disturb all the same, because other programs send or listen, runs alone behind them.
-live := loopback page numbers states desk library control files sockets sap service twins faders gains ends demo
+live := loopback page numbers states desk library control files sockets sap service twins faders gains kept ends demo
 
 try:
 	@gate/try
@@ -87,7 +87,7 @@ test:
 	gate/tries --timed tests/holdups $(program)
 	@cat bin/gate-time
 	@if [ -e bin/not-judged ]; then cat bin/not-judged; fi
-	@echo "gate: pages, proofs, edits, tests, examples, faults, statuses, blocks, WAV files, charts, captures, SDP files, package, library, engine, memory, live runs, their files, pages, numbers, states of paths, latencies, announcements, a service, twins, faders, gains, control, a desk, the demo, networks, senders, interfaces and hold-ups passed in $$(( ($$(date +%s) - $$(cat bin/gate-begun)) / 60 )) minutes"
+	@echo "gate: pages, proofs, edits, tests, examples, faults, statuses, blocks, WAV files, charts, captures, SDP files, package, library, engine, memory, live runs, their files, pages, numbers, states of paths, latencies, announcements, a service, twins, faders, gains, kept gains, control, a desk, the demo, networks, senders, interfaces and hold-ups passed in $$(( ($$(date +%s) - $$(cat bin/gate-begun)) / 60 )) minutes"
 
 %.ran:
 	$* $(program)

@@ -18,6 +18,9 @@ const MAX_SECONDS: i64 = 4_294_967_295;
 /// The greatest number of minutes of a WAV file: a day.
 const MAX_MINUTES: i64 = 1440;
 
+/// The greatest number of seconds for which a run yields: a day.
+const MAX_YIELD: i64 = 86_400;
+
 // More than 2^64 nanoseconds have, so that every step of a capture's time can be allowed.
 /// The greatest number of seconds that a capture's time may step forward.
 const MAX_GAP: i64 = 18_446_744_074;
@@ -169,6 +172,16 @@ const LIVE: &[ArgSpec] = &[
         ..FILE
     },
     ArgSpec {
+        name: "gains",
+        help: "Begin with the gains of this file, as 'gain 96 0 1 32768': time, output, input, gain; times are media times of the run",
+        ..FILE
+    },
+    ArgSpec {
+        name: "keep-gains",
+        help: "Keep the gains in this file while the run goes on, for --gains at the next start",
+        ..FILE
+    },
+    ArgSpec {
         name: "until-eof",
         help: "End the run when standard input ends, as by Ctrl-D",
         ..FLAG
@@ -192,6 +205,16 @@ const LIVE: &[ArgSpec] = &[
         name: "one-thread",
         help: "Run in one thread, instead of a worker for each path and stream",
         ..FLAG
+    },
+    ArgSpec {
+        name: "yield",
+        help: "Send each copy as late as one in which two streams are missing, for this many seconds after the opening, from 1 to 86400; needs late of the output [default: not at all]",
+        kind: ArgKind::Option(
+            ArgAction::Set,
+            &["SECONDS"],
+            ValueParser::Signed(1, MAX_YIELD),
+        ),
+        relation: ArgRelation::Free,
     },
     ArgSpec {
         name: "record",

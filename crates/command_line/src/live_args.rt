@@ -19,6 +19,10 @@ pub struct LiveArgs<'a> {
     pub record: Option<&'a str>,
     /// The path of the file with the token of the page's control of gains, if the page is to have it.
     pub control: Option<&'a str>,
+    /// The path of the file with the gains with which the run begins, if there is one.
+    pub gains: Option<&'a str>,
+    /// The path of the file in which the run keeps its gains, if it keeps them.
+    pub keep_gains: Option<&'a str>,
     /// The path of the mix's WAV file, if one is asked for.
     pub wav: Option<&'a str>,
     /// The number of minutes after which a new WAV file begins, if the mix is divided. Its files are named by `wav` and
@@ -40,6 +44,8 @@ impl<'a> LiveArgs<'a> {
             tai_offset: matches.get_str("clock").map(|_tai| offset),
             record: matches.get_str("record"),
             control: matches.get_str("control"),
+            gains: matches.get_str("gains"),
+            keep_gains: matches.get_str("keep-gains"),
             wav: matches.get_str("wav"),
             wav_minutes: matches.get_one::<u64>("wav-minutes"),
             pcm: matches.get_str("pcm"),
@@ -63,5 +69,6 @@ fn options_of(matches: &ArgMatches<'_>) -> LiveOptions {
         page: matches.get_one::<u16>("page"),
         until_eof: matches.get_flag("until-eof"),
         one_thread: matches.get_flag("one-thread"),
+        yield_seconds: matches.get_one::<u32>("yield").unwrap_or(0),
     }
 }

@@ -2,8 +2,9 @@
 ghost use Rattle.std.specs.Prelude.{◌≡◌, is_some, IfOk};
 
 use crate::gain_channel::GainChannel;
+use crate::gain_notes::GainNotes;
 use crate::link::GainLink;
-use crate::page_requester::PageRequester;
+use crate::noting_requester::NotingRequester;
 use crate::run_gains::RunGains;
 use status_page::{Control, GainShape, Token};
 use std::alloc::{AllocError, Global};
@@ -17,16 +18,17 @@ pub struct GainControl<'a, R: Wait + Clock> {
     /// The source of the run's changes of gains.
     pub gains: Option<RunGains<'a, R>>,
     /// The control that the page has.
-    pub control: Option<Control<PageRequester<'a, R>>>,
+    pub control: Option<Control<NotingRequester<'a, R>>>,
 }
 
-/// Opens the control of a run's gains, if there is a token for it. Allocates all its memory, and returns `AllocError`
-/// if that fails.
+/// Opens the control of a run's gains, if there is a token for it. The changes that the run takes are noted in `notes`,
+/// if there are any. Allocates all its memory, and returns `AllocError` if that fails.
 pub fn open_control<'a, R: Wait + Clock>(
     rt: &'a R,
     alloc: Global,
     studio: &StudioSpec,
     link: &'a GainLink,
+    notes: Option<&'a GainNotes>,
     token: Option<Token>,
 ) -> Result<GainControl<'a, R>, AllocError>
     ensures { IfOk result (λ opened. is_some opened.gains ≡ is_some token) }
@@ -42,6 +44,7 @@ pub fn open_control<'a, R: Wait + Clock>(
         return Err(AllocError);
     };
     let GainChannel { requester, gains } = GainChannel::new(rt, alloc, link, shape, studio)?;
+    let requester = NotingRequester::new(rt, requester, notes);
     Ok(GainControl {
         gains: Some(gains),
         control: Some(Control::new(alloc, requester, token)?),

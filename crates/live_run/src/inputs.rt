@@ -1,6 +1,7 @@
 //! The inputs of a live run.
 
 use crate::supervisor::signal_file::SignalFile;
+use live_gains::GainNotes;
 use live_io::SocketConfig;
 use run_outputs::RunStart;
 use status_page::{RunFacts, StreamName, Token};
@@ -32,6 +33,8 @@ pub struct LiveInputs<'a> {
     pub signals: &'a SignalFile,
     /// The start of the run, which sets it. A file that an output creates is removed if the run does not begin.
     pub start: &'a RunStart,
+    /// The notes of the run's gains, if they are kept. The page's thread notes in them each change that the run takes.
+    pub notes: Option<&'a GainNotes>,
     /// The reading of the system's monotonic clock at the studio's opening time, if it could be read.
     pub began: Option<Duration>,
     /// Whether the studio opens by International Atomic Time.

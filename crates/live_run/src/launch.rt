@@ -3,7 +3,7 @@ ghost use Rattle.std.specs.Prelude.{◌≡◌, is_some, IfOk, IfErr};
 ghost use Rattle.run_outputs.specs.Ends.{AreEndsIn};
 ghost use Rattle.live_run.specs.RunResult.{IsEarly, IsRunOf};
 
-use crate::context::RunContext;
+use crate::context::{RunContext, RunTiming};
 use crate::fault::LiveFault;
 use crate::inputs::{LiveRun, PageInputs};
 use crate::page_task::{RunPage, open_run_page};
@@ -15,7 +15,7 @@ use crate::supervisor::stop_conditions::StopConditions;
 use crate::supervisor::stop_flags::StopFlags;
 use crate::workers::run_in_workers;
 use live_gains::{GainControl, GainLink, RunGains, open_control};
-use live_io::{RunPeriod, Sockets, open_sockets};
+use live_io::{LateSettings, RunPeriod, Sockets, open_sockets};
 use live_status::{Meter, StatusOutputs};
 use run_outputs::{CreateOutput, CreatedOutput, NotedOutput, SideTask, TaskOutput};
 use std::alloc::Global;
@@ -94,7 +94,9 @@ fn bind_and_run<
 {
     let sockets = open_sockets(rt, alloc, run.studio, run.inputs.sockets)?;
     let PageInputs { facts, control } = page;
-    let GainControl { gains, control } = open_control(rt, alloc, run.studio, &state.link, control)?;
+    let notes = run.inputs.notes;
+    let opened = open_control(rt, alloc, run.studio, &state.link, notes, control)?;
+    let GainControl { gains, control } = opened;
     let page = open_run_page(rt, alloc, run.options.page, facts, control)?;
     let RunPage { link, task } = page;
     let bound = BoundRun {
@@ -178,7 +180,10 @@ fn context_of<'a, R: Wait + Clock, E: Drop>(
         inputs,
     } = run;
     RunContext {
-        period: RunPeriod::new(studio, inputs.began, options.instants),
+        timing: RunTiming {
+            period: RunPeriod::new(studio, inputs.began, options.instants),
+            late: LateSettings::of(studio, options.yield_seconds),
+        },
         conditions: StopConditions::new(inputs.signals, options.until_eof),
         status,
         flags: &state.flags,

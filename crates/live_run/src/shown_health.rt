@@ -68,6 +68,18 @@ impl HealthSource for ShownHealth<'_> {
         self.health.mix().stale()
     }
 
+    fn incomplete(&self) -> u64 {
+        self.health.mix().incomplete()
+    }
+
+    fn sent_late(&self) -> u64 {
+        self.health.mix().sent_late()
+    }
+
+    fn left_out(&self) -> u64 {
+        self.health.mix().left_out()
+    }
+
     fn outputs(&self) -> OutputStates {
         self.outputs.states()
     }

@@ -122,7 +122,7 @@ fn prepare_run<'a, R: Wait + Clock, E: Write + Drop, O: CreateOutput>(
     ensures early { IfErr result IsEarly }
 {
     let RunContext {
-        period,
+        timing,
         conditions: _,
         status,
         flags,
@@ -133,7 +133,7 @@ fn prepare_run<'a, R: Wait + Clock, E: Write + Drop, O: CreateOutput>(
     } = context;
     let (events, mix) = outputs;
     let settings = IoSettings {
-        period,
+        timing,
         flags: FeedFlags {
             stop: &flags.stop,
             ready,

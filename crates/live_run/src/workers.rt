@@ -59,7 +59,7 @@ pub(crate) fn run_in_workers<
     let is_shown = context.status.publisher.is_some();
     let Rings { ends, receivers } = open_rings(alloc, studio, sockets.receiving.len(), is_shown)?;
     let RunContext {
-        period,
+        timing,
         conditions,
         status,
         flags,
@@ -75,8 +75,8 @@ pub(crate) fn run_in_workers<
         ready: &[],
         health,
     };
-    let workers = prepare_workers(rt, alloc, ends, sockets, mix, period, feed_flags)?;
-    let task = worker_status_task(rt, alloc, receivers, period, status.publisher, shown)?;
+    let workers = prepare_workers(rt, alloc, ends, sockets, mix, timing, feed_flags)?;
+    let task = worker_status_task(rt, alloc, receivers, timing.period, status.publisher, shown)?;
     let watch = SocketWatch::new(studio, health, is_shown);
     let supervisor = Supervisor {
         conditions,

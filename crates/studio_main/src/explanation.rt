@@ -57,6 +57,10 @@ pub(crate) enum Reason {
     Exists,
     /// The file of a token is not one, or is not private (`is_private`).
     NotPrivate,
+    /// There is something at the path of kept gains that no run wrote.
+    Foreign,
+    /// Another run keeps its gains in the file.
+    Locked,
     /// It can be opened by now.
     Passed,
 }
@@ -70,6 +74,11 @@ impl Display for Reason {
                 "not a regular file of 16 to 256 visible ASCII characters that others may not read or write, and its group may not write",
                 f,
             ),
+            Reason::Foreign => Display::fmt(
+                "it does not begin with the line '# kept by darbexum', and was not touched",
+                f,
+            ),
+            Reason::Locked => Display::fmt("another run keeps its gains in it", f),
             Reason::Passed => Display::fmt("it was not free at the start, but is now", f),
         }
     }

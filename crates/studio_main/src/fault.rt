@@ -51,6 +51,15 @@ pub(crate) enum ProgramFault {
     /// The file of `--control` is refused, and this explains why.
     #[error("device: control\n{0}")]
     ControlExplained(Explanation),
+    /// A run is to yield, and its copies do not wait for what is missing in them.
+    #[error("usage: --yield without late of the output")]
+    Yield,
+    /// The gains of a live run cannot be kept in the file of `--keep-gains`, and this explains why.
+    #[error("device: keep-gains\n{0}")]
+    KeepGains(Explanation),
+    /// A live run's report was written, but the file of `--keep-gains` does not have the last gains.
+    #[error("device: keep-gains failed")]
+    GainsNotKept,
     /// Two of the files of a live run, named by their options, are one file.
     #[error("usage: {0} are one file")]
     SameFile(&'static str),
@@ -64,7 +73,8 @@ impl ProgramFault {
     /// device failed, and else the status of the command.
     pub(crate) fn status(&self) -> u8 {
         match self {
-            ProgramFault::Usage | ProgramFault::TaiOffset | ProgramFault::SameFile(_) => 2,
+            ProgramFault::Usage | ProgramFault::TaiOffset => 2,
+            ProgramFault::SameFile(_) | ProgramFault::Yield => 2,
             ProgramFault::Command(fault) => fault.status(),
             ProgramFault::Unread(fault, _) => fault.status(),
             ProgramFault::Live(LiveFault::Memory) => 4,
@@ -74,6 +84,7 @@ impl ProgramFault {
             ProgramFault::Clock | ProgramFault::ClockExplained(_) => 5,
             ProgramFault::Inherited(_) | ProgramFault::PathEnded => 5,
             ProgramFault::OutputEnded(_, _) => 5,
+            ProgramFault::KeepGains(_) | ProgramFault::GainsNotKept => 5,
         }
     }
 

@@ -1,17 +1,22 @@
 //! The command `live`: a live run, from a configuration to its report and the lines after it.
+use crate::begun_studio::open_begun_studio;
 use crate::explanation::{Explanation, TERMINAL, explained};
 use crate::fault::ProgramFault;
+use crate::keeper::{KeptGains, keeper_of};
+use crate::kept_file::KeptFile;
 use crate::left_out_lines::write_left_out;
 use crate::live_host::LiveHost;
 use crate::live_lines::LiveLines;
 use crate::notify_socket::NotifySocket;
-use crate::opening::{OpenedStudio, open_studio};
-use crate::run_files::{RunPaths, files_of};
+use crate::opening::OpenedStudio;
+use crate::opening_changes::OpeningChanges;
+use crate::run_files::{RunPaths, files_of, kept_file_of};
 use crate::service::{Service, service_in_env};
 use crate::std_fds::is_stdout_terminal;
 use crate::token_file::token_of;
 use command_line::{LiveArgs, VERSION};
 use file_commands::{CommandFault, output_result, table_in};
+use live_gains::GainNotes;
 use live_io::{
     InheritedSockets, LivePorts, RunHealth, SocketConfig, UnexpectedSources, unopened_socket,
 };
@@ -32,9 +37,10 @@ use studio_io::{OUTPUT_KINDS, OutputKind, OutputState, RunProgress};
 use toml::Value;
 
 /// Runs the studio of a configuration's octets over sockets, and writes its report to `output`. If counts are asked for
-/// while it runs, they go to `faults`. Files are the host's. Returns the first fault: of the configuration, of the
-/// offset or the time of `--clock`, of the clock that times the WAV files, of the token's file, of a missing port or an
-/// inherited socket, of the run's files, or of the run. The fault of a device is explained.
+/// while it runs, they go to `faults`. Files are the host's. Returns the first fault: of the configuration, of a file
+/// of gains that cannot be read, of the offset or the time of `--clock`, of the clock that times the WAV files, of the
+/// lines of that file, of the token's file, of a missing port or an inherited socket, of the run's files, or of the
+/// run. The fault of a device is explained.
 pub(crate) fn run_live<
     R: Threads + Wait + Sync + Net + Clock + RandomSource + Env + AllocGlobal,
     H: LiveHost,
@@ -48,7 +54,7 @@ pub(crate) fn run_live<
     host: &H,
 ) -> Result<(), ProgramFault> {
     let request = LiveRequest { config, args, host };
-    let (begins, ran) = match open_studio(rt, alloc, config, args) {
+    let (begins, ran) = match open_begun_studio(rt, alloc, config, args, host) {
         Ok(opened) => (
             opened.parts.map(|parts| parts.at),
             load_and_run(rt, alloc, &request, opened, output, faults),
@@ -90,12 +96,17 @@ fn load_and_run<
     refuse_terminal(args)?;
     // The run creates its files once its sockets are bound. A file that is there already is refused before that.
     let files = files_of(alloc, host, args, opened.parts)?;
+    let kept = kept_file_of(alloc, host, args)?;
+    let gains = kept_gains(alloc, &opened.studio, args)?;
     let loaded = LoadedRun {
         opened,
         inputs,
         args,
+        start: host.start(),
+        progress: RunProgress::new(),
+        gains,
     };
-    let outputs = (files, service);
+    let outputs = (files, service, kept);
     // Two calls, since the report goes to standard error if the samples go to standard output.
     if args.is_pcm_stdout() {
         return run_loaded(
@@ -122,16 +133,34 @@ fn refuse_terminal(args: LiveArgs<'_>) -> Result<(), ProgramFault> {
     Ok(())
 }
 
-/// A studio with the inputs of its run.
+/// Returns the gains that a run of this studio keeps, if it keeps them. By the clock of the configuration a media time
+/// of this run is another time of the next one, so changes that are still to come are kept only with `--clock tai`.
+fn kept_gains(
+    alloc: Global,
+    studio: &StudioSpec,
+    args: LiveArgs<'_>,
+) -> Result<Option<KeptGains>, AllocError> {
+    if args.keep_gains.is_none() {
+        return Ok(None);
+    }
+    Ok(Some(KeptGains::new(alloc, studio, args.tai_offset.is_some())?))
+}
+
+/// A studio with what its run shares with its outputs.
+// All that the outputs borrow is here, so that it has one lifetime.
 #[derive(Drop)]
 struct LoadedRun<'a> {
     opened: OpenedStudio,
     inputs: LoadedInputs,
     args: LiveArgs<'a>,
+    start: &'a RunStart,
+    progress: RunProgress,
+    /// The gains that the run keeps, if it keeps them.
+    gains: Option<KeptGains>,
 }
 
-/// Runs a studio with its inputs, with the files that its options name, and with the service manager that the
-/// environment names. Writes the report and the lines after it.
+/// Runs a studio with its inputs, with the files that its options name, with the service manager that the environment
+/// names, and with the file in which it keeps its gains. Writes the report and the lines after it.
 fn run_loaded<
     R: Threads + Wait + Sync + Net + Clock + RandomSource + Env + AllocGlobal,
     H: LiveHost,
@@ -140,41 +169,53 @@ fn run_loaded<
     rt: &R,
     alloc: Global,
     loaded: &LoadedRun<'_>,
-    outputs: (RunPaths<'_, '_, H>, Option<Service<NotifySocket>>),
+    outputs: (
+        RunPaths<'_, '_, H>,
+        Option<Service<NotifySocket>>,
+        Option<H::Kept>,
+    ),
     control: Option<Token>,
     output: &mut W,
     faults: &mut H::Stderr,
 ) -> Result<(), ProgramFault> {
-    let (studio, args) = (&loaded.opened.studio, &loaded.args);
-    let (files, service) = outputs;
-    let (progress, start) = (RunProgress::new(), files.start());
-    let run = LiveRun {
-        studio,
-        options: &args.options,
-        inputs: live_inputs(loaded, &progress, start),
-    };
-    let outputs = (files.outputs(&progress), service);
-    let page = PageRequest {
-        started: loaded.opened.started,
-        control,
-    };
+    let (files, service, kept) = outputs;
+    let files = files.outputs(&loaded.progress);
     let lines = LiveLines::new(faults);
-    let ran = run_with_page(rt, alloc, run, outputs, page, output, lines);
-    finish(alloc, ran, studio, run.inputs, loaded.args, output)
+    let outputs = (files, service, kept);
+    let ran = run_with_files(rt, alloc, loaded, outputs, control, output, lines);
+    finish(alloc, ran, loaded, output)
 }
 
-/// The inputs of a run's page, but for the program's version.
-#[derive(Drop)]
-struct PageRequest {
-    /// The time of day in UTC at which the run opened, in seconds since 1970, if it could be read.
-    started: Option<u64>,
+/// Runs a studio as `run_with_outputs` does, with the outputs that are files, the service and the file of the gains.
+// Functions of their own, in which the types of the files are parameters: a function in which all of them are written
+// out is too large for the prover.
+fn run_with_files<
+    R: Threads + Wait + Sync + Net + Clock + RandomSource,
+    W: Write,
+    E: Write + Send + Drop,
+    O: CreateOutput,
+    K: KeptFile + Send + Drop,
+>(
+    rt: &R,
+    alloc: Global,
+    loaded: &LoadedRun<'_>,
+    outputs: (O, Option<Service<NotifySocket>>, Option<K>),
     control: Option<Token>,
+    output: &mut W,
+    lines: E,
+) -> Result<OutputEnds, LiveFault> {
+    let (files, service, kept) = outputs;
+    let keeper = keeper_of(loaded.gains.as_ref(), kept);
+    let files = OpeningChanges::new(files, loaded.args.gains.is_some());
+    let outputs = (files, (service, keeper));
+    run_with_outputs(rt, alloc, loaded, outputs, control, output, lines)
 }
 
-/// Runs a studio as `run_studio_live` does, with a page that shows this program's version.
+/// Runs a studio as `run_studio_live` does, with its inputs and these outputs, and with a page that shows this
+/// program's version.
 // In a function of its own: the borrow checker doesn't cover a call in which what is `'static`, as the version, stands
 // next to outputs of several lifetimes. Here the outputs are a type parameter.
-fn run_with_page<
+fn run_with_outputs<
     R: Threads + Wait + Sync + Net + Clock + RandomSource,
     W: Write,
     E: Write + Send + Drop,
@@ -182,27 +223,27 @@ fn run_with_page<
 >(
     rt: &R,
     alloc: Global,
-    run: LiveRun<'_>,
+    loaded: &LoadedRun<'_>,
     outputs: O,
-    page: PageRequest,
+    control: Option<Token>,
     output: &mut W,
-    faults: E,
+    lines: E,
 ) -> Result<OutputEnds, LiveFault> {
-    let PageRequest { started, control } = page;
+    let run = LiveRun {
+        studio: &loaded.opened.studio,
+        options: &loaded.args.options,
+        inputs: live_inputs(loaded),
+    };
     let facts = RunFacts {
         version: VERSION,
-        started,
+        started: loaded.opened.started,
     };
     let page = PageInputs { facts, control };
-    run_studio_live(rt, alloc, run, outputs, page, output, faults)
+    run_studio_live(rt, alloc, run, outputs, page, output, lines)
 }
 
-/// Returns the inputs of a run with this start, whose outputs set this progress.
-fn live_inputs<'a>(
-    loaded: &'a LoadedRun<'_>,
-    progress: &'a RunProgress,
-    start: &'a RunStart,
-) -> LiveInputs<'a> {
+/// Returns the inputs of a run.
+fn live_inputs<'a>(loaded: &'a LoadedRun<'_>) -> LiveInputs<'a> {
     let inputs = &loaded.inputs;
     LiveInputs {
         sockets: SocketConfig {
@@ -213,11 +254,20 @@ fn live_inputs<'a>(
             shares_groups: loaded.args.share_groups,
         },
         names: inputs.names.as_slice(),
-        outputs: progress,
+        outputs: &loaded.progress,
         signals: &inputs.signals,
-        start,
+        start: loaded.start,
+        notes: notes_of(&loaded.gains),
         began: loaded.opened.began,
         is_by_tai: loaded.args.tai_offset.is_some(),
+    }
+}
+
+/// Returns the notes of the gains that a run keeps, if it keeps them.
+fn notes_of(gains: &Option<KeptGains>) -> Option<&GainNotes> {
+    match gains {
+        Some(gains) => Some(gains.notes()),
+        None => None,
     }
 }
 
@@ -283,14 +333,13 @@ fn inherited_sockets<R: Env + AllocGlobal>(
 fn finish<W: Write>(
     alloc: Global,
     ran: Result<OutputEnds, LiveFault>,
-    studio: &StudioSpec,
-    inputs: LiveInputs<'_>,
-    args: LiveArgs<'_>,
+    loaded: &LoadedRun<'_>,
     output: &mut W,
 ) -> Result<(), ProgramFault> {
+    let (studio, inputs) = (&loaded.opened.studio, live_inputs(loaded));
     // A run that is not settled has a report too.
     if matches!(ran, Ok(_) | Err(LiveFault::Unsettled)) {
-        write_after_report(studio, inputs, args, output)?;
+        write_after_report(studio, inputs, loaded.args, output)?;
     }
     let ends = match ran {
         Ok(ends) => ends,
@@ -300,10 +349,21 @@ fn finish<W: Write>(
     if let Some((kind, end)) = ends.first_fault(&inputs.outputs.states()) {
         return Err(ProgramFault::OutputEnded(kind, end));
     }
+    if is_behind(&loaded.gains) {
+        return Err(ProgramFault::GainsNotKept);
+    }
     if inputs.sockets.health.has_ended_path() {
         return Err(ProgramFault::PathEnded);
     }
     Ok(())
+}
+
+/// Returns true if a run was to keep these gains, and their file does not have the last ones.
+fn is_behind(gains: &Option<KeptGains>) -> bool {
+    match gains {
+        Some(gains) => gains.is_behind(),
+        None => false,
+    }
 }
 
 /// Writes the lines after the report: the opening time, if the run opened by International Atomic Time, the datagrams

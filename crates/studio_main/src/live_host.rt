@@ -3,6 +3,7 @@ ghost use Rattle.std.specs.Prelude.{IfOk, []};
 ghost use Rattle.live_io.specs.RecordFile.{Holds};
 
 use crate::explanation::SystemErrors;
+use crate::kept_file::KeptFiles;
 use crate::token_file::TokenFiles;
 use file_commands::Host;
 use live_io::{RecordFault, RecordFile};
@@ -11,7 +12,7 @@ use std::alloc::{AllocError, Global};
 use wav_file::{LiveWavFile, PcmFault, PcmOutput, WavFiles};
 
 /// The host of a live run: the types of the files that it creates, by their paths.
-pub(crate) trait LiveHost: Host + TokenFiles + SystemErrors {
+pub(crate) trait LiveHost: Host + TokenFiles + KeptFiles + SystemErrors {
     /// The file of the record.
     type Record: RecordFile + Send + Drop;
 

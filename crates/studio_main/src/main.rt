@@ -4,7 +4,9 @@
 //! by `command_line`, runs the command, and returns the exit status. `file_commands` runs a command
 //! over files, and `live_command` the live command, whose files are those of `run_files` on a
 //! `LiveHost`. A `ProgramFault` has the line and the exit status of every fault, and `explanation` what
-//! a live run adds to it. `opening` opens the studio of a live run, with the clocks at that moment.
+//! a live run adds to it. `opening` opens the studio of a live run, with the clocks at that moment, and
+//! `begun_studio` begins it with the gains of a file. `opening_changes` has these gains for the record,
+//! and `keeper` keeps the gains of the run in a `kept_file`.
 //! `SystemHost` opens files by path, those that are read as a `NotedFile`. `unread_file` explains a file that
 //! a command cannot read. `pcm_output` opens the output of raw PCM, and `token_file` reads the token
 //! for the control of gains. `wav_files` has the WAV files of a live run. A `CreatedFile` is removed if
@@ -16,10 +18,13 @@
 //! the help for a start by hand: without words, and behind a fault.
 #![tactic(auto)]
 
+mod begun_studio;
 mod created_file;
 mod explanation;
 mod fault;
 mod file_limit;
+mod keeper;
+mod kept_file;
 mod left_out_lines;
 mod live_command;
 mod live_host;
@@ -27,6 +32,7 @@ mod live_lines;
 mod noted_file;
 mod notify_socket;
 mod opening;
+mod opening_changes;
 mod output_end;
 mod pcm_output;
 mod program;
@@ -43,6 +49,7 @@ use crate::created_file::{CreateFault, CreatedFile};
 use crate::explanation::SystemErrors;
 use crate::fault::ProgramFault;
 use crate::file_limit::LimitedFile;
+use crate::kept_file::{KeptFault, KeptFiles, SystemKept};
 use crate::live_host::LiveHost;
 use crate::noted_file::NotedFile;
 use crate::output_end::report_output_end;
@@ -204,6 +211,14 @@ impl TokenFiles for SystemHost<'_> {
                 Err(ReadFault::Device)
             }
         }
+    }
+}
+
+impl<'a> KeptFiles for SystemHost<'a> {
+    type Kept = SystemKept<'a>;
+
+    fn open_kept(&self, alloc: Global, path: &str) -> Result<SystemKept<'a>, KeptFault> {
+        SystemKept::open(self.rt, alloc, path)
     }
 }
 

@@ -1,7 +1,6 @@
 //! The opening of a live run: its studio, and the clocks at that moment.
 use crate::fault::ProgramFault;
 use command_line::LiveArgs;
-use file_commands::parse_studio;
 use live_audio::AudioParts;
 use live_io::{TaiOffset, TaiTime, tai_now};
 use std::alloc::Global;
@@ -26,15 +25,14 @@ pub(crate) struct OpenedStudio {
     pub(crate) parts: Option<AudioParts>,
 }
 
-/// Returns the studio of a configuration's octets as they have it, or, with an offset of International Atomic Time,
-/// opened now by that time. Returns the first fault: of the configuration, of the offset or of a clock.
+/// Returns the studio as its configuration has it, or, with an offset of International Atomic Time, opened now by that
+/// time. Returns the first fault: of the offset, of a clock, or of a time that would be out of range.
 pub(crate) fn open_studio<R: Clock>(
     rt: &R,
     alloc: Global,
-    config: &[u8],
+    studio: StudioSpec,
     args: LiveArgs<'_>,
 ) -> Result<OpenedStudio, ProgramFault> {
-    let studio = parse_studio(alloc, config)?;
     match (args.tai_offset, args.wav_minutes) {
         (Some(word), _) => {
             let present = present_time(rt, offset_of(word)?)?;
@@ -53,6 +51,14 @@ pub(crate) fn open_studio<R: Clock>(
             parts: None,
         }),
     }
+}
+
+/// Refuses a run that is to yield, if its copies do not wait for what is missing in them.
+pub(crate) fn refuse_yield(studio: &StudioSpec, yield_seconds: u32) -> Result<(), ProgramFault> {
+    if yield_seconds > 0 && studio.late() == 0 {
+        return Err(ProgramFault::Yield);
+    }
+    Ok(())
 }
 
 /// Returns a studio that opens at this time. Its mix is divided into files of this many minutes, if it is divided.

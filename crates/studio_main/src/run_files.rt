@@ -1,13 +1,14 @@
 //! The files of a live run: the paths at which it creates them, and the faults of these paths.
+use crate::explanation::{Explanation, Reason};
 use crate::fault::ProgramFault;
+use crate::kept_file::{KeptFault, KeptFiles};
 use crate::live_host::LiveHost;
 use crate::wav_files::part_path;
 use command_line::LiveArgs;
-use file_commands::{Host, is_one_file};
+use file_commands::{CommandFault, Host, is_one_file};
 use live_audio::{AudioParts, RawPcmOutput, WavOutput};
 use live_io::{CreateRecord, RecordFault, RecordOutput};
 use live_run::LiveFault;
-use run_outputs::RunStart;
 use std::alloc::{AllocError, Global};
 use studio_io::{OutputKind, RunProgress};
 use wav_file::{CreateLiveWav, CreatePcm, PcmFault};
@@ -25,7 +26,6 @@ pub(crate) struct RunPath<'h, 'p, H> {
 /// The paths at which a run creates its files, each if it is wanted.
 #[derive(Drop)]
 pub(crate) struct RunPaths<'h, 'p, H> {
-    host: &'h H,
     record: Option<RunPath<'h, 'p, H>>,
     wav: Option<RunPath<'h, 'p, H>>,
     pcm: Option<RunPath<'h, 'p, H>>,
@@ -46,7 +46,6 @@ impl<'h, 'p, H> RunPaths<'h, 'p, H> {
         progress: &'a RunProgress,
     ) -> RunOutputs<'a, RunPath<'h, 'p, H>> {
         let RunPaths {
-            host: _,
             record,
             wav,
             pcm,
@@ -66,13 +65,6 @@ impl<'h, 'p, H> RunPaths<'h, 'p, H> {
             progress: progress.of(OutputKind::Pcm),
         });
         (record, (wav, pcm))
-    }
-}
-
-impl<'h, H: LiveHost> RunPaths<'h, '_, H> {
-    /// Returns the start of the run. A file that was created is removed if the run does not begin.
-    pub(crate) fn start(&self) -> &'h RunStart {
-        self.host.start()
     }
 }
 
@@ -117,6 +109,26 @@ fn file_of(path: &str) -> Option<&str> {
     if path == "-" { None } else { Some(path) }
 }
 
+/// Returns the file in which the run keeps its gains, if it keeps them. The fault of a file is explained.
+pub(crate) fn kept_file_of<H: LiveHost>(
+    alloc: Global,
+    host: &H,
+    args: LiveArgs<'_>,
+) -> Result<Option<H::Kept>, ProgramFault> {
+    let Some(path) = args.keep_gains else {
+        return Ok(None);
+    };
+    let reason = match host.open_kept(alloc, path) {
+        Ok(file) => return Ok(Some(file)),
+        Err(KeptFault::Memory) => return Err(ProgramFault::Command(CommandFault::Memory)),
+        Err(KeptFault::Foreign) => Reason::Foreign,
+        Err(KeptFault::Locked) => Reason::Locked,
+        Err(KeptFault::Unread(code)) => Reason::System(code),
+    };
+    let path = String::from_str(alloc, path)?;
+    Err(ProgramFault::KeepGains(Explanation::File(path, reason)))
+}
+
 /// Returns the paths of the files that are wanted, for a mix that is divided into these parts. Each of their WAV files
 /// has the time of its first sample in its name. Returns a fault if something is at one of them, other than a FIFO for
 /// raw PCM, if two of them are one file, or if an allocation fails.
@@ -141,7 +153,6 @@ pub(crate) fn files_of<'h, 'p, H: LiveHost>(
         begins,
     };
     Ok(RunPaths {
-        host,
         record: args.record.map(place),
         wav: args.wav.map(place),
         pcm: args.pcm.map(place),
@@ -160,9 +171,24 @@ fn refuse_files<H: LiveHost>(
     refuse_one_place(host, args.record, wav, "--record and --wav")?;
     refuse_one_place(host, args.record, pcm, "--record and --pcm")?;
     refuse_one_place(host, wav, pcm, "--wav and --pcm")?;
+    refuse_at_kept(host, args, wav, pcm)?;
     refuse_pcm(host, pcm)?;
     refuse_taken(host, args.record, OutputKind::Record)?;
     refuse_taken(host, wav, OutputKind::Wav)
+}
+
+/// Refuses a file in which gains are kept that is also a file of the run. `wav` is the path of the first WAV file, and
+/// `pcm` that of raw PCM.
+fn refuse_at_kept<H: Host>(
+    host: &H,
+    args: LiveArgs<'_>,
+    wav: Option<&str>,
+    pcm: Option<&str>,
+) -> Result<(), ProgramFault> {
+    let kept = args.keep_gains;
+    refuse_one_place(host, args.record, kept, "--record and --keep-gains")?;
+    refuse_one_place(host, wav, kept, "--wav and --keep-gains")?;
+    refuse_one_place(host, pcm, kept, "--pcm and --keep-gains")
 }
 
 /// Refuses two files that are one, which `words` names by their options.

@@ -17,7 +17,7 @@ use std::sync::Wait;
 use std::thread::Parker;
 use std::time::{Clock, Duration};
 use studio_config::StudioSpec;
-use studio_io::{OutputEnd, OutputKind};
+use studio_io::{MixedBlock, OutputEnd, OutputKind};
 
 /// The time between two looks at the mix, in milliseconds.
 const POLL_MS: u64 = 50;
@@ -133,11 +133,11 @@ pub(crate) struct MixSign {
 }
 
 impl MixOutput for MixSign {
-    ghost mixes = { λ old datagram new. ⊤ };
+    ghost mixes = { λ old mixed new. ⊤ };
 
     ghost ended = { λ output kind. None };
 
-    fn mixed(&mut self, _datagram: &[u8]) {
+    fn mixed(&mut self, _datagram: &[u8], _block: &MixedBlock<'_>) {
         // A ring that is full says as much.
         let _ = self.ring.push(0);
     }

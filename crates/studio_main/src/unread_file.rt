@@ -17,7 +17,10 @@ impl<'a> InputPaths<'a> {
     /// Returns the paths of the files that a command reads.
     pub(crate) fn of(command: &CliCommand<'a>) -> InputPaths<'a> {
         match command {
-            CliCommand::Live(config, _) => InputPaths::of_config(*config),
+            CliCommand::Live(config, args) => InputPaths {
+                gains: args.gains,
+                ..InputPaths::of_config(*config)
+            },
             CliCommand::File(command) => InputPaths::of_files(command),
         }
     }

@@ -3,14 +3,13 @@ ghost use Rattle.std.specs.Prelude.{◌≡◌, None, true, IfOk, IfErr};
 ghost use Rattle.run_outputs.specs.Ends.{AreEndsIn};
 ghost use Rattle.live_run.specs.RunResult.{IsEarly, IsRunWith};
 
+use crate::context::RunTiming;
 use crate::fault::LiveFault;
 use crate::run_end::RunEnd;
 use crate::single_thread::observer::LiveObserver;
 use crate::single_thread::socket_wait::SocketWait;
 use engine_run::{RunDevices, run_engine};
-use live_io::{
-    FeedFlags, RunPeriod, Sockets, SystemClock, TimelySink, UdpFeed, UdpSink, udp_feeds,
-};
+use live_io::{FeedFlags, Sockets, SystemClock, TimelySink, UdpFeed, UdpSink, udp_feeds};
 use live_status::Meter;
 use run_outputs::{EventOutput, MixOutput, OutputEnds, OutputSink};
 use std::alloc::{AllocError, Global};
@@ -18,7 +17,7 @@ use std::io::Write;
 use std::sync::Wait;
 use std::time::Clock;
 use studio_config::StudioSpec;
-use studio_io::{GainSource, SendAnswer, Sink};
+use studio_io::{GainSource, MixedBlock, SendAnswer, Sink};
 
 /// The feeds, the clock, the sink and the wait of a run in one thread.
 #[derive(Drop)]
@@ -32,8 +31,8 @@ pub(crate) struct EngineDevices<'a, R: Wait + Clock, M> {
 /// The settings of these devices.
 #[derive(Clone, Copy)]
 pub(crate) struct IoSettings<'a> {
-    /// The start of the run, and its end by the clock.
-    pub(crate) period: RunPeriod,
+    /// When the run begins and ends, and when its copies are sent.
+    pub(crate) timing: RunTiming,
     /// The flags that the feeds share with the wait and with the supervisor.
     pub(crate) flags: FeedFlags<'a>,
     /// The meter of the mix. `None` if there is no page.
@@ -51,6 +50,15 @@ struct MeteredSink<'a, K> {
     meter: Option<&'a Meter>,
 }
 
+impl<K> MeteredSink<'_, K> {
+    /// Measures a datagram of the mix, if there is a meter.
+    fn measure(&self, datagram: &[u8]) {
+        if let Some(meter) = self.meter {
+            meter.measure(datagram);
+        }
+    }
+}
+
 impl<K: Sink> Sink for MeteredSink<'_, K> {
     ghost handed = { λ sink. K.handed sink.sink };
 
@@ -59,9 +67,13 @@ impl<K: Sink> Sink for MeteredSink<'_, K> {
     fn send(&mut self, datagram: &[u8]) -> SendAnswer {
         // Measured after it was sent, so that the meter does not delay the datagram.
         let answer = self.sink.send(datagram);
-        if let Some(meter) = self.meter {
-            meter.measure(datagram);
-        }
+        self.measure(datagram);
+        answer
+    }
+
+    fn send_block(&mut self, datagram: &[u8], block: &MixedBlock<'_>) -> SendAnswer {
+        let answer = self.sink.send_block(datagram, block);
+        self.measure(datagram);
         answer
     }
 }
@@ -77,7 +89,7 @@ pub(crate) fn prepare_engine_io<'a, R: Wait + Clock, M: MixOutput>(
     settings: IoSettings<'a>,
 ) -> Result<EngineDevices<'a, R, M>, AllocError> {
     let IoSettings {
-        period,
+        timing: RunTiming { period, late },
         flags,
         meter,
         is_controlled,
@@ -88,11 +100,12 @@ pub(crate) fn prepare_engine_io<'a, R: Wait + Clock, M: MixOutput>(
     let receivers = receiving.as_slice();
     let wait = SocketWait::new(rt, alloc, studio, receivers, flags, clock, is_controlled)?;
     let feeds = udp_feeds(rt, alloc, receiving, period, flags)?;
+    let sink = TimelySink::new(alloc, sink, period.clock(rt), late, flags.health)?;
     Ok(EngineDevices {
         feeds,
         clock: period.clock(rt),
         sink: MeteredSink {
-            sink: OutputSink::new(TimelySink::new(sink, period.clock(rt), flags.health), mix),
+            sink: OutputSink::new(sink, mix),
             meter,
         },
         wait,
@@ -129,7 +142,10 @@ impl<R: Wait + Clock, M: MixOutput> EngineDevices<'_, R, M> {
             gains,
         };
         let (report, sink, observer, _gains) = run_engine(rt, alloc, studio, devices)?;
-        let outputs = OutputEnds::of_parts(observer.outputs(), sink.sink.output());
+        let MeteredSink { sink, meter: _ } = sink;
+        let (mut sink, mix) = sink.into_parts();
+        sink.finish(rt);
+        let outputs = OutputEnds::of_parts(observer.outputs(), &mix);
         Ok(RunEnd { report, outputs })
     }
 }

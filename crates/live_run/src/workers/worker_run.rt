@@ -5,6 +5,7 @@ ghost use Rattle.run_outputs.specs.Ends.{HasMixEnds};
 ghost use Rattle.live_run.specs.RingPlaces.{ring_places};
 ghost use Rattle.live_run.specs.RunResult.{IsEarly, IsRunOf, IsRunWith};
 
+use crate::context::RunTiming;
 use crate::fault::LiveFault;
 use crate::run_end::RunEnd;
 use live_gains::RunGains;
@@ -38,21 +39,23 @@ pub(crate) fn prepare_workers<'a, R: Wait + Clock, M: MixOutput>(
     ends: Ends,
     sockets: Sockets<'a>,
     mix: M,
-    period: RunPeriod,
+    timing: RunTiming,
     flags: FeedFlags<'a>,
 ) -> Result<WorkerRun<'a, R, M>, AllocError>
     ensures ends { IfOk result (λ workers. workers.ends ≡ ends) }
     ensures feeds { IfOk result (λ workers. length workers.feeds.items ≡ length sockets.entry.receiving.items) }
     ensures clocks { IfOk result (λ workers. length workers.clocks.items ≡ length ends.streams.items) }
 {
+    let RunTiming { period, late } = timing;
     let Sockets { receiving, sink } = sockets;
     let clocks = clocks_of(rt, alloc, ends.streams.len(), period)?;
     let feeds = udp_feeds(rt, alloc, receiving, period, flags)?;
+    let sink = TimelySink::new(alloc, sink, period.clock(rt), late, flags.health)?;
     Ok(WorkerRun {
         ends,
         feeds,
         clocks,
-        sink: OutputSink::new(TimelySink::new(sink, period.clock(rt), flags.health), mix),
+        sink: OutputSink::new(sink, mix),
     })
 }
 
@@ -129,7 +132,9 @@ impl<R: Threads + Wait + Sync + Clock, M: MixOutput> WorkerRun<'_, R, M> {
         };
         let (report, sink, _gains) = devices.run(rt, alloc, ends)?;
         // A run by workers passes no events to its outputs.
-        let outputs = OutputEnds::of_parts(&NoOutput, sink.output());
+        let (mut sink, mix) = sink.into_parts();
+        sink.finish(rt);
+        let outputs = OutputEnds::of_parts(&NoOutput, &mix);
         Ok(RunEnd { report, outputs })
     }
 }
