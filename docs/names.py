@@ -37,6 +37,9 @@ IN_REPORT = {
     "path_held_up": "held_up",
     "sends_failed": "sink fault_a",
     "sends_stale": "stale",
+    "incomplete_datagrams": "incomplete",
+    "late_datagrams": "sent_late",
+    "left_out_datagrams": "left_out",
 }
 IN_STATS = {
     "stream_seconds_left": "left seconds",
@@ -52,6 +55,9 @@ IN_STATS = {
     "path_held_up": "socket held_up",
     "sends_failed": "run failed_a",
     "sends_stale": "run stale",
+    "incomplete_datagrams": "run incomplete",
+    "late_datagrams": "run sent_late",
+    "left_out_datagrams": "run left_out",
 }
 # The numbers that no list of fields has: the name in /state, if there is one, the constant that describes the number,
 # and whether it is a gauge.
@@ -60,6 +66,9 @@ FURTHER = {
     "path_state": ("state", "PATH_STATE_HELP", True),
     "sends_failed": ("failed_sends", "FAILED_HELP", False),
     "sends_stale": ("stale", "STALE_HELP", False),
+    "incomplete_datagrams": ("incomplete", "INCOMPLETE_HELP", False),
+    "late_datagrams": ("sent_late", "LATE_HELP", False),
+    "left_out_datagrams": ("left_out", "LEFT_OUT_HELP", False),
     "build_info": (None, "VERSION_HELP", True),
     "start_time_seconds": (None, "START_HELP", True),
 }

@@ -289,11 +289,12 @@ CASE_PLACES = {
     "Records and statistics": [
         f"{LIVE}/{name}.rt" for name in ("records/octets", "records/changes", "records/marks", "statistics", "drift")
     ],
-    "Sockets and the clock": [f"{LIVE}/{name}.rt" for name in ("sockets", "sends", "hold_ups")],
+    "Sockets and the clock": [f"{LIVE}/{name}.rt" for name in ("sockets", "sends", "late_copies", "hold_ups")],
     "The page": [f"{PAGE}/tests/{name}.rt" for name in ("texts", "requests", "controls", "sockets")],
     "Captures and live runs": [
         "tests/captures", "tests/control", "tests/desk", "tests/ends", "tests/loopback", "tests/networks",
-        "tests/numbers", "tests/page", "tests/states", "tests/faders", "tests/senders", "tests/twins", "tests/service"
+        "tests/numbers", "tests/page", "tests/states", "tests/faders", "tests/senders", "tests/twins", "tests/takeover",
+        "tests/service", "tests/kept"
     ],
 }
 ROW = re.compile(r'\bshows:\s*"((?:[^"\\]|\\.)*)"', re.DOTALL)

@@ -7,7 +7,8 @@ from .checks import Wrong, require
 # The words of each line behind its time. Those of a stream depend on its paths.
 LEFT, DRIFT = ["seconds"], ["ppm", "astray", "repeating"]
 SOCKET = ["faults", "ended", "dropped", "unexpected", "too_long", "held_up"]
-RUN = ["failed_a", "failed_b", "stale", "record", "recorded", "wav", "wav_blocks", "pcm", "pcm_blocks", "pcm_left_out"]
+RUN = ["failed_a", "failed_b", "stale", "incomplete", "sent_late", "left_out"]
+RUN += ["record", "recorded", "wav", "wav_blocks", "pcm", "pcm_blocks", "pcm_left_out"]
 FATES = ["double", "unlike", "off_grid", "late", "ahead", "source", "got", "lost", "restarts"]
 # Sampling instants in a second, and the values of a path and of a stream with packets in fewer than ten seconds.
 RATE = 48_000
